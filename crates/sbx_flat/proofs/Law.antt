@@ -1,11 +1,11 @@
 -- An invariant of pairs of states makes an image safe.
-use Rattle.std.proofs.Common.{◌≡◌, ℕ, zero, suc, ◌+◌, ◌*◌, ◌<◌, ◌≤◌, Bool, true, false, List, [], ◌∷◌, ◌++◌, length, Option, Some, None, refl, sym, ap, ◌∙◌, subst, ⊎_elim, arith}
+use Rattle.std.proofs.Common.{◌≡◌, ℕ, zero, suc, ◌+◌, ◌<◌, ◌≤◌, List, [], ◌∷◌, Option, Some, None, refl, sym, ap, ◌∙◌, subst, arith}
 use Rattle.std.specs.Prelude.{unwrap_or}
 use Rattle.sbx_image.specs.declared.parts.Parts.{Parts}
 use Rattle.sbx_flat.specs.Registers.{Fresh, IsFresh, still}
-use Rattle.sbx_flat.specs.Runs.{Place, place_of, weight_at, weight, Run, IsStart, FlatRun, budget, AreBytes, Behaves, FlatSafe}
+use Rattle.sbx_flat.specs.Runs.{Place, place_of, weight_at, weight, Run, IsStart, budget, AreBytes, Behaves, FlatSafe}
 use Rattle.sbx_flat.specs.States.{State, Turn, Goes, Fails, Over, Wrong}
-use Rattle.sbx_flat.specs.Turns.{turn, goes_on, Step, IsWrong}
+use Rattle.sbx_flat.specs.Turns.{turn, goes_on, Step}
 
 pub still_is_fresh : IsFresh still
 still_is_fresh = record { locals = λ n. omega arith; outs = λ n. omega arith; slots = λ n. omega arith }

@@ -3,4 +3,7 @@
 //! The definitions stand in `specs/`: registers, memory, states, effects, turns, runs and window traffic.
 #![tactic(auto)]
 
+mod code;
 pub mod laws;
+
+pub use code::{asked, declares, service_of, weight_of, word_at};
