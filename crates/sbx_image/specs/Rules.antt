@@ -1,6 +1,6 @@
 -- The limits and orders that an image keeps, field by field in the order in which the format has them.
 -- Each test that fails names its fault, and the first one tells.
-use Rattle.std.specs.Prelude.{ℕ, ◌+◌, ◌*◌, ◌%◌, ℤ, pos, negsuc, Bool, true, false, not, ◌&&◌, ◌||◌, List, [], ◌∷◌, length, Result, Ok, Err, nat_lt, nat_le, int_lt, ◌==◌}
+use Rattle.std.specs.Prelude.{ℕ, ◌+◌, ◌-◌, ◌*◌, ◌%◌, ℤ, pos, negsuc, Bool, true, false, not, ◌&&◌, ◌||◌, List, [], ◌∷◌, length, Result, Ok, Err, nat_lt, nat_le, int_lt, ◌==◌}
 use Rattle.std.specs.Int.RustNames.{bit_and}
 use Rattle.sbx_image.specs.declared.fault.ImageFault.{ImageFault}
 use Rattle.sbx_image.specs.declared.fault.ImageFault.TheVariants as fault
@@ -47,9 +47,12 @@ is_fuel z = int_lt (negsuc 1099511627775) z && int_lt z (pos 1099511627776)
 abbrev pub is_location : ℕ → Bool
 is_location n = between 1 1039 n
 
+abbrev pub in_order : ℤ → ℤ → Bool
+in_order lo hi = not (int_lt hi lo)
+
 unfoldable pub range_keeps : Range → Result (Unit {0}) ImageFault
 range_keeps r = do
-  _ ← wants (not (int_lt r.hi r.lo)) fault.Range
+  _ ← wants (in_order r.lo r.hi) fault.Range
   wants (nat_le r.alignment 3) fault.Range
 
 -- a location of cells or of terms, past the last one
@@ -99,17 +102,24 @@ function_keeps end place f = do
   _ ← wants (nat_le f.frame 4096) fault.Limit
   _ ← wants (nat_le f.stack_room 65536) fault.Limit
   _ ← wants (nat_lt f.budget 1099511627776) fault.Limit
-  _ ← wants (between 1 4096 (length f.blocks) && nat_le (place.1 + length f.blocks) 4096) fault.Limit
+  _ ← wants (between 1 (4096 - place.1) (length f.blocks)) fault.Limit
   _ ← ranges_keep f.params
   _ ← ranges_keep f.results
   next ← each (block_keeps end) (Exactly f.entry) f.blocks
   Ok (next, place.1 + length f.blocks)
 
+-- no bit above exit, get and put
+abbrev pub is_known : ℕ → Bool
+is_known services = bit_and services 7 == services
+
+abbrev pub is_data_length : ℕ → Bool
+is_data_length n = nat_le n 262144 && n % 8 == 0
+
 unfoldable pub parts_keep : Parts → Result (Unit {0}) ImageFault
 parts_keep p = do
-  _ ← wants (bit_and p.services.0 7 == p.services.0) fault.Service
+  _ ← wants (is_known p.services.0) fault.Service
   _ ← wants (between 1 65536 (length p.words)) fault.Limit
-  _ ← wants (nat_le (length p.bytes) 262144 && length p.bytes % 8 == 0) fault.Limit
+  _ ← wants (is_data_length (length p.bytes)) fault.Limit
   _ ← wants (between 1 16 p.stack_pages) fault.Limit
   _ ← wants (between 1 256 (length p.functions)) fault.Limit
   _ ← each (function_keeps (code_start + 4 * length p.words)) (Exactly code_start, 0) p.functions

@@ -2,10 +2,13 @@
 #![tactic(auto)]
 
 mod fault;
+mod heads;
 mod image;
 mod items;
+mod numbers;
 mod order;
 mod parts;
+mod reading;
 mod services;
 
 pub use fault::ImageFault;
