@@ -1,1 +1,3 @@
 pub mod Loops
+pub mod Fields
+pub mod TakesLaws

@@ -53,7 +53,7 @@ in_order lo hi = not (int_lt hi lo)
 unfoldable pub range_keeps : Range → Result (Unit {0}) ImageFault
 range_keeps r = do
   _ ← wants (in_order r.lo r.hi) fault.Range
-  wants (nat_le r.alignment 3) fault.Range
+  wants (between 0 3 r.alignment) fault.Range
 
 -- a location of cells or of terms, past the last one
 abbrev pub location_keeps : ℕ → ℕ → Result (Unit {0}) ImageFault
@@ -80,8 +80,8 @@ term_keeps last t = do
 unfoldable pub block_keeps : ℕ → Next → Block → Result Next ImageFault
 block_keeps end next b = do
   _ ← wants (admits end next b.address) fault.Order
-  _ ← wants (nat_le (length b.cells) 64) fault.Limit
-  _ ← wants (nat_le (length b.terms) 8) fault.Limit
+  _ ← wants (between 0 64 (length b.cells)) fault.Limit
+  _ ← wants (between 0 8 (length b.terms)) fault.Limit
   _ ← wants (is_fuel b.fuel) fault.Limit
   _ ← each cell_keeps 0 b.cells
   _ ← each term_keeps 0 b.terms
@@ -96,12 +96,12 @@ ranges_keep rs = each (λ _ r. range_keeps r) tt rs
 
 unfoldable pub function_keeps : ℕ → Place → Function → Result Place ImageFault
 function_keeps end place f = do
-  _ ← wants (nat_le (length f.params) 6) fault.Limit
-  _ ← wants (nat_le (length f.results) 6) fault.Limit
+  _ ← wants (between 0 6 (length f.params)) fault.Limit
+  _ ← wants (between 0 6 (length f.results)) fault.Limit
   _ ← wants (admits end place.0 f.entry) fault.Order
-  _ ← wants (nat_le f.frame 4096) fault.Limit
-  _ ← wants (nat_le f.stack_room 65536) fault.Limit
-  _ ← wants (nat_lt f.budget 1099511627776) fault.Limit
+  _ ← wants (between 0 4096 f.frame) fault.Limit
+  _ ← wants (between 0 65536 f.stack_room) fault.Limit
+  _ ← wants (between 0 1099511627775 f.budget) fault.Limit
   _ ← wants (between 1 (4096 - place.1) (length f.blocks)) fault.Limit
   _ ← ranges_keep f.params
   _ ← ranges_keep f.results

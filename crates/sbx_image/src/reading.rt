@@ -3,9 +3,11 @@ ghost use Rattle.std.specs.Prelude.{◌≡◌, ◌+◌, ◌≤◌, IfOk};
 ghost use Rattle.std.specs.Int.{w8, w16, w32, w64};
 ghost use Rattle.sbx_image.specs.Rules.{is_known, is_data_length, is_fuel, is_coefficient};
 ghost use Rattle.sbx_image.specs.Reading.{Gives, number_at, bytes_at, items_at, range_at, location_at, cell_at, term_at, block_head_at, block_at, kind_at, function_head_at, function_at, header_at, parts_at, reading};
+ghost use Rattle.sbx_image.specs.Spelling.{spelling};
 
 use crate::fault::ImageFault;
 use crate::heads::{BlockHead, FunctionHead, Header};
+use crate::image::Image;
 use crate::items::Items;
 use crate::numbers::{i32_at, i64_at, u8_in, u16_at, u16_in, u32_at, u32_in, u64_in};
 use crate::order::{Next, admits};
@@ -366,9 +368,8 @@ fn parts_of(alloc: Global, bytes: &[u8]) -> Result<(Parts, &[u8]), ImageFault>
     Ok((parts, rest))
 }
 
-/// The parts that all of the bytes spell, or the first fault from the left.
 #[tactic(auto, unfolding(crate::specs::Reading::reading))]
-pub fn whole(alloc: Global, bytes: &[u8]) -> Result<Parts, ImageFault>
+fn whole_of(alloc: Global, bytes: &[u8]) -> Result<Parts, ImageFault>
     ensures { Gives (λ parts. parts) result (reading bytes.now) }
 {
     let (parts, rest) = parts_of(alloc, bytes)?;
@@ -376,4 +377,14 @@ pub fn whole(alloc: Global, bytes: &[u8]) -> Result<Parts, ImageFault>
         return Err(ImageFault::Trailing);
     }
     Ok(parts)
+}
+
+/// The image that all of the bytes spell, or the fault of the first bad field from the left. `Memory` comes in the
+/// place of either only where memory was refused.
+pub fn parse(alloc: Global, bytes: &[u8]) -> Result<Image, ImageFault>
+    ensures read { Gives (λ image. image) result (reading bytes.now) }
+    ensures spelled { IfOk result (λ image. bytes.now ≡ spelling image) }
+{
+    let parts = whole_of(alloc, bytes)?;
+    Ok(Image::of(parts))
 }
