@@ -1,0 +1,10 @@
+//! What each command of the sandbox does with a file, an input and two outputs.
+#![tactic(auto)]
+
+mod jobs;
+mod reading;
+mod stops;
+
+pub use jobs::Job;
+pub use reading::{ReadFault, read_whole};
+pub use stops::Stop;
