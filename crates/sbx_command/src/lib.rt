@@ -5,6 +5,6 @@ mod jobs;
 mod reading;
 mod stops;
 
-pub use jobs::Job;
+pub use jobs::{Job, MOST_TURNS, decimal};
 pub use reading::{ReadFault, read_whole};
 pub use stops::Stop;
