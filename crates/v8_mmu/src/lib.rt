@@ -1,0 +1,13 @@
+// The bus and the reference MMU of SPARC V8 (appendix H).
+#![tactic(auto)]
+
+mod access;
+mod bus;
+mod translation;
+mod walks;
+
+pub use access::{Access, AccessKind};
+pub use bus::{Bus, BusFault, PortFault, Stop};
+pub use translation::{Found, MmuFault, MmuRegs};
+pub use v8_word::Size;
+pub use walks::{mark, mark_saved, walk};
