@@ -1,5 +1,5 @@
 //! Parts that keep every limit and order of the format.
-ghost use Rattle.std.specs.Prelude.{◌≡◌};
+ghost use Rattle.std.specs.Prelude.{◌≡◌, ◌≤◌, length};
 
 use crate::parts::{Function, Parts};
 use crate::services::Services;
@@ -37,6 +37,16 @@ impl Image {
         ensures { result.now ≡ self.now.words }
     {
         self.parts.words.as_slice()
+    }
+
+    /// How many words of code there are, 1 to 65,536.
+    #[tactic(auto, using(crate::proofs::Limits::words_within))]
+    pub fn word_count(&self) -> u32
+        ensures count { result ≡ length self.now.words }
+        ensures some { 1 ≤ result }
+        ensures few { result ≤ 65536 }
+    {
+        self.parts.words.len() as u32
     }
 
     /// The data.

@@ -3,6 +3,7 @@
 
 mod access;
 mod bus;
+pub mod laws;
 mod translation;
 mod walks;
 

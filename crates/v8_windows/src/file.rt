@@ -1,5 +1,5 @@
 ghost use Rattle.std.specs.Prelude.{if◌then◌else◌, ◌≡◌, ℕ, ◌+◌, ◌-◌, ◌%◌, ◌^◌, ◌<◌, ◌≤◌, ◌↔◌, IsTrue, not, replicate, [], ◌∷◌, length};
-ghost use Rattle.v8_windows.specs.Windows.{reg_of, with_reg, below, above, can_enter, is_masked, moved, trapped};
+ghost use Rattle.v8_windows.specs.Windows.{IsFile, reg_of, with_reg, below, above, can_enter, is_masked, moved, trapped};
 
 use std::marker::Model;
 use v8_word::Reg;
@@ -16,13 +16,13 @@ pub struct RegFile<const N: usize> {
 
 impl<const N: usize> Model for RegFile<N> {
     ghost use Rattle.std.specs.Prelude.{◌≤◌, ◌<◌, ◌^◌};
-    ghost use Rattle.v8_windows.specs.Windows.{Windows};
+    ghost use Rattle.v8_windows.specs.Windows.{Windows, AreGlobals, AreRows};
 
     ghost Value = { Windows };
 
     ghost view = { λ f. record { globals = f.globals; words = f.words; current = f.current; mask = f.mask } };
 
-    ghost invariant = { λ f. (4 ≤ N) × (N ≤ 32) × (f.current < N) × (f.mask < 2 ^ N) };
+    ghost invariant = { λ f. (4 ≤ N) × (N ≤ 32) × (f.current < N) × (f.mask < 2 ^ N) × AreGlobals f.globals × AreRows N f.words };
 }
 
 impl<const N: usize> RegFile<N> {
@@ -50,6 +50,7 @@ impl<const N: usize> RegFile<N> {
         ensures value { result ≡ self.now.current }
         ensures in_range { result < N }
         ensures windows { (4 ≤ N) × (N ≤ 32) }
+        ensures file { IsFile N self.now }
     {
         self.current as u8
     }
@@ -113,8 +114,8 @@ impl<const N: usize> RegFile<N> {
         } else if n < 24 {
             self.words[self.current][n - 8] = x;
         } else {
-            let above = self.window_above();
-            self.words[above][n - 24] = x;
+            let neighbour = self.window_above();
+            self.words[neighbour][n - 24] = x;
         }
     }
 
@@ -124,9 +125,9 @@ impl<const N: usize> RegFile<N> {
         ensures answer { result ≡ can_enter self.old (below N self.old.current) }
         ensures change { self.new ≡ (if result then moved self.old (below N self.old.current) else self.old) }
     {
-        let window = self.window_below();
-        if Self::allows(self.mask, window) {
-            self.current = window;
+        let below = self.window_below();
+        if Self::allows(self.mask, below) {
+            self.current = below;
             true
         } else {
             false
@@ -139,9 +140,9 @@ impl<const N: usize> RegFile<N> {
         ensures answer { result ≡ can_enter self.old (above N self.old.current) }
         ensures change { self.new ≡ (if result then moved self.old (above N self.old.current) else self.old) }
     {
-        let window = self.window_above();
-        if Self::allows(self.mask, window) {
-            self.current = window;
+        let above = self.window_above();
+        if Self::allows(self.mask, above) {
+            self.current = above;
             true
         } else {
             false
@@ -152,10 +153,10 @@ impl<const N: usize> RegFile<N> {
     pub fn enter_trap(&mut self, pc: u32, npc: u32)
         ensures { self.new ≡ trapped N self.old pc npc }
     {
-        let window = self.window_below();
-        self.current = window;
-        self.words[window][9] = pc;
-        self.words[window][10] = npc;
+        let entered = self.window_below();
+        self.current = entered;
+        self.words[entered][9] = pc;
+        self.words[entered][10] = npc;
     }
 
     /// Goes to the window above, as RETT does; false, with nothing changed, where the mask forbids that window.
