@@ -4,6 +4,7 @@ ghost use Rattle.sbx_command.specs.Stops.{IsTrueOf, status_of};
 ghost use Rattle.sbx_command.specs.Verdicts.{Deserves, IsAtFault};
 
 use crate::jobs::Job;
+use crate::listing::list_file;
 use crate::stops::Stop;
 use crate::verifying::verify_file;
 use std::alloc::Global;
@@ -31,6 +32,10 @@ fn perform<F: Read, I: Read, O: Write>(
         Job::Run { .. } => {
             verify_file(alloc, file, out)?;
             1
+        }
+        Job::List { .. } => {
+            list_file(alloc, file, out)?;
+            0
         }
         _ => {
             verify_file(alloc, file, out)?;

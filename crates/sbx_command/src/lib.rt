@@ -4,6 +4,7 @@
 mod commands;
 mod images;
 mod jobs;
+mod listing;
 mod reading;
 mod stops;
 mod verifying;
