@@ -6,7 +6,6 @@ ghost use Rattle.sbx_command.specs.Verdicts.{Deserves, IsAtFault};
 use crate::jobs::Job;
 use crate::listing::list_file;
 use crate::stops::Stop;
-use crate::verifying::verify_file;
 use std::alloc::Global;
 use std::io::{Read, Write};
 
@@ -25,20 +24,8 @@ fn perform<F: Read, I: Read, O: Write>(
         → (input.new ≡ input.old) × (out.new ≡ out.old)) }
 {
     let status = match *job {
-        Job::Verify { .. } => {
-            verify_file(alloc, file, out)?;
-            0
-        }
-        Job::Run { .. } => {
-            verify_file(alloc, file, out)?;
-            1
-        }
         Job::List { .. } => {
             list_file(alloc, file, out)?;
-            0
-        }
-        _ => {
-            verify_file(alloc, file, out)?;
             0
         }
     };

@@ -81,9 +81,15 @@ const HELLO: [u8; 86] = [
     0x00, 0x00, 0x00, 0x00, 0x00, 0x10,
 ];
 
-const VERIFY: Job<'static> = Job::Verify { image: "a.img" };
+const LIST: Job<'static> = Job::List { image: "a.img" };
 
-const RUN: Job<'static> = Job::Run { image: "a.img" };
+const LISTING: &[u8] = b"00040000 90102048 or %g0,72,%o0
+00040004 91D02002 ta 2
+00040008 90102069 or %g0,105,%o0
+0004000C 91D02002 ta 2
+00040010 90102000 or %g0,0,%o0
+00040014 91D02000 ta 0
+";
 
 /// A command, the calls at which its file, its input and its output fail (0: none), and what it has to answer.
 #[derive(Clone, Copy, Debug)]
@@ -176,42 +182,56 @@ fn refused<'a>(job: Job<'a>, file: &'a [u8], err: &'a [u8]) -> Case<'a> {
 fn refuses_what_is_bad(rt: HostRuntime) {
     let alloc = rt.alloc();
     for end in 0..86usize {
-        let case = refused(VERIFY, &HELLO[..end], b"image I1\n");
+        let case = refused(LIST, &HELLO[..end], b"image I1\n");
         assert!(rt;
             is_answered(alloc, &case) || is_answered(alloc, &case),
             "at {end}"
         );
     }
     let longer = longer();
-    let case = refused(VERIFY, &longer, b"image I6\n");
+    let case = refused(LIST, &longer, b"image I6\n");
     assert!(rt; is_answered(alloc, &case) || is_answered(alloc, &case));
-    let table: [(usize, &[u8], &[u8]); 8] = [
+    let table: [(usize, &[u8], &[u8]); 5] = [
         (0, &[0x54], b"image I2\n"),
         (4, &[0, 2], b"image I3\n"),
         (6, &[0, 8], b"image I4\n"),
         (60, &[0, 0, 1, 0, 0, 0, 0, 0], b"image I5\n"),
         (48, &[0, 4, 0, 4], b"image I7\n"),
-        // fuel and budget 15
-        (
-            60,
-            &[
-                0, 0, 0, 0, 0, 0, 0, 15, 0, 1, 0, 4, 0, 0, 0, 0, 0, 0, 0, 0, 0, 0, 0, 0, 0, 15,
-            ],
-            b"refused V14 in function 0 at 00040014\n",
-        ),
-        // without exit, without put
-        (6, &[0, 4], b"refused V12 in function 0 at 00040014\n"),
-        (6, &[0, 1], b"refused V12 in function 0 at 00040004\n"),
     ];
     for (place, bytes, line) in table {
         let image = changed(place, bytes);
-        for job in [VERIFY, RUN] {
-            // a case whose growth was refused is run once more
-            let case = refused(job, &image, line);
-            assert!(rt;
-                is_answered(alloc, &case) || is_answered(alloc, &case),
-                "at {case:?}"
-            );
-        }
+        // a case whose growth was refused is run once more
+        let case = refused(LIST, &image, line);
+        assert!(rt;
+            is_answered(alloc, &case) || is_answered(alloc, &case),
+            "at {case:?}"
+        );
+    }
+}
+
+#[test]
+fn stops_at_a_fault(rt: HostRuntime) {
+    let alloc = rt.alloc();
+    let table: [([usize; 3], u8, &[u8], &[u8]); 6] = [
+        ([0, 0, 0], 0, LISTING, b""),
+        ([1, 0, 0], 4, b"", b"file\n"),
+        ([86, 0, 0], 4, b"", b"file\n"),
+        ([87, 0, 0], 4, b"", b"file\n"),
+        ([88, 0, 0], 0, LISTING, b""),
+        ([0, 0, 1], 4, b"", b"output\n"),
+    ];
+    for (fails, status, out, err) in table {
+        let case = Case {
+            job: LIST,
+            file: &HELLO,
+            fails,
+            status,
+            out,
+            err,
+        };
+        assert!(rt;
+            is_answered(alloc, &case) || is_answered(alloc, &case),
+            "at {case:?}"
+        );
     }
 }

@@ -40,26 +40,6 @@ fn on_streams(rt: &HostRuntime, job: &Job<'_>, path: &str) -> Result<u8, Stop> {
     ))
 }
 
-/// Does a job on the file at `source`. What it gives goes to the file at `object`, which is opened only where the
-/// job is done.
-fn into_file(rt: &HostRuntime, job: &Job<'_>, source: &str, object: &str) -> Result<u8, Stop> {
-    let mut file = opened(rt, source)?;
-    let mut made: Vec<u8> = Vec::new(rt.alloc());
-    let mut err = rt.stderr();
-    let status = command(
-        rt.alloc(),
-        job,
-        &mut file,
-        &mut rt.stdin(),
-        &mut made,
-        &mut err,
-    );
-    if status == 0 && fs::write(rt, object, made.as_slice()).is_err() {
-        return Err(Stop::Output);
-    }
-    Ok(status)
-}
-
 /// The words after the program's name.
 fn words_of(rt: &HostRuntime) -> io::Result<Vec<String>> {
     let mut words: Vec<String> = env::args(rt)?.collect(rt.alloc())?;
@@ -73,11 +53,7 @@ fn words_of(rt: &HostRuntime) -> io::Result<Vec<String>> {
 fn perform(rt: &HostRuntime, words: &[String]) -> Result<u8, Stop> {
     match read_words(rt.alloc(), words) {
         Ok(job) => match job {
-            Job::Asm { source, object } => into_file(rt, &job, source, object),
-            Job::Verify { image } | Job::List { image } | Job::Run { image } => {
-                on_streams(rt, &job, image)
-            }
-            Job::Trace { image, .. } => on_streams(rt, &job, image),
+            Job::List { image } => on_streams(rt, &job, image),
         },
         Err(Usage::Text(text)) => {
             let _ = eprint!(rt; "{text}");

@@ -1,10 +1,10 @@
 //! What the words of a command line ask for.
-ghost use Rattle.std.specs.Prelude.{◌≤◌, IfOk, IfSome};
+ghost use Rattle.std.specs.Prelude.{IfOk, IfSome};
 ghost use Rattle.sbx_command.specs.Jobs.{IsInRange};
 
 use clap::error::ErrorKind;
 use clap::{Arg, ArgAction, ArgMatches, Command, Error};
-use sbx_command::{Job, MOST_TURNS, decimal};
+use sbx_command::Job;
 use std::alloc::{AllocError, Global};
 use std::convert::AsStr;
 
@@ -39,43 +39,16 @@ fn path<'a>(alloc: Global, name: &'a str) -> Arg<'a> {
     Arg::new(alloc, name).required(true).action(ArgAction::Set)
 }
 
-fn limit<'a>(alloc: Global) -> Arg<'a> {
-    Arg::new(alloc, "limit")
-        .long("limit")
-        .value_name("T")
-        .action(ArgAction::Set)
-        .default_value("100000")
-        .help("the most turns, 0 to 9999999999")
-}
-
 fn sandbox<'a>(alloc: Global) -> Result<Command<'a>, AllocError> {
-    let asm = Command::new(alloc, "asm")
-        .about("Assembles a source into an image")
-        .arg(path(alloc, "SRC"))?
-        .arg(path(alloc, "OUT"))?;
-    let verify = Command::new(alloc, "verify")
-        .about("Verifies an image")
-        .arg(path(alloc, "IMG"))?;
     let list = Command::new(alloc, "list")
         .about("Prints the code of an image")
-        .arg(path(alloc, "IMG"))?;
-    let run = Command::new(alloc, "run")
-        .about("Verifies an image and runs it")
-        .arg(path(alloc, "IMG"))?;
-    let trace = Command::new(alloc, "trace")
-        .about("Prints each turn of a run of an image")
-        .arg(limit(alloc))?
         .arg(path(alloc, "IMG"))?;
     Command::new(alloc, "sandbox")
         .about("Assembles, verifies and runs sandboxed SPARC V8 programs")
         .bin_name("sandbox")?
         .no_binary_name(true)
         .subcommand_required(true)
-        .subcommand(asm)?
-        .subcommand(verify)?
-        .subcommand(list)?
-        .subcommand(run)?
-        .subcommand(trace)
+        .subcommand(list)
 }
 
 /// The job of a subcommand that has what it needs.
@@ -83,22 +56,8 @@ fn job_of<'a>(name: &str, found: &ArgMatches<'a>) -> Option<Job<'a>>
     ensures { IfSome result IsInRange }
 {
     match name {
-        "asm" => Some(Job::Asm {
-            source: found.get_str("SRC")?,
-            object: found.get_str("OUT")?,
-        }),
-        "verify" => Some(Job::Verify {
-            image: found.get_str("IMG")?,
-        }),
         "list" => Some(Job::List {
             image: found.get_str("IMG")?,
-        }),
-        "run" => Some(Job::Run {
-            image: found.get_str("IMG")?,
-        }),
-        "trace" => Some(Job::Trace {
-            image: found.get_str("IMG")?,
-            limit: decimal(found.get_str("limit")?, MOST_TURNS)?,
         }),
         _ => None,
     }
@@ -119,18 +78,8 @@ pub fn read_words<'a, S: AsStr>(alloc: Global, words: &'a [S]) -> Result<Job<'a>
     };
     match job {
         Some(job) => Ok(job),
-        None => Err(bad_limit(alloc)?),
+        None => Err(Usage::Text(String::new(alloc))),
     }
-}
-
-/// The text for a limit that is no number within the bound: the one mistake that `clap` lets pass.
-fn bad_limit(alloc: Global) -> Result<Usage, AllocError> {
-    let mut command = sandbox(alloc)?;
-    let error = command.error(
-        ErrorKind::ValueValidation,
-        "the limit of a trace is 0 to 9999999999, in decimal digits alone",
-    )?;
-    Ok(usage_of(alloc, &error))
 }
 
 #[cfg(test)]
