@@ -1,6 +1,6 @@
 -- The limits and orders that an image keeps, field by field in the order in which the format has them.
 -- Each test that fails names its fault, and the first one tells.
-use Rattle.std.specs.Prelude.{ℕ, ◌+◌, ◌*◌, ◌%◌, ℤ, pos, negsuc, Bool, true, false, not, ◌&&◌, ◌||◌, List, [], ◌∷◌, length, Result, Ok, Err, nat_lt, nat_le, int_lt, ◌==◌}
+use Rattle.std.specs.Prelude.{ℕ, ◌+◌, ◌-◌, ◌*◌, ◌%◌, ℤ, pos, negsuc, Bool, true, false, not, ◌&&◌, ◌||◌, List, [], ◌∷◌, length, Result, Ok, Err, nat_lt, nat_le, int_lt, ◌==◌}
 use Rattle.std.specs.Int.RustNames.{bit_and}
 use Rattle.sbx_image.specs.declared.fault.ImageFault.{ImageFault}
 use Rattle.sbx_image.specs.declared.fault.ImageFault.TheVariants as fault
@@ -47,10 +47,13 @@ is_fuel z = int_lt (negsuc 1099511627775) z && int_lt z (pos 1099511627776)
 abbrev pub is_location : ℕ → Bool
 is_location n = between 1 1039 n
 
+abbrev pub in_order : ℤ → ℤ → Bool
+in_order lo hi = not (int_lt hi lo)
+
 unfoldable pub range_keeps : Range → Result (Unit {0}) ImageFault
 range_keeps r = do
-  _ ← wants (not (int_lt r.hi r.lo)) fault.Range
-  wants (nat_le r.alignment 3) fault.Range
+  _ ← wants (in_order r.lo r.hi) fault.Range
+  wants (between 0 3 r.alignment) fault.Range
 
 -- a location of cells or of terms, past the last one
 abbrev pub location_keeps : ℕ → ℕ → Result (Unit {0}) ImageFault
@@ -77,8 +80,8 @@ term_keeps last t = do
 unfoldable pub block_keeps : ℕ → Next → Block → Result Next ImageFault
 block_keeps end next b = do
   _ ← wants (admits end next b.address) fault.Order
-  _ ← wants (nat_le (length b.cells) 64) fault.Limit
-  _ ← wants (nat_le (length b.terms) 8) fault.Limit
+  _ ← wants (between 0 64 (length b.cells)) fault.Limit
+  _ ← wants (between 0 8 (length b.terms)) fault.Limit
   _ ← wants (is_fuel b.fuel) fault.Limit
   _ ← each cell_keeps 0 b.cells
   _ ← each term_keeps 0 b.terms
@@ -93,23 +96,30 @@ ranges_keep rs = each (λ _ r. range_keeps r) tt rs
 
 unfoldable pub function_keeps : ℕ → Place → Function → Result Place ImageFault
 function_keeps end place f = do
-  _ ← wants (nat_le (length f.params) 6) fault.Limit
-  _ ← wants (nat_le (length f.results) 6) fault.Limit
+  _ ← wants (between 0 6 (length f.params)) fault.Limit
+  _ ← wants (between 0 6 (length f.results)) fault.Limit
   _ ← wants (admits end place.0 f.entry) fault.Order
-  _ ← wants (nat_le f.frame 4096) fault.Limit
-  _ ← wants (nat_le f.stack_room 65536) fault.Limit
-  _ ← wants (nat_lt f.budget 1099511627776) fault.Limit
-  _ ← wants (between 1 4096 (length f.blocks) && nat_le (place.1 + length f.blocks) 4096) fault.Limit
+  _ ← wants (between 0 4096 f.frame) fault.Limit
+  _ ← wants (between 0 65536 f.stack_room) fault.Limit
+  _ ← wants (between 0 1099511627775 f.budget) fault.Limit
+  _ ← wants (between 1 (4096 - place.1) (length f.blocks)) fault.Limit
   _ ← ranges_keep f.params
   _ ← ranges_keep f.results
   next ← each (block_keeps end) (Exactly f.entry) f.blocks
   Ok (next, place.1 + length f.blocks)
 
+-- no bit above exit, get and put
+abbrev pub is_known : ℕ → Bool
+is_known services = bit_and services 7 == services
+
+abbrev pub is_data_length : ℕ → Bool
+is_data_length n = nat_le n 262144 && n % 8 == 0
+
 unfoldable pub parts_keep : Parts → Result (Unit {0}) ImageFault
 parts_keep p = do
-  _ ← wants (bit_and p.services.0 7 == p.services.0) fault.Service
+  _ ← wants (is_known p.services.0) fault.Service
   _ ← wants (between 1 65536 (length p.words)) fault.Limit
-  _ ← wants (nat_le (length p.bytes) 262144 && length p.bytes % 8 == 0) fault.Limit
+  _ ← wants (is_data_length (length p.bytes)) fault.Limit
   _ ← wants (between 1 16 p.stack_pages) fault.Limit
   _ ← wants (between 1 256 (length p.functions)) fault.Limit
   _ ← each (function_keeps (code_start + 4 * length p.words)) (Exactly code_start, 0) p.functions

@@ -1,5 +1,6 @@
 //! Parts that keep every limit and order of the format.
-ghost use Rattle.std.specs.Prelude.{◌≡◌};
+ghost use Rattle.std.specs.Prelude.{◌≡◌, ◌≤◌, length, Ok};
+ghost use Rattle.sbx_image.specs.Rules.{parts_keep};
 
 use crate::parts::{Function, Parts};
 use crate::services::Services;
@@ -25,6 +26,14 @@ impl Model for Image {
 }
 
 impl Image {
+    /// The image of parts that keep every rule.
+    pub(crate) fn of(parts: Parts) -> Image
+        requires { parts_keep parts ≡ Ok tt }
+        ensures { result ≡ parts }
+    {
+        Image { parts }
+    }
+
     /// The services that it may ask for.
     pub fn services(&self) -> Services
         ensures { result ≡ self.now.services }
@@ -37,6 +46,16 @@ impl Image {
         ensures { result.now ≡ self.now.words }
     {
         self.parts.words.as_slice()
+    }
+
+    /// How many words of code there are, 1 to 65,536.
+    #[tactic(auto, using(crate::proofs::Limits::words_within))]
+    pub fn word_count(&self) -> u32
+        ensures count { result ≡ length self.now.words }
+        ensures some { 1 ≤ result }
+        ensures few { result ≤ 65536 }
+    {
+        self.parts.words.len() as u32
     }
 
     /// The data.

@@ -77,7 +77,7 @@ const RUN: Rights = Rights {
     run: true,
 };
 
-fn rights(acc: u32, user: bool) -> Rights
+fn rights_for(acc: u32, user: bool) -> Rights
     ensures { result ≡ rights_of acc user }
 {
     match acc {
@@ -97,7 +97,7 @@ fn rights(acc: u32, user: bool) -> Rights
 pub fn is_permitted(word: u32, access: Access) -> bool
     ensures { result ≡ allows word access }
 {
-    let rights = rights((word >> 2) & 7, access.user);
+    let rights = rights_for((word >> 2) & 7, access.user);
     match access.kind {
         AccessKind::Load => rights.read,
         AccessKind::Fetch => rights.run,

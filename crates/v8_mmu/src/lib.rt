@@ -3,9 +3,12 @@
 
 mod access;
 mod bus;
+pub mod laws;
+mod translation;
 mod walks;
 
 pub use access::{Access, AccessKind};
 pub use bus::{Bus, BusFault, PortFault, Stop};
+pub use translation::{Found, MmuFault, MmuRegs};
 pub use v8_word::Size;
-pub use walks::{Found, MmuFault, MmuRegs, mark, mark_saved, walk};
+pub use walks::{mark, mark_saved, walk};

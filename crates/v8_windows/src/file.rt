@@ -1,5 +1,5 @@
 ghost use Rattle.std.specs.Prelude.{if◌then◌else◌, ◌≡◌, ℕ, ◌+◌, ◌-◌, ◌%◌, ◌^◌, ◌<◌, ◌≤◌, ◌↔◌, IsTrue, not, replicate, [], ◌∷◌, length};
-ghost use Rattle.v8_windows.specs.Windows.{reg_of, with_reg, below, above, can_enter, is_masked, moved, trapped};
+ghost use Rattle.v8_windows.specs.Windows.{IsFile, reg_of, with_reg, below, above, can_enter, is_masked, moved, trapped};
 
 use std::marker::Model;
 use v8_word::Reg;
@@ -16,13 +16,13 @@ pub struct RegFile<const N: usize> {
 
 impl<const N: usize> Model for RegFile<N> {
     ghost use Rattle.std.specs.Prelude.{◌≤◌, ◌<◌, ◌^◌};
-    ghost use Rattle.v8_windows.specs.Windows.{Windows};
+    ghost use Rattle.v8_windows.specs.Windows.{Windows, AreGlobals, AreRows};
 
     ghost Value = { Windows };
 
     ghost view = { λ f. record { globals = f.globals; words = f.words; current = f.current; mask = f.mask } };
 
-    ghost invariant = { λ f. (4 ≤ N) × (N ≤ 32) × (f.current < N) × (f.mask < 2 ^ N) };
+    ghost invariant = { λ f. (4 ≤ N) × (N ≤ 32) × (f.current < N) × (f.mask < 2 ^ N) × AreGlobals f.globals × AreRows N f.words };
 }
 
 impl<const N: usize> RegFile<N> {
@@ -50,6 +50,7 @@ impl<const N: usize> RegFile<N> {
         ensures value { result ≡ self.now.current }
         ensures in_range { result < N }
         ensures windows { (4 ≤ N) × (N ≤ 32) }
+        ensures file { IsFile N self.now }
     {
         self.current as u8
     }
@@ -113,8 +114,8 @@ impl<const N: usize> RegFile<N> {
         } else if n < 24 {
             self.words[self.current][n - 8] = x;
         } else {
-            let above = self.window_above();
-            self.words[above][n - 24] = x;
+            let neighbour = self.window_above();
+            self.words[neighbour][n - 24] = x;
         }
     }
 
@@ -124,9 +125,9 @@ impl<const N: usize> RegFile<N> {
         ensures answer { result ≡ can_enter self.old (below N self.old.current) }
         ensures change { self.new ≡ (if result then moved self.old (below N self.old.current) else self.old) }
     {
-        let window = self.window_below();
-        if Self::allows(self.mask, window) {
-            self.current = window;
+        let below = self.window_below();
+        if Self::allows(self.mask, below) {
+            self.current = below;
             true
         } else {
             false
@@ -139,9 +140,9 @@ impl<const N: usize> RegFile<N> {
         ensures answer { result ≡ can_enter self.old (above N self.old.current) }
         ensures change { self.new ≡ (if result then moved self.old (above N self.old.current) else self.old) }
     {
-        let window = self.window_above();
-        if Self::allows(self.mask, window) {
-            self.current = window;
+        let above = self.window_above();
+        if Self::allows(self.mask, above) {
+            self.current = above;
             true
         } else {
             false
@@ -152,10 +153,10 @@ impl<const N: usize> RegFile<N> {
     pub fn enter_trap(&mut self, pc: u32, npc: u32)
         ensures { self.new ≡ trapped N self.old pc npc }
     {
-        let window = self.window_below();
-        self.current = window;
-        self.words[window][9] = pc;
-        self.words[window][10] = npc;
+        let entered = self.window_below();
+        self.current = entered;
+        self.words[entered][9] = pc;
+        self.words[entered][10] = npc;
     }
 
     /// Goes to the window above, as RETT does; false, with nothing changed, where the mask forbids that window.
@@ -192,5 +193,82 @@ impl<const N: usize> RegFile<N> {
         ensures { result ≡ not (is_masked mask window) }
     {
         (mask >> window) & 1 == 0
+    }
+}
+
+#[cfg(test)]
+mod tests {
+    use super::RegFile;
+    use std::process::Abort;
+    use std::test::Fail;
+    use v8_word::Reg;
+
+    /// Goes once round all windows by SAVE and back by RESTORE; `all` is a mask of one bit for each window.
+    fn goes_round<const N: usize>(rt: &impl Abort, all: u32) -> Result<(), Fail>
+        requires few { 4 ≤ N }
+        requires many { N ≤ 32 }
+    {
+        let out = Reg::new(8).ok_or("register")?;
+        let same_as_in = Reg::new(24).ok_or("register")?;
+        let mut file = RegFile::<N>::new();
+        assert_eq!(rt; file.cwp(), 0);
+        assert_eq!(rt; file.wim(), 0);
+        file.set(out, 7);
+        assert!(rt; file.save());
+        assert_eq!(rt; file.cwp() as usize, N - 1);
+        assert_eq!(rt; file.get(same_as_in), 7);
+        for _ in 1..N {
+            assert!(rt; file.save());
+        }
+        assert_eq!(rt; file.cwp(), 0);
+        assert_eq!(rt; file.get(out), 7);
+        for _ in 1..N {
+            assert!(rt; file.restore());
+        }
+        assert_eq!(rt; file.get(same_as_in), 7);
+        assert!(rt; file.restore());
+        assert_eq!(rt; file.get(out), 7);
+        file.set_wim(0xffff_ffff);
+        assert_eq!(rt; file.wim(), all);
+        Ok(())
+    }
+
+    #[test]
+    fn goes_round_any_number_of_windows(rt: HostRuntime) -> Result<(), Fail> {
+        goes_round::<4>(&rt, 0xf)?;
+        goes_round::<8>(&rt, 0xff)?;
+        goes_round::<32>(&rt, 0xffff_ffff)?;
+        Ok(())
+    }
+
+    #[test]
+    fn masks_forbid_windows_but_to_traps(rt: HostRuntime) -> Result<(), Fail> {
+        let mut file = RegFile::<4>::new();
+        let numbers = [(0u8, 0u32), (1, 5), (8, 6), (16, 7), (31, 8)];
+        for (number, word) in numbers {
+            let r = Reg::new(number).ok_or("register")?;
+            file.set(r, 0x1111_1111);
+            file.set(r, word);
+            assert_eq!(rt; file.get(r), word, "at {number}");
+        }
+        file.set_wim(8);
+        assert!(rt; !file.save());
+        file.set_wim(2);
+        assert!(rt; !file.restore());
+        assert!(rt; !file.leave_trap());
+        assert!(rt; !file.set_cwp(4));
+        assert_eq!(rt; file.cwp(), 0);
+        file.set_wim(8);
+        file.enter_trap(0x4_0000, 0x4_0004);
+        assert_eq!(rt; file.cwp(), 3);
+        let pc = Reg::new(17).ok_or("register")?;
+        let npc = Reg::new(18).ok_or("register")?;
+        assert_eq!(rt; file.get(pc), 0x4_0000);
+        assert_eq!(rt; file.get(npc), 0x4_0004);
+        assert!(rt; file.leave_trap());
+        assert_eq!(rt; file.cwp(), 0);
+        assert!(rt; file.set_cwp(2));
+        assert_eq!(rt; file.cwp(), 2);
+        Ok(())
     }
 }

@@ -2,5 +2,6 @@
 #![tactic(auto)]
 
 mod file;
+pub mod laws;
 
 pub use file::RegFile;
