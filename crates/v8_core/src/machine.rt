@@ -9,7 +9,7 @@ use crate::step::{try_one, turn_by};
 use crate::turn::{Event, Turn};
 use v8_mmu::{Bus, MmuRegs, PortFault};
 use v8_state::Cpu;
-use v8_word::Reg;
+use v8_word::{Reg, TrapType};
 
 /// A processor of `N` register windows, 4 to 32, on a bus.
 #[derive(Drop)]
@@ -195,6 +195,20 @@ impl<const N: usize, B: Bus> Machine<N, B> {
         ensures { result ≡ self.now.cpu.control.status }
     {
         self.cpu.control.status
+    }
+
+    /// The trap type that TBR shows.
+    pub fn trap_type(&self) -> TrapType
+        ensures { result ≡ self.now.cpu.control.tt }
+    {
+        self.cpu.control.tt
+    }
+
+    /// The trap that put the machine into error mode, if one did.
+    pub fn error_mode(&self) -> Option<TrapType>
+        ensures { result ≡ self.now.cpu.control.error }
+    {
+        self.cpu.control.error
     }
 
     /// The bus.
