@@ -1,4 +1,4 @@
-// The results of SPARC V8's integer instructions.
+// The results of SPARC V8's integer instructions: value, condition codes and Y (appendices B and C).
 #![tactic(auto)]
 
 ghost use Rattle.std.specs.Prelude.{◌≡◌, ℕ, ◌+◌, ◌-◌, ◌*◌, ◌/◌, ◌%◌, ◌^◌, ◌<◌, ◌≤◌, IsTrue, ◌↔◌, not, pos, ◌+ℤ◌, ◌-ℤ◌, ◌≤ℤ◌, ◌<ℤ◌, negsuc, ◌*ℤ◌, int_div, unsigned_abs, min, int_lt, neg_ℤ, nat_le, nat_lt, false, if◌then◌else◌};
@@ -202,7 +202,7 @@ fn signed_quotient(y: u32, a: u32, b: u32) -> (u32, bool)
     nearest(negative, dividend.unsigned_abs() / divisor.unsigned_abs())
 }
 
-/// An operation that has a result for all operands.
+/// An operation that has a result for all operands, by the names of appendix B. `Cc` sets the condition codes.
 #[derive(Clone, Copy)]
 pub enum Op {
     Add,
@@ -237,7 +237,7 @@ pub enum Op {
     MulsCc,
 }
 
-/// A result: the value, the codes and Y.
+/// A result: the word for the destination, and the condition codes and Y after the operation.
 #[derive(Clone, Copy, PartialEq, Eq, Debug)]
 pub struct AluOut {
     pub value: u32,
@@ -288,7 +288,8 @@ macro_rules! with_codes {
     }};
 }
 
-/// What an operation gives.
+/// What an operation on `a` and `b` gives, by the condition codes and Y before it. Codes and Y that it leaves alone are
+/// given as they were (appendix B).
 #[tactic(auto, unfolding(crate::specs::Outcomes::outcome))]
 pub fn alu(op: Op, a: u32, b: u32, icc: Icc, y: u32) -> AluOut
     ensures { result ≡ outcome op a b icc y }
@@ -364,7 +365,7 @@ pub fn alu(op: Op, a: u32, b: u32, icc: Icc, y: u32) -> AluOut
     }
 }
 
-/// A division.
+/// A division, unsigned or signed. `Cc` sets the condition codes.
 #[derive(Clone, Copy, PartialEq, Eq, Debug)]
 pub enum Division {
     Udiv,
@@ -373,14 +374,15 @@ pub enum Division {
     SdivCc,
 }
 
-/// A tagged operation that traps.
+/// A tagged operation that traps on overflow, TADDccTV or TSUBccTV.
 #[derive(Clone, Copy, PartialEq, Eq, Debug)]
 pub enum TaggedOp {
     TaggedAdd,
     TaggedSub,
 }
 
-/// What a division gives, or nothing at divisor 0.
+/// What a division of Y followed by `a`, a number of 64 bits, by `b` gives; none at divisor 0. A quotient that fits no word
+/// is the nearest word, and the cc forms say so by V (appendix B, "Divide Instructions"). Y stays.
 #[tactic(auto, unfolding(crate::specs::Outcomes::divided))]
 pub fn divide(op: Division, a: u32, b: u32, icc: Icc, y: u32) -> Option<AluOut>
     ensures { result ≡ division_of op a b icc y }
@@ -410,10 +412,11 @@ pub fn divide(op: Division, a: u32, b: u32, icc: Icc, y: u32) -> Option<AluOut>
     })
 }
 
-/// What a trapping tagged operation gives, or nothing at a tag overflow.
+/// What TADDccTV or TSUBccTV of `a` and `b` gives, or none where it would set the overflow flag: an operand's low two bits
+/// aren't 0, or the signed result doesn't fit (appendix B, "Tagged Add Instructions"). The codes before don't matter; Y stays.
 #[tactic(auto, unfolding(crate::specs::Outcomes::tagged_outcome))]
-pub fn tagged_tv(op: TaggedOp, a: u32, b: u32, icc: Icc, y: u32) -> Option<AluOut>
-    ensures { result ≡ tagged_outcome op a b icc y }
+pub fn tagged_tv(op: TaggedOp, a: u32, b: u32, _icc: Icc, y: u32) -> Option<AluOut>
+    ensures { result ≡ tagged_outcome op a b _icc y }
 {
     let (value, icc) = match op {
         TaggedOp::TaggedAdd => add(a, b, false),

@@ -1,4 +1,4 @@
-// The instruction formats of SPARC V8.
+// The instruction formats of SPARC V8: the decoder and the encoder (appendices B and F).
 #![tactic(auto)]
 
 ghost use Rattle.std.specs.Prelude.{◌≡◌, ◌≢◌, ℕ, ◌+◌, ◌-◌, ◌*◌, ◌/◌, ◌%◌, ◌^◌, ◌<◌, ◌≤◌, IsTrue, ◌↔◌, IfSome};
@@ -271,7 +271,7 @@ fn decoded(word: u32) -> Instr
     }
 }
 
-/// What a word means, whatever its unused bits are.
+/// The instruction of a word, by the format table (appendix F): `Undefined` of a word that no row has. Unused bits are ignored.
 pub fn decode(word: u32) -> Instr
     ensures value { result ≡ meaning word }
     ensures round_trip { meaning (spelling result) ≡ result }
@@ -279,7 +279,7 @@ pub fn decode(word: u32) -> Instr
     decoded(word)
 }
 
-/// Whether a word is spelled as its meaning is: its unused bits are 0.
+/// Whether a word is spelled as its instruction is: all its unused bits are 0. Every other word decodes as the canonical one.
 pub fn is_canonical(word: u32) -> bool
     ensures same { IsTrue result ↔ (spelling (meaning word) ≡ word) }
     ensures unused { IsTrue result ↔ IsCanonical word }
@@ -287,7 +287,7 @@ pub fn is_canonical(word: u32) -> bool
     encode(&decode(word)) == word
 }
 
-/// No word matches two rows of the table.
+/// The law that no word matches two rows of the format table.
 pub fn rows_are_apart()
     ensures { AreApart table }
 {}

@@ -1,6 +1,6 @@
 use v8_alu::{Division, Op, TaggedOp};
 use v8_formats::{Branch, Operand, Three, Trap, Two, Upper};
-use v8_word::Reg;
+use v8_word::{Reg, Size};
 
 /// The address space of a load or a store (appendix B, "Load Integer Instructions").
 #[derive(Clone, Copy, PartialEq, Eq, Debug)]
@@ -32,12 +32,68 @@ pub enum Loading {
     Word,
 }
 
+impl Loading {
+    ghost use Rattle.std.specs.Prelude.{◌≡◌, ◌*◌, ◌^◌, ◌<◌};
+    ghost use Rattle.v8_meaning.specs.Operands.{bytes_in, loaded_size, loaded_word};
+
+    /// How many bytes the load moves.
+    pub fn size(self) -> Size
+        ensures { result ≡ loaded_size self }
+    {
+        match self {
+            Loading::UnsignedByte | Loading::SignedByte => Size::Byte,
+            Loading::UnsignedHalf | Loading::SignedHalf => Size::Half,
+            Loading::Word => Size::Word,
+        }
+    }
+
+    /// The word that a register gets from the loaded bytes, read as a number of that many bytes (appendix B, "Load Integer Instructions").
+    pub fn word(self, number: u32) -> u32
+        requires { number < 2 ^ (8 * bytes_in (loaded_size self)) }
+        ensures { result ≡ loaded_word self number }
+    {
+        match self {
+            Loading::SignedByte if number >= 0x80 => number + 0xffff_ff00,
+            Loading::SignedHalf if number >= 0x8000 => number + 0xffff_0000,
+            _ => number,
+        }
+    }
+}
+
 /// What a store of one register writes.
 #[derive(Clone, Copy, PartialEq, Eq, Debug)]
 pub enum Storing {
     Byte,
     Half,
     Word,
+}
+
+impl Storing {
+    ghost use Rattle.std.specs.Prelude.{◌≡◌, ◌*◌, ◌^◌, ◌<◌};
+    ghost use Rattle.v8_meaning.specs.Operands.{bytes_in, stored_part, stored_size};
+
+    /// How many bytes the store moves.
+    pub fn size(self) -> Size
+        ensures { result ≡ stored_size self }
+    {
+        match self {
+            Storing::Byte => Size::Byte,
+            Storing::Half => Size::Half,
+            Storing::Word => Size::Word,
+        }
+    }
+
+    /// The part of a register's word that is stored: its low bytes (appendix B, "Store Integer Instructions").
+    pub fn part(self, word: u32) -> u32
+        ensures value { result ≡ stored_part self word }
+        ensures bound { result < 2 ^ (8 * bytes_in (stored_size self)) }
+    {
+        match self {
+            Storing::Byte => word % 0x100,
+            Storing::Half => word % 0x1_0000,
+            Storing::Word => word,
+        }
+    }
 }
 
 /// A state register that only supervisor code reaches.

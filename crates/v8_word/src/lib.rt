@@ -1,14 +1,15 @@
-// Words of SPARC V8, their bit fields and the small types read from them.
+// Words of SPARC V8, their bit fields, and the small types that are read from them: registers, trap types, access sizes,
+// conditions and condition codes (The SPARC Architecture Manual Version 8, chapters 4, 5 and 7, appendices B and F).
 #![tactic(auto)]
 
 ghost use Rattle.std.specs.Prelude.{◌≡◌, ℕ, ◌+◌, ◌-◌, ◌*◌, ◌/◌, ◌%◌, ◌^◌, ◌<◌, ◌≤◌, IsTrue, ◌↔◌, IfSome};
 ghost use Rattle.std.specs.Option.{SomeIff};
-ghost use Rattle.v8_word.specs.Word.{bits_of, sign_extend, signed_of};
+ghost use Rattle.v8_word.specs.Word.{bits_of, sign_extend};
 ghost use Rattle.v8_word.specs.Conditions.{code_of, cond_of, holds};
 
 use std::marker::Model;
 
-/// The number of an integer register, 0 to 31.
+/// An integer register of the current window, by its number 0 to 31 (chapter 4, "IU r Registers"). Contracts see the number.
 #[derive(Clone, Copy, PartialEq, Eq, Debug)]
 pub struct Reg {
     number: u8,
@@ -25,7 +26,28 @@ impl Model for Reg {
 }
 
 impl Reg {
-    /// The register of a number below 32.
+    /// %g0, which reads 0 and ignores writes.
+    pub const G0: Reg = Reg { number: 0 };
+
+    /// %sp, the stack pointer, which is %o6.
+    pub const SP: Reg = Reg { number: 14 };
+
+    /// %o7, in which CALL leaves its own address.
+    pub const O7: Reg = Reg { number: 15 };
+
+    /// %l1, in which a trap leaves PC.
+    pub const L1: Reg = Reg { number: 17 };
+
+    /// %l2, in which a trap leaves nPC.
+    pub const L2: Reg = Reg { number: 18 };
+
+    /// %fp, the frame pointer, which is %i6: the caller's %sp.
+    pub const FP: Reg = Reg { number: 30 };
+
+    /// %i7, the caller's %o7.
+    pub const I7: Reg = Reg { number: 31 };
+
+    /// The register of a number below 32; none of a greater one.
     pub fn new(number: u8) -> Option<Self>
         ensures { SomeIff result (number < 32) number }
     {
@@ -36,7 +58,7 @@ impl Reg {
         }
     }
 
-    /// The number.
+    /// The number, 0 to 31: globals from 0, outs from 8, locals from 16, ins from 24.
     pub fn number(self) -> u8
         ensures value { result ≡ self }
         ensures bound { result < 32 }
@@ -45,7 +67,7 @@ impl Reg {
     }
 }
 
-/// The type of a trap, the number that the field tt of TBR shows (chapter 7). Contracts see the number.
+/// The type of a trap, the number that the field tt of TBR shows (chapter 7, table 7-1). Contracts see the number.
 #[derive(Clone, Copy, PartialEq, Eq, Debug)]
 pub struct TrapType {
     number: u8,
@@ -60,14 +82,47 @@ impl Model for TrapType {
 }
 
 impl TrapType {
-    /// The trap type of a number.
+    /// A fetch was refused or unanswered.
+    pub const INSTRUCTION_ACCESS_EXCEPTION: TrapType = TrapType { number: 0x01 };
+
+    /// The word is UNIMP, or no instruction of this machine.
+    pub const ILLEGAL_INSTRUCTION: TrapType = TrapType { number: 0x02 };
+
+    /// User code asked for what only supervisor code may do.
+    pub const PRIVILEGED_INSTRUCTION: TrapType = TrapType { number: 0x03 };
+
+    /// A floating-point instruction, for which there is no unit.
+    pub const FP_DISABLED: TrapType = TrapType { number: 0x04 };
+
+    /// SAVE met the invalid window.
+    pub const WINDOW_OVERFLOW: TrapType = TrapType { number: 0x05 };
+
+    /// RESTORE or RETT met the invalid window.
+    pub const WINDOW_UNDERFLOW: TrapType = TrapType { number: 0x06 };
+
+    /// The address of an access or a jump is no multiple of what it has to be.
+    pub const MEM_ADDRESS_NOT_ALIGNED: TrapType = TrapType { number: 0x07 };
+
+    /// A load or a store was refused or unanswered.
+    pub const DATA_ACCESS_EXCEPTION: TrapType = TrapType { number: 0x09 };
+
+    /// TADDccTV or TSUBccTV would set the overflow flag.
+    pub const TAG_OVERFLOW: TrapType = TrapType { number: 0x0a };
+
+    /// A coprocessor instruction, for which there is no unit.
+    pub const CP_DISABLED: TrapType = TrapType { number: 0x24 };
+
+    /// The divisor is 0.
+    pub const DIVISION_BY_ZERO: TrapType = TrapType { number: 0x2a };
+
+    /// The trap type of a number, 0 to 255.
     pub const fn new(number: u8) -> Self
         ensures { result ≡ number }
     {
         TrapType { number }
     }
 
-    /// The number.
+    /// The number, 0 to 255.
     pub fn number(self) -> u8
         ensures value { result ≡ self }
         ensures bound { result < 2 ^ 8 }
@@ -76,7 +131,7 @@ impl TrapType {
     }
 }
 
-/// How many bytes an access moves: 1, 2, 4 or 8.
+/// How many bytes an access moves: 1, 2, 4 or 8 (chapter 5).
 #[derive(Clone, Copy, PartialEq, Eq, Debug)]
 pub enum Size {
     Byte,
@@ -85,7 +140,7 @@ pub enum Size {
     Double,
 }
 
-/// The `width` bits of a word from bit `low` up.
+/// The `width` bits of a word from bit `low` up, as a number. Bits that lie above bit 31 are 0.
 pub fn bits_of(word: u32, low: u32, width: u32) -> u32
     requires low_in { low < 32 }
     requires width_in { width < 32 }
@@ -95,7 +150,7 @@ pub fn bits_of(word: u32, low: u32, width: u32) -> u32
     (word >> low) & ((1 << width) - 1)
 }
 
-/// The register whose number stands at bit `low`.
+/// The register whose number stands in the five bits from bit `low` up: rd from 25, rs1 from 14, rs2 from 0 (appendix F).
 pub fn reg_at(word: u32, low: u32) -> Reg
     requires { low < 32 }
     ensures { result ≡ bits_of word low 5 }
@@ -105,7 +160,7 @@ pub fn reg_at(word: u32, low: u32) -> Reg
     }
 }
 
-/// Bits 12 to 0 as a signed number, written as a word.
+/// The field simm13: bits 12 to 0 as a signed number, written as a word (chapter 5, "Instruction Formats").
 pub fn simm13(word: u32) -> u32
     ensures { result ≡ sign_extend 13 (word % 2 ^ 13) }
 {
@@ -117,19 +172,7 @@ pub fn simm13(word: u32) -> u32
     }
 }
 
-/// Bits 12 to 0 as a signed number.
-pub fn signed13(word: u32) -> i32
-    ensures { result ≡ signed_of 13 (word % 2 ^ 13) }
-{
-    let field = (word & 0x1fff) as i32;
-    if field < 0x1000 {
-        field
-    } else {
-        field - 0x2000
-    }
-}
-
-/// The flag at bit `low`.
+/// Whether bit `low` of a word is 1.
 pub fn flag_at(word: u32, low: u32) -> bool
     requires { low < 32 }
     ensures { IsTrue result ↔ (bits_of word low 1 ≡ 1) }
@@ -137,7 +180,7 @@ pub fn flag_at(word: u32, low: u32) -> bool
     (word >> low) & 1 == 1
 }
 
-/// A condition.
+/// A condition of a branch or a trap on the integer condition codes, in the order of their numbers (appendix F, "Condition Codes").
 #[derive(Clone, Copy, PartialEq, Eq, Debug)]
 pub enum Cond {
     Never,
@@ -158,7 +201,7 @@ pub enum Cond {
     OverflowClear,
 }
 
-/// The integer condition codes.
+/// The integer condition codes of PSR: negative, zero, overflow, carry (chapter 4, "Processor State Register").
 #[derive(Clone, Copy, PartialEq, Eq, Debug, Default)]
 pub struct Icc {
     pub n: bool,
@@ -167,7 +210,7 @@ pub struct Icc {
     pub c: bool,
 }
 
-/// The condition at bits 28 to 25.
+/// The condition whose number stands in the field cond, bits 28 to 25 (appendix B, "Branch on Integer Condition Codes").
 pub fn cond_at(word: u32) -> Cond
     ensures { result ≡ cond_of (bits_of word 25 4) }
 {
@@ -192,7 +235,7 @@ pub fn cond_at(word: u32) -> Cond
 }
 
 impl Cond {
-    /// The number of the condition.
+    /// The number of the condition, 0 to 15, as the field cond has it.
     pub fn code(self) -> u8
         ensures value { result ≡ code_of self }
         ensures bound { result < 16 }
@@ -200,7 +243,7 @@ impl Cond {
         self as u8
     }
 
-    /// Whether the condition holds.
+    /// Whether the condition holds of these codes (appendix B, "Branch on Integer Condition Codes").
     pub fn holds(self, icc: Icc) -> bool
         ensures { result ≡ holds self icc }
     {

@@ -1,0 +1,4 @@
+pub mod Law
+pub mod Registers
+pub mod Alike
+pub mod Turns

@@ -1,0 +1,9 @@
+//! The flat machine: as many frames as there are calls, and no windows, pages or traps. It is what sandboxed code means.
+//!
+//! The definitions stand in `specs/`: registers, memory, states, effects, turns, runs and window traffic.
+#![tactic(auto)]
+
+mod code;
+pub mod laws;
+
+pub use code::{asked, declares, service_of, weight_of, word_at};

@@ -1,0 +1,4 @@
+pub mod Loops
+pub mod Fields
+pub mod TakesLaws
+pub mod Limits

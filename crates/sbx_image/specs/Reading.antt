@@ -1,0 +1,156 @@
+-- Reading from left to right: a field is a value and the bytes after it, or the first fault that is met.
+use Rattle.std.specs.Prelude.{◌≡◌, ◌≢◌, ℕ, zero, suc, ◌+◌, ◌-◌, ◌*◌, ◌%◌, ℤ, Bool, not, ◌&&◌, List, [], ◌∷◌, length, take, drop, Result, Ok, Err, MatchResult, nat_lt, nat_le, int_lt, ◌==◌, if◌then◌else◌}
+use Rattle.std.specs.Int.{Width, w8, w16, w32, w64, byte_len, from_be_bytes, cast_signed}
+use Rattle.std.specs.Int.RustNames.{bit_and}
+use Rattle.sbx_image.specs.declared.fault.ImageFault.{ImageFault}
+use Rattle.sbx_image.specs.declared.fault.ImageFault.TheVariants as fault
+use Rattle.sbx_image.specs.declared.order.Next.{Next}
+use Rattle.sbx_image.specs.declared.order.Next.TheVariants.{Exactly, Above}
+use Rattle.sbx_image.specs.declared.heads.Header.{Header}
+use Rattle.sbx_image.specs.declared.heads.FunctionHead.{FunctionHead}
+use Rattle.sbx_image.specs.declared.heads.BlockHead.{BlockHead}
+use Rattle.sbx_image.specs.declared.parts.Kind.{Kind}
+use Rattle.sbx_image.specs.declared.parts.Kind.TheVariants.{Leaf, Framed}
+use Rattle.sbx_image.specs.declared.parts.Range.{Range}
+use Rattle.sbx_image.specs.declared.parts.Cell.{Cell}
+use Rattle.sbx_image.specs.declared.parts.Term.{Term}
+use Rattle.sbx_image.specs.declared.parts.Block.{Block}
+use Rattle.sbx_image.specs.declared.parts.Function.{Function}
+use Rattle.sbx_image.specs.declared.parts.Parts.{Parts}
+use Rattle.sbx_image.specs.Rules.{◌>>=◌, wants, between, code_start, admits, is_fuel, is_coefficient, is_known, is_data_length, in_order, Place}
+
+-- What a function returned, seen by view, is what reading gives, unless memory ran out.
+abbrev pub Gives : {X Y : Type 0} → (X → Y) → Result X ImageFault → Result Y ImageFault → Type 0
+Gives view result read = MatchResult result (λ x. read ≡ Ok (view x)) (λ e. e ≢ fault.Memory → read ≡ Err e)
+
+-- an unsigned number
+abbrev pub number_at : Width → List ℕ → Result (ℕ × List ℕ) ImageFault
+number_at w bytes = if nat_lt (length bytes) (byte_len w) then Err fault.Short else Ok (from_be_bytes w (take (byte_len w) bytes), drop (byte_len w) bytes)
+
+-- an unsigned number from low to high
+abbrev pub number_in : Width → ℕ → ℕ → ImageFault → List ℕ → Result (ℕ × List ℕ) ImageFault
+number_in w low high bad bytes = do
+  n ← number_at w bytes
+  _ ← wants (between low high n.0) bad
+  Ok n
+
+-- a signed number
+abbrev pub signed_at : Width → List ℕ → Result (ℤ × List ℕ) ImageFault
+signed_at w bytes = do
+  n ← number_at w bytes
+  Ok (cast_signed w n.0, n.1)
+
+-- count bytes
+abbrev pub bytes_at : ℕ → List ℕ → Result (List ℕ × List ℕ) ImageFault
+bytes_at count bytes = if nat_lt (length bytes) count then Err fault.Short else Ok (take count bytes, drop count bytes)
+
+-- count items, one after the other, from whatever is still to be read
+unfoldable pub items_at : {A C : Type 0} → (C → Result (A × C) ImageFault) → ℕ → C → Result (List A × C) ImageFault
+items_at item zero rest = Ok ([], rest)
+items_at item (suc n) rest = do
+  first ← item rest
+  others ← items_at item n first.1
+  Ok (first.0 ∷ others.0, others.1)
+
+unfoldable pub range_at : List ℕ → Result (Range × List ℕ) ImageFault
+range_at bytes = do
+  lo ← signed_at w32 bytes
+  hi ← signed_at w32 lo.1
+  _ ← wants (in_order lo.0 hi.0) fault.Range
+  alignment ← number_in w8 0 3 fault.Range hi.1
+  Ok (record { lo = lo.0; hi = hi.0; alignment = alignment.0 }, alignment.1)
+
+-- a location past the last one of its list
+unfoldable pub location_at : ℕ → List ℕ → Result (ℕ × List ℕ) ImageFault
+location_at last bytes = do
+  location ← number_in w16 1 1039 fault.Limit bytes
+  _ ← wants (nat_lt last location.0) fault.Order
+  Ok location
+
+-- The last location so far goes along with the bytes.
+unfoldable pub cell_at : ℕ × List ℕ → Result (Cell × (ℕ × List ℕ)) ImageFault
+cell_at cursor = do
+  location ← location_at cursor.0 cursor.1
+  range ← range_at location.1
+  Ok (record { location = location.0; range = range.0 }, (location.0, range.1))
+
+unfoldable pub term_at : ℕ × List ℕ → Result (Term × (ℕ × List ℕ)) ImageFault
+term_at cursor = do
+  location ← location_at cursor.0 cursor.1
+  coefficient ← signed_at w32 location.1
+  _ ← wants (is_coefficient coefficient.0) fault.Limit
+  Ok (record { location = location.0; coefficient = coefficient.0 }, (location.0, coefficient.1))
+
+unfoldable pub block_head_at : ℕ → Next → List ℕ → Result (BlockHead × List ℕ) ImageFault
+block_head_at end next bytes = do
+  address ← number_at w32 bytes
+  _ ← wants (admits end next address.0) fault.Order
+  cells ← number_in w16 0 64 fault.Limit address.1
+  terms ← number_in w16 0 8 fault.Limit cells.1
+  fuel ← signed_at w64 terms.1
+  _ ← wants (is_fuel fuel.0) fault.Limit
+  Ok (record { address = address.0; cells = cells.0; terms = terms.0; fuel = fuel.0 }, fuel.1)
+
+-- Where the next address may lie goes along with the bytes.
+unfoldable pub block_at : ℕ → Next × List ℕ → Result (Block × (Next × List ℕ)) ImageFault
+block_at end cursor = do
+  head ← block_head_at end cursor.0 cursor.1
+  cells ← items_at cell_at head.0.cells (0, head.1)
+  terms ← items_at term_at head.0.terms (0, cells.1.1)
+  Ok (record { address = head.0.address; fuel = head.0.fuel; cells = cells.0; terms = terms.0 }, (Above head.0.address, terms.1.1))
+
+unfoldable pub kind_at : List ℕ → Result (Kind × List ℕ) ImageFault
+kind_at bytes = do
+  kind ← number_in w8 0 1 fault.Limit bytes
+  Ok (if kind.0 == 0 then Leaf else Framed, kind.1)
+
+-- The functions before it have so many blocks.
+unfoldable pub function_head_at : ℕ → Place → List ℕ → Result (FunctionHead × List ℕ) ImageFault
+function_head_at end place bytes = do
+  kind ← kind_at bytes
+  params ← number_in w8 0 6 fault.Limit kind.1
+  results ← number_in w8 0 6 fault.Limit params.1
+  unused ← number_in w8 0 0 fault.Limit results.1
+  entry ← number_at w32 unused.1
+  _ ← wants (admits end place.0 entry.0) fault.Order
+  frame ← number_in w32 0 4096 fault.Limit entry.1
+  stack_room ← number_in w32 0 65536 fault.Limit frame.1
+  budget ← number_in w64 0 1099511627775 fault.Limit stack_room.1
+  blocks ← number_in w16 1 (4096 - place.1) fault.Limit budget.1
+  Ok (record { kind = kind.0; params = params.0; results = results.0; entry = entry.0; frame = frame.0; stack_room = stack_room.0; budget = budget.0; blocks = blocks.0 }, blocks.1)
+
+unfoldable pub function_at : ℕ → Place × List ℕ → Result (Function × (Place × List ℕ)) ImageFault
+function_at end cursor = do
+  head ← function_head_at end cursor.0 cursor.1
+  params ← items_at range_at head.0.params head.1
+  results ← items_at range_at head.0.results params.1
+  blocks ← items_at (block_at end) head.0.blocks (Exactly head.0.entry, results.1)
+  Ok (record { kind = head.0.kind; params = params.0; results = results.0; entry = head.0.entry; frame = head.0.frame; stack_room = head.0.stack_room; budget = head.0.budget; blocks = blocks.0 }, ((blocks.1.0, cursor.0.1 + head.0.blocks), blocks.1.1))
+
+unfoldable pub header_at : List ℕ → Result (Header × List ℕ) ImageFault
+header_at bytes = do
+  magic ← number_in w32 0x53425838 0x53425838 fault.Magic bytes
+  version ← number_in w16 1 1 fault.Version magic.1
+  services ← number_at w16 version.1
+  _ ← wants (is_known services.0) fault.Service
+  words ← number_in w32 1 65536 fault.Limit services.1
+  data_bytes ← number_at w32 words.1
+  _ ← wants (is_data_length data_bytes.0) fault.Limit
+  stack_pages ← number_in w16 1 16 fault.Limit data_bytes.1
+  functions ← number_in w16 1 256 fault.Limit stack_pages.1
+  Ok (record { services = record { 0 = services.0 }; words = words.0; bytes = data_bytes.0; stack_pages = stack_pages.0; functions = functions.0 }, functions.1)
+
+unfoldable pub parts_at : List ℕ → Result (Parts × List ℕ) ImageFault
+parts_at bytes = do
+  header ← header_at bytes
+  words ← items_at (number_at w32) header.0.words header.1
+  data_bytes ← bytes_at header.0.bytes words.1
+  functions ← items_at (function_at (code_start + 4 * header.0.words)) header.0.functions ((Exactly code_start, 0), data_bytes.1)
+  Ok (record { services = header.0.services; words = words.0; bytes = data_bytes.0; stack_pages = header.0.stack_pages; functions = functions.0 }, functions.1.1)
+
+-- The image that all of the bytes spell.
+unfoldable pub reading : List ℕ → Result Parts ImageFault
+reading bytes = do
+  parts ← parts_at bytes
+  _ ← wants (length parts.1 == 0) fault.Trailing
+  Ok parts.0

@@ -1,0 +1,61 @@
+//! Why bytes or parts are no image.
+ghost use Rattle.std.specs.Prelude.{◌≡◌};
+ghost use Rattle.sbx_image.specs.declared.fault.ImageFault.TheVariants.{Memory};
+
+use std::alloc::{AllocError, AllocFailed};
+use std::fmt::{self, Error, Formatter, Write};
+
+/// What is wrong with the first bad field of an image. It is written as `I1` to `I9`, in this order.
+#[derive(Clone, Copy, Debug, PartialEq, Eq)]
+pub enum ImageFault {
+    /// The bytes end before the field does.
+    Short,
+    /// The first four bytes are not `SBX8`.
+    Magic,
+    /// The version is none that is known.
+    Version,
+    /// A service bit has no meaning.
+    Service,
+    /// A bound is passed.
+    Limit,
+    /// Bytes stand after the functions.
+    Trailing,
+    /// An address or a location is out of order.
+    Order,
+    /// A range's ends are exchanged, or its alignment is above 3.
+    Range,
+    /// Memory was refused.
+    Memory,
+}
+
+impl fmt::Display for ImageFault {
+    fn fmt<W: Write>(&self, f: &mut Formatter<W>) -> Result<(), Error> {
+        f.write_str(match self {
+            ImageFault::Short => "I1",
+            ImageFault::Magic => "I2",
+            ImageFault::Version => "I3",
+            ImageFault::Service => "I4",
+            ImageFault::Limit => "I5",
+            ImageFault::Trailing => "I6",
+            ImageFault::Order => "I7",
+            ImageFault::Range => "I8",
+            ImageFault::Memory => "I9",
+        })
+    }
+}
+
+impl From<AllocError> for ImageFault {
+    ghost from_gives = { λ _ e. e ≡ Memory };
+
+    fn from(_e: AllocError) -> ImageFault {
+        ImageFault::Memory
+    }
+}
+
+impl<T: Drop> From<AllocFailed<T>> for ImageFault {
+    ghost from_gives = { λ _ e. e ≡ Memory };
+
+    fn from(_e: AllocFailed<T>) -> ImageFault {
+        ImageFault::Memory
+    }
+}

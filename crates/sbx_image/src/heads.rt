@@ -1,0 +1,35 @@
+//! The fields that stand before the lists that they count.
+use crate::parts::Kind;
+use crate::services::Services;
+
+/// What stands before the words.
+#[derive(Clone, Copy, Debug)]
+pub struct Header {
+    pub services: Services,
+    pub words: u32,
+    pub bytes: u32,
+    pub stack_pages: u16,
+    pub functions: u16,
+}
+
+/// What stands before a function's ranges and blocks.
+#[derive(Clone, Copy, Debug)]
+pub struct FunctionHead {
+    pub kind: Kind,
+    pub params: u8,
+    pub results: u8,
+    pub entry: u32,
+    pub frame: u32,
+    pub stack_room: u32,
+    pub budget: u64,
+    pub blocks: u16,
+}
+
+/// What stands before a block's cells and terms.
+#[derive(Clone, Copy, Debug)]
+pub struct BlockHead {
+    pub address: u32,
+    pub cells: u16,
+    pub terms: u16,
+    pub fuel: i64,
+}

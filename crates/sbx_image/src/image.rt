@@ -1,0 +1,89 @@
+//! Parts that keep every limit and order of the format.
+ghost use Rattle.std.specs.Prelude.{◌≡◌, ◌≤◌, length, Ok};
+ghost use Rattle.sbx_image.specs.Rules.{parts_keep};
+
+use crate::parts::{Function, Parts};
+use crate::services::Services;
+use std::marker::Model;
+
+/// An image: parts that keep every limit and order of the format. Contracts see the parts.
+#[derive(Debug, Drop)]
+pub struct Image {
+    parts: Parts,
+}
+
+impl Model for Image {
+    ghost use Rattle.std.specs.Prelude.{◌≡◌, Ok};
+    ghost use Rattle.sbx_image.specs.declared.parts.Parts.{Parts};
+
+    ghost Value = { Parts };
+
+    ghost use Rattle.sbx_image.specs.Rules.{parts_keep};
+
+    ghost view = { λ a. a.parts };
+
+    ghost invariant = { λ a. parts_keep a.parts ≡ Ok tt };
+}
+
+impl Image {
+    /// The image of parts that keep every rule.
+    pub(crate) fn of(parts: Parts) -> Image
+        requires { parts_keep parts ≡ Ok tt }
+        ensures { result ≡ parts }
+    {
+        Image { parts }
+    }
+
+    /// The services that it may ask for.
+    pub fn services(&self) -> Services
+        ensures { result ≡ self.now.services }
+    {
+        self.parts.services
+    }
+
+    /// The code.
+    pub fn words(&self) -> &[u32]
+        ensures { result.now ≡ self.now.words }
+    {
+        self.parts.words.as_slice()
+    }
+
+    /// How many words of code there are, 1 to 65,536.
+    #[tactic(auto, using(crate::proofs::Limits::words_within))]
+    pub fn word_count(&self) -> u32
+        ensures count { result ≡ length self.now.words }
+        ensures some { 1 ≤ result }
+        ensures few { result ≤ 65536 }
+    {
+        self.parts.words.len() as u32
+    }
+
+    /// The data.
+    pub fn bytes(&self) -> &[u8]
+        ensures { result.now ≡ self.now.bytes }
+    {
+        self.parts.bytes.as_slice()
+    }
+
+    /// Pages of stack.
+    pub fn stack_pages(&self) -> u16
+        ensures { result ≡ self.now.stack_pages }
+    {
+        self.parts.stack_pages
+    }
+
+    /// The functions, by entry; a run begins in the first.
+    pub fn functions(&self) -> &[Function]
+        ensures { result.now ≡ self.now.functions }
+    {
+        self.parts.functions.as_slice()
+    }
+
+    /// The parts, without taking memory.
+    pub fn into_parts(self) -> Parts
+        ensures { result ≡ self }
+    {
+        let Image { parts } = self;
+        parts
+    }
+}

@@ -1,0 +1,11 @@
+//! What joins reading and spelling, as laws about lists of bytes.
+ghost use Rattle.std.specs.Prelude.{◌≡◌, ℕ, List, Ok};
+ghost use Rattle.sbx_image.specs.declared.parts.Parts.{Parts};
+ghost use Rattle.sbx_image.specs.Rules.{parts_keep};
+ghost use Rattle.sbx_image.specs.Reading.{reading};
+ghost use Rattle.sbx_image.specs.Spelling.{IsBytes, IsTyped, spelling};
+
+/// What is read keeps each limit and order, and is spelled by all of the bytes that were read.
+pub fn what_is_read_is_spelled()
+    ensures { (bytes : List ℕ) (p : Parts) → IsBytes bytes → reading bytes ≡ Ok p → (bytes ≡ spelling p) × (parts_keep p ≡ Ok tt) }
+{}

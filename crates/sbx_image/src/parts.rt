@@ -1,0 +1,83 @@
+//! What an image is made of.
+use crate::items::Items;
+use crate::services::Services;
+
+/// Words that, read as signed, lie from `lo` to `hi` and are multiples of 2 to the power `alignment`.
+#[derive(Clone, Copy, Debug, PartialEq, Eq)]
+pub struct Range {
+    pub lo: i32,
+    pub hi: i32,
+    /// 0 to 3 in an image.
+    pub alignment: u8,
+}
+
+/// Whether a function has a register window of its own.
+#[derive(Clone, Copy, Debug, PartialEq, Eq)]
+pub enum Kind {
+    Leaf,
+    Framed,
+}
+
+/// The range of one location where a block starts.
+#[derive(Clone, Copy, Debug, PartialEq, Eq)]
+pub struct Cell {
+    /// 1 to 31 is a register, 32 + k is frame word k, k at most 1,007.
+    pub location: u16,
+    pub range: Range,
+}
+
+/// A multiple of one location in a block's fuel.
+#[derive(Clone, Copy, Debug, PartialEq, Eq)]
+pub struct Term {
+    /// As in a cell.
+    pub location: u16,
+    /// Not 0 in an image.
+    pub coefficient: i32,
+}
+
+/// A block of code with what is known where it starts.
+#[derive(Debug, Drop)]
+pub struct Block {
+    /// The address of its first word, in bytes.
+    pub address: u32,
+    /// The constant of its fuel, in turns; below 2^40 in magnitude in an image.
+    pub fuel: i64,
+    /// At most 64, by location.
+    pub cells: Items<Cell>,
+    /// At most 8, by location.
+    pub terms: Items<Term>,
+}
+
+/// A function: its entry, what it promises, and its blocks by address.
+#[derive(Debug, Drop)]
+pub struct Function {
+    pub kind: Kind,
+    /// At most 6.
+    pub params: Items<Range>,
+    /// At most 6.
+    pub results: Items<Range>,
+    /// The address of its first word, in bytes.
+    pub entry: u32,
+    /// Bytes of its frame, at most 4,096.
+    pub frame: u32,
+    /// Bytes of stack that it and its callees take, at most 65,536.
+    pub stack_room: u32,
+    /// Turns, below 2^40.
+    pub budget: u64,
+    /// At least 1.
+    pub blocks: Items<Block>,
+}
+
+/// The fields of an image, whatever they hold.
+#[derive(Debug, Drop)]
+pub struct Parts {
+    pub services: Services,
+    /// The code, 1 to 65,536 words.
+    pub words: Items<u32>,
+    /// The data, at most 262,144 bytes and a multiple of 8.
+    pub bytes: Items<u8>,
+    /// Pages of stack, 1 to 16.
+    pub stack_pages: u16,
+    /// 1 to 256; the first one is where a run begins.
+    pub functions: Items<Function>,
+}

@@ -1,0 +1,4 @@
+mod Values
+mod Scans
+mod Fronts
+mod Law

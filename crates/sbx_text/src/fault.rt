@@ -1,0 +1,44 @@
+// Why a line has no tokens.
+ghost use Rattle.std.specs.Prelude.{◌≡◌};
+ghost use Rattle.sbx_text.specs.declared.fault.TextFault.TheVariants.{Memory};
+
+use std::alloc::{AllocError, AllocFailed};
+use std::fmt;
+
+/// Why a line has no tokens. Shown as `X1` to `X5`, in this order.
+#[derive(Clone, Copy, PartialEq, Eq, Debug)]
+pub enum TextFault {
+    NotAscii,
+    BadCharacter,
+    NumberTooLarge,
+    LineTooLong,
+    Memory,
+}
+
+impl From<AllocError> for TextFault {
+    ghost from_gives = { λ _ e. e ≡ Memory };
+
+    fn from(_e: AllocError) -> TextFault {
+        TextFault::Memory
+    }
+}
+
+impl<T: Drop> From<AllocFailed<T>> for TextFault {
+    ghost from_gives = { λ _ e. e ≡ Memory };
+
+    fn from(_e: AllocFailed<T>) -> TextFault {
+        TextFault::Memory
+    }
+}
+
+impl fmt::Display for TextFault {
+    fn fmt<W: fmt::Write>(&self, f: &mut fmt::Formatter<W>) -> fmt::Result {
+        f.write_str(match self {
+            TextFault::NotAscii => "X1",
+            TextFault::BadCharacter => "X2",
+            TextFault::NumberTooLarge => "X3",
+            TextFault::LineTooLong => "X4",
+            TextFault::Memory => "X5",
+        })
+    }
+}

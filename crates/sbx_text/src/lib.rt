@@ -1,0 +1,75 @@
+//! Tokens of a line of source.
+#![tactic(auto)]
+
+ghost use Rattle.std.specs.Prelude.{◌≡◌, IfOk, length};
+ghost use Rattle.sbx_text.specs.Tokens.{tokens_of, tokens_at, Gives};
+ghost use Rattle.sbx_text.specs.Slices.{AreSlices};
+
+mod fault;
+mod scanning;
+#[cfg(test)]
+mod tests;
+
+pub use fault::TextFault;
+use scanning::{Step, front};
+use std::alloc::Global;
+
+/// What a token is. A number is below 2^40; a sign is one of `,` `:` `[` `]` `+` `-`.
+#[derive(Clone, Copy, PartialEq, Eq, Debug)]
+pub enum Kind {
+    Name,
+    Percent,
+    Number(u64),
+    Sign,
+}
+
+/// The bytes of a line from `start` up to `stop`.
+#[derive(Clone, Copy, PartialEq, Eq, Debug)]
+pub struct Token {
+    pub kind: Kind,
+    pub start: usize,
+    pub stop: usize,
+}
+
+/// The longest line, in bytes.
+const LONGEST: usize = 1024;
+
+/// The tokens of one line, which has no LF, in their order.
+///
+/// # Errors
+/// `LineTooLong` above 1,024 bytes; else the fault of the leftmost place: a byte past ASCII, another character that begins no
+/// token, both outside comments, or a number of 2^40 or more. `Memory` may come in the place of any answer.
+pub fn tokens(alloc: Global, line: &[u8]) -> Result<Vec<Token>, TextFault>
+    ensures exact { Gives (λ found. found.items) result (tokens_of line.now) }
+    ensures slices { IfOk result (λ found. AreSlices 0 line.now found.items) }
+{
+    if line.len() > LONGEST {
+        return Err(TextFault::LineTooLong);
+    }
+    scan(alloc, line)
+}
+
+fn scan(alloc: Global, line: &[u8]) -> Result<Vec<Token>, TextFault>
+    ensures { Gives (λ found. found.items) result (tokens_at (length line.now) 0 line.now) }
+{
+    let mut found = Vec::new(alloc);
+    let mut start = 0;
+    let mut rest = line;
+    for _ in 0..line.len() {
+        match front(rest) {
+            Step::Stop => return Ok(found),
+            Step::Skip => {
+                start += 1;
+                rest = rest.split_at(1).1;
+            }
+            Step::Emit(kind, len) => {
+                let stop = start + len;
+                found.push(Token { kind, start, stop })?;
+                start = stop;
+                rest = rest.split_at(len).1;
+            }
+            Step::Refuse(fault) => return Err(fault),
+        }
+    }
+    Ok(found)
+}

@@ -1,0 +1,4 @@
+pub mod Entries
+pub mod Map
+pub mod Stay
+pub mod Marks

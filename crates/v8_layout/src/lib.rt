@@ -1,0 +1,4 @@
+//! The layout of a loaded board: its tables, and the address map that they spell.
+#![tactic(auto)]
+
+pub mod laws;

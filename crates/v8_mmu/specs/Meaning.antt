@@ -1,0 +1,33 @@
+-- What a bus does, as functions of its RAM and its device.
+use Rattle.std.specs.Prelude.{ℕ, ◌^◌, List, Option, Some, None}
+use Rattle.v8_word.specs.declared.Size.{Size}
+use Rattle.v8_word.specs.declared.Size.TheVariants.{Byte, Half, Word, Double}
+use Rattle.v8_mmu.specs.declared.bus.Stop.{Stop}
+
+-- What a bus with devices of this type does. Nothing is changed where nothing answers.
+pub record Meaning (D : Type 0) : Type 0 where
+  -- what has stopped the machine
+  pub stopped : D → Option Stop
+  -- RAM, device, place, size: the value, and the device afterwards; None where nothing answers
+  pub load : List ℕ → D → ℕ → Size → Option (ℕ × D)
+  -- RAM, device, place, size, value: the RAM and the device afterwards; None where nothing answers
+  pub store : List ℕ → D → ℕ → Size → ℕ → Option (List ℕ × D)
+
+-- one more than the greatest number of this size
+abbrev pub limit_of : Size → ℕ
+limit_of Byte = 2 ^ 8
+limit_of Half = 2 ^ 16
+limit_of Word = 2 ^ 32
+limit_of Double = 2 ^ 64
+
+abbrev pub stored_after : {D : Type 0} → ℕ → Option (List ℕ × D) → Option (ℕ × List ℕ × D)
+stored_after old (Some new) = Some (old, new.0, new.1)
+stored_after old None = None
+
+abbrev pub exchanged_after : {D : Type 0} → Meaning D → List ℕ → ℕ → Size → ℕ → Option (ℕ × D) → Option (ℕ × List ℕ × D)
+exchanged_after m ram at size value (Some loaded) = stored_after loaded.0 (m.store ram loaded.1 at size value)
+exchanged_after m ram at size value None = None
+
+-- A load and a store at one place: the old value, and the RAM and the device afterwards. Nothing answers where either has no answer.
+abbrev pub exchanged : {D : Type 0} → Meaning D → List ℕ → D → ℕ → Size → ℕ → Option (ℕ × List ℕ × D)
+exchanged m ram device at size value = exchanged_after m ram at size value (m.load ram device at size)

@@ -1,0 +1,100 @@
+use v8_word::Size;
+
+/// What a port that failed ran out of.
+#[derive(Clone, Copy, PartialEq, Eq, Debug)]
+pub enum PortFault {
+    Memory,
+    Reader,
+    Writer,
+}
+
+/// Why an access didn't complete: nothing answers there, or a port failed.
+#[derive(Clone, Copy, PartialEq, Eq, Debug)]
+pub enum BusFault {
+    Unanswered,
+    Port(PortFault),
+}
+
+/// What stopped the machine: a word written as its exit status, or a trap that the handlers gave up on.
+#[derive(Clone, Copy, PartialEq, Eq, Debug)]
+pub enum Stop {
+    Exit(u32),
+    Trapped,
+}
+
+/// RAM and a device at physical addresses of 36 bits. Memory is big-endian.
+///
+/// An implementor says what its RAM holds, what state its device is in, how often its port has failed, and, as its
+/// `meaning`, what loads and stores do with them.
+pub trait Bus {
+    ghost use Rattle.v8_mmu.specs.Meaning.{Meaning, limit_of, exchanged};
+    ghost use Rattle.v8_mmu.specs.Ram.{entry_of, with_entry, HasBytes};
+    ghost use Rattle.v8_mmu.specs.Answers.{OnUnanswered, OnPort, Rose};
+    ghost use Rattle.std.specs.Prelude.{◌≡◌, ℕ, ◌<◌, ◌≤◌, List, Option, Some, None, IsSome, IfOk, OnOk, OnErr};
+
+    /// What the device's state is.
+    ghost Device: { Type 0 };
+
+    /// The bytes of RAM, from physical address 0.
+    ghost ram: { Self → List ℕ };
+
+    /// The device's state.
+    ghost device: { Self → Device };
+
+    /// How often the port has failed. A count of 2^64 - 1 stays there.
+    ghost failed: { Self → ℕ };
+
+    /// What answers where, and what an access does.
+    ghost meaning: { Meaning Device };
+
+    /// The word of RAM that begins at `pa`, a multiple of 4; None elsewhere.
+    fn entry(&self, pa: u64) -> Option<u32>
+        ensures value { result ≡ entry_of (ram self.now) pa }
+        ensures bytes { IsSome result → HasBytes (ram self.now) pa };
+
+    /// Writes a word of RAM.
+    fn set_entry(&mut self, pa: u64, word: u32)
+        requires { IsSome (entry_of (ram self.old) pa) }
+        ensures ram { ram self.new ≡ with_entry (ram self.old) pa word }
+        ensures device { device self.new ≡ device self.old }
+        ensures failed { failed self.new ≡ failed self.old };
+
+    /// The number in the bytes of this size at `pa`, most significant byte first.
+    fn read(&mut self, pa: u64, size: Size) -> Result<u64, BusFault>
+        ensures small { IfOk result (λ v. v < limit_of size) }
+        ensures ok { IfOk result (λ v. meaning.load (ram self.old) (device self.old) pa size ≡ Some (v, device self.new)) }
+        ensures refused { OnUnanswered result (meaning.load (ram self.old) (device self.old) pa size ≡ None) }
+        ensures ram { ram self.new ≡ ram self.old }
+        ensures device { OnErr result (device self.new ≡ device self.old) }
+        ensures count { failed self.old ≤ failed self.new }
+        ensures port { OnPort result (Rose (failed self.old) (failed self.new)) };
+
+    /// Writes a number to the bytes of this size at `pa`.
+    fn write(&mut self, pa: u64, size: Size, value: u64) -> Result<(), BusFault>
+        requires { value < limit_of size }
+        ensures ok { OnOk result (meaning.store (ram self.old) (device self.old) pa size value ≡ Some (ram self.new, device self.new)) }
+        ensures refused { OnUnanswered result (meaning.store (ram self.old) (device self.old) pa size value ≡ None) }
+        ensures ram { OnErr result (ram self.new ≡ ram self.old) }
+        ensures device { OnErr result (device self.new ≡ device self.old) }
+        ensures count { failed self.old ≤ failed self.new }
+        ensures port { OnPort result (Rose (failed self.old) (failed self.new)) };
+
+    /// Writes a number to the bytes of this size at `pa` and gives the number that was there, as one access.
+    fn swap(&mut self, pa: u64, size: Size, value: u64) -> Result<u64, BusFault>
+        requires { value < limit_of size }
+        ensures small { IfOk result (λ v. v < limit_of size) }
+        ensures ok { IfOk result (λ v. exchanged meaning (ram self.old) (device self.old) pa size value ≡ Some (v, ram self.new, device self.new)) }
+        ensures refused { OnUnanswered result (exchanged meaning (ram self.old) (device self.old) pa size value ≡ None) }
+        ensures ram { OnErr result (ram self.new ≡ ram self.old) }
+        ensures device { OnErr result (device self.new ≡ device self.old) }
+        ensures count { failed self.old ≤ failed self.new }
+        ensures port { OnPort result (Rose (failed self.old) (failed self.new)) };
+
+    /// What stopped the machine, once something has.
+    fn stop(&self) -> Option<Stop>
+        ensures { result ≡ meaning.stopped (device self.now) };
+
+    /// How often the port has failed, up to 2^64 - 1.
+    fn failures(&self) -> u64
+        ensures { result ≡ failed self.now };
+}

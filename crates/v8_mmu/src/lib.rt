@@ -1,0 +1,14 @@
+// The bus and the reference MMU of SPARC V8 (appendix H).
+#![tactic(auto)]
+
+mod access;
+mod bus;
+pub mod laws;
+mod translation;
+mod walks;
+
+pub use access::{Access, AccessKind};
+pub use bus::{Bus, BusFault, PortFault, Stop};
+pub use translation::{Found, MmuFault, MmuRegs};
+pub use v8_word::Size;
+pub use walks::{mark, mark_saved, walk};

@@ -1,0 +1,4 @@
+pub mod Masks
+pub mod Neighbours
+pub mod Shape
+pub mod AfterWrites

@@ -1,0 +1,274 @@
+ghost use Rattle.std.specs.Prelude.{if◌then◌else◌, ◌≡◌, ℕ, ◌+◌, ◌-◌, ◌%◌, ◌^◌, ◌<◌, ◌≤◌, ◌↔◌, IsTrue, not, replicate, [], ◌∷◌, length};
+ghost use Rattle.v8_windows.specs.Windows.{IsFile, reg_of, with_reg, below, above, can_enter, is_masked, moved, trapped};
+
+use std::marker::Model;
+use v8_word::Reg;
+
+/// The integer registers of `N` windows, 4 to 32, with the current window (CWP) and the window invalid mask (WIM) of the
+/// manual's chapter 4. Contracts see the map from window and register to words.
+#[derive(Drop)]
+pub struct RegFile<const N: usize> {
+    globals: [u32; 8],
+    words: [[u32; 16]; N],
+    current: usize,
+    mask: u32,
+}
+
+impl<const N: usize> Model for RegFile<N> {
+    ghost use Rattle.std.specs.Prelude.{◌≤◌, ◌<◌, ◌^◌};
+    ghost use Rattle.v8_windows.specs.Windows.{Windows, AreGlobals, AreRows};
+
+    ghost Value = { Windows };
+
+    ghost view = { λ f. record { globals = f.globals; words = f.words; current = f.current; mask = f.mask } };
+
+    ghost invariant = { λ f. (4 ≤ N) × (N ≤ 32) × (f.current < N) × (f.mask < 2 ^ N) × AreGlobals f.globals × AreRows N f.words };
+}
+
+impl<const N: usize> RegFile<N> {
+    /// A file whose words are all 0, with CWP 0 and WIM 0.
+    pub fn new() -> Self
+        requires at_least { 4 ≤ N }
+        requires at_most { N ≤ 32 }
+        ensures { result ≡ record {
+          globals = replicate 8 0;
+          words = replicate N (replicate 16 0);
+          current = 0;
+          mask = 0;
+        } }
+    {
+        RegFile {
+            globals: [0; 8],
+            words: [[0; 16]; N],
+            current: 0,
+            mask: 0,
+        }
+    }
+
+    /// The current window, below `N`.
+    pub fn cwp(&self) -> u8
+        ensures value { result ≡ self.now.current }
+        ensures in_range { result < N }
+        ensures windows { (4 ≤ N) × (N ≤ 32) }
+        ensures file { IsFile N self.now }
+    {
+        self.current as u8
+    }
+
+    /// Makes a window the current one; false, with nothing changed, at or above `N`.
+    pub fn set_cwp(&mut self, window: u8) -> bool
+        ensures answer { IsTrue result ↔ (window < N) }
+        ensures change { self.new ≡ (if result then moved self.old window else self.old) }
+    {
+        let window = window as usize;
+        if window < N {
+            self.current = window;
+            true
+        } else {
+            false
+        }
+    }
+
+    /// The window invalid mask, below 2^`N`.
+    pub fn wim(&self) -> u32
+        ensures value { result ≡ self.now.mask }
+        ensures in_range { result < 2 ^ N }
+    {
+        self.mask
+    }
+
+    /// Writes the window invalid mask, of which the bits at and above `N` are ignored.
+    #[tactic(auto, using(crate::proofs::Masks::one_shifted, crate::proofs::Masks::low_bits))]
+    pub fn set_wim(&mut self, mask: u32)
+        ensures { self.new ≡ record self.old { mask = mask % 2 ^ N } }
+    {
+        let _ = &self.mask;
+        self.mask = (u64::from(mask) % (1u64 << N)) as u32;
+    }
+
+    /// A register of the current window.
+    #[tactic(auto, unfolding(crate::specs::Windows::reg_of))]
+    pub fn get(&self, r: Reg) -> u32
+        ensures { result ≡ reg_of N self.now r }
+    {
+        let n = r.number() as usize;
+        if n == 0 {
+            0
+        } else if n < 8 {
+            self.globals[n]
+        } else if n < 24 {
+            self.words[self.current][n - 8]
+        } else {
+            self.words[self.window_above()][n - 24]
+        }
+    }
+
+    /// Writes a register of the current window; register 0 ignores it.
+    #[tactic(auto, unfolding(crate::specs::Windows::with_reg))]
+    pub fn set(&mut self, r: Reg, x: u32)
+        ensures { self.new ≡ with_reg N self.old r x }
+    {
+        let n = r.number() as usize;
+        if n == 0 {} else if n < 8 {
+            self.globals[n] = x;
+        } else if n < 24 {
+            self.words[self.current][n - 8] = x;
+        } else {
+            let neighbour = self.window_above();
+            self.words[neighbour][n - 24] = x;
+        }
+    }
+
+    /// Goes to the window below, as SAVE does; false, with nothing changed, where the mask forbids that window.
+    #[tactic(auto, unfolding(crate::specs::Windows::can_enter))]
+    pub fn save(&mut self) -> bool
+        ensures answer { result ≡ can_enter self.old (below N self.old.current) }
+        ensures change { self.new ≡ (if result then moved self.old (below N self.old.current) else self.old) }
+    {
+        let below = self.window_below();
+        if Self::allows(self.mask, below) {
+            self.current = below;
+            true
+        } else {
+            false
+        }
+    }
+
+    /// Goes to the window above, as RESTORE does; false, with nothing changed, where the mask forbids that window.
+    #[tactic(auto, unfolding(crate::specs::Windows::can_enter))]
+    pub fn restore(&mut self) -> bool
+        ensures answer { result ≡ can_enter self.old (above N self.old.current) }
+        ensures change { self.new ≡ (if result then moved self.old (above N self.old.current) else self.old) }
+    {
+        let above = self.window_above();
+        if Self::allows(self.mask, above) {
+            self.current = above;
+            true
+        } else {
+            false
+        }
+    }
+
+    /// Goes to the window below, whatever the mask says, and puts `pc` and `npc` into its registers 17 and 18 (chapter 7).
+    pub fn enter_trap(&mut self, pc: u32, npc: u32)
+        ensures { self.new ≡ trapped N self.old pc npc }
+    {
+        let entered = self.window_below();
+        self.current = entered;
+        self.words[entered][9] = pc;
+        self.words[entered][10] = npc;
+    }
+
+    /// Goes to the window above, as RETT does; false, with nothing changed, where the mask forbids that window.
+    pub fn leave_trap(&mut self) -> bool
+        ensures answer { result ≡ can_enter self.old (above N self.old.current) }
+        ensures change { self.new ≡ (if result then moved self.old (above N self.old.current) else self.old) }
+    {
+        self.restore()
+    }
+
+    #[tactic(auto, using(crate::proofs::Neighbours::below_first, crate::proofs::Neighbours::below_other))]
+    fn window_below(&self) -> usize
+        ensures value { result ≡ below N self.now.current }
+        ensures in_range { result < N }
+    {
+        if self.current == 0 {
+            N - 1
+        } else {
+            self.current - 1
+        }
+    }
+
+    #[tactic(auto, using(crate::proofs::Neighbours::above_last, crate::proofs::Neighbours::above_next))]
+    fn window_above(&self) -> usize
+        ensures value { result ≡ above N self.now.current }
+        ensures in_range { result < N }
+    {
+        let next = self.current + 1;
+        if next == N { 0 } else { next }
+    }
+
+    fn allows(mask: u32, window: usize) -> bool
+        requires { window < 32 }
+        ensures { result ≡ not (is_masked mask window) }
+    {
+        (mask >> window) & 1 == 0
+    }
+}
+
+#[cfg(test)]
+mod tests {
+    use super::RegFile;
+    use std::process::Abort;
+    use std::test::Fail;
+    use v8_word::Reg;
+
+    /// Goes once round all windows by SAVE and back by RESTORE; `all` is a mask of one bit for each window.
+    fn goes_round<const N: usize>(rt: &impl Abort, all: u32) -> Result<(), Fail>
+        requires few { 4 ≤ N }
+        requires many { N ≤ 32 }
+    {
+        let out = Reg::new(8).ok_or("register")?;
+        let same_as_in = Reg::new(24).ok_or("register")?;
+        let mut file = RegFile::<N>::new();
+        assert_eq!(rt; file.cwp(), 0);
+        assert_eq!(rt; file.wim(), 0);
+        file.set(out, 7);
+        assert!(rt; file.save());
+        assert_eq!(rt; file.cwp() as usize, N - 1);
+        assert_eq!(rt; file.get(same_as_in), 7);
+        for _ in 1..N {
+            assert!(rt; file.save());
+        }
+        assert_eq!(rt; file.cwp(), 0);
+        assert_eq!(rt; file.get(out), 7);
+        for _ in 1..N {
+            assert!(rt; file.restore());
+        }
+        assert_eq!(rt; file.get(same_as_in), 7);
+        assert!(rt; file.restore());
+        assert_eq!(rt; file.get(out), 7);
+        file.set_wim(0xffff_ffff);
+        assert_eq!(rt; file.wim(), all);
+        Ok(())
+    }
+
+    #[test]
+    fn goes_round_any_number_of_windows(rt: HostRuntime) -> Result<(), Fail> {
+        goes_round::<4>(&rt, 0xf)?;
+        goes_round::<8>(&rt, 0xff)?;
+        goes_round::<32>(&rt, 0xffff_ffff)?;
+        Ok(())
+    }
+
+    #[test]
+    fn masks_forbid_windows_but_to_traps(rt: HostRuntime) -> Result<(), Fail> {
+        let mut file = RegFile::<4>::new();
+        let numbers = [(0u8, 0u32), (1, 5), (8, 6), (16, 7), (31, 8)];
+        for (number, word) in numbers {
+            let r = Reg::new(number).ok_or("register")?;
+            file.set(r, 0x1111_1111);
+            file.set(r, word);
+            assert_eq!(rt; file.get(r), word, "at {number}");
+        }
+        file.set_wim(8);
+        assert!(rt; !file.save());
+        file.set_wim(2);
+        assert!(rt; !file.restore());
+        assert!(rt; !file.leave_trap());
+        assert!(rt; !file.set_cwp(4));
+        assert_eq!(rt; file.cwp(), 0);
+        file.set_wim(8);
+        file.enter_trap(0x4_0000, 0x4_0004);
+        assert_eq!(rt; file.cwp(), 3);
+        let pc = Reg::new(17).ok_or("register")?;
+        let npc = Reg::new(18).ok_or("register")?;
+        assert_eq!(rt; file.get(pc), 0x4_0000);
+        assert_eq!(rt; file.get(npc), 0x4_0004);
+        assert!(rt; file.leave_trap());
+        assert_eq!(rt; file.cwp(), 0);
+        assert!(rt; file.set_cwp(2));
+        assert_eq!(rt; file.cwp(), 2);
+        Ok(())
+    }
+}

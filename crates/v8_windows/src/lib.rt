@@ -1,0 +1,7 @@
+// Register windows of SPARC V8: the registers of N windows, the current window and the window invalid mask.
+#![tactic(auto)]
+
+mod file;
+pub mod laws;
+
+pub use file::RegFile;
