@@ -1,0 +1,11 @@
+// The machine turn of SPARC V8: a processor and a bus.
+#![tactic(auto)]
+
+mod access;
+mod machine;
+mod runs;
+mod step;
+mod turn;
+
+pub use machine::Machine;
+pub use turn::{DataAccess, Event, Turn};

@@ -1,0 +1,206 @@
+ghost use Rattle.std.specs.Prelude.{◌≡◌, ℕ, ◌+◌, ◌*◌, ◌/◌, ◌%◌, ◌^◌, ◌<◌, ◌≤◌, ◌↔◌, IsTrue, IfOk, OnErr, if◌then◌else◌};
+ghost use Rattle.v8_mmu.specs.Answers.{Rose};
+ghost use Rattle.v8_windows.specs.Windows.{reg_of, with_reg};
+ghost use Rattle.v8_state.specs.Registers.{booted, cleared, psr_of, psr_window, started_with, tbr_of, trap_base, with_psr, with_wim};
+ghost use Rattle.v8_core.specs.Accesses.{world};
+ghost use Rattle.v8_core.specs.Steps.{next};
+
+use crate::step::{try_one, turn_by};
+use crate::turn::{Event, Turn};
+use v8_mmu::{Bus, MmuRegs, PortFault};
+use v8_state::Cpu;
+use v8_word::Reg;
+
+/// A processor of `N` register windows, 4 to 32, on a bus.
+#[derive(Drop)]
+pub struct Machine<const N: usize, B: Bus> {
+    cpu: Cpu<N>,
+    mmu: MmuRegs,
+    bus: B,
+}
+
+impl<const N: usize, B: Bus> Machine<N, B> {
+    /// A machine that has booted; its other registers and Y are 0.
+    pub fn new(bus: B, mmu: MmuRegs) -> Self
+        requires at_least { 4 ≤ N }
+        requires at_most { N ≤ 32 }
+        ensures cpu { result.cpu ≡ booted N (record { regs = cleared N; control = started_with 0 }) }
+        ensures mmu { result.mmu ≡ mmu }
+        ensures bus { result.bus ≡ bus }
+    {
+        Machine {
+            cpu: Cpu::new(),
+            mmu,
+            bus,
+        }
+    }
+
+    /// Starts a program: window 0, WIM 2, user mode, traps enabled, the trap table at F0000000, %sp 000FFFC0, PC 00040000;
+    /// fault status 0, no annulled instruction, no error mode. Other registers and Y stay, and so does the bus.
+    pub fn boot(&mut self)
+        ensures cpu { self.new.cpu ≡ booted N self.old.cpu }
+        ensures mmu { self.new.mmu ≡ self.old.mmu }
+        ensures bus { self.new.bus ≡ self.old.bus }
+    {
+        self.cpu.boot();
+    }
+
+    /// One turn (chapters 5 to 7). A machine that has stopped or is in error mode tells that again, without a word or an
+    /// access, and changes nothing. On a fault of the bus's port nothing has changed either, page bits included, and the port's
+    /// count of failures rose.
+    #[tactic(auto, unfolding(crate::specs::Steps::next))]
+    pub fn step(&mut self) -> Result<Turn, PortFault>
+        ensures step { IfOk result (λ turn. next B.meaning N self.old.mmu
+            (world N self.old.cpu (B.ram self.old.bus) (B.device self.old.bus))
+            ≡ (turn, world N self.new.cpu (B.ram self.new.bus) (B.device self.new.bus))) }
+        ensures mmu { self.new.mmu ≡ self.old.mmu }
+        ensures cpu { OnErr result (self.new.cpu ≡ self.old.cpu) }
+        ensures ram { OnErr result (B.ram self.new.bus ≡ B.ram self.old.bus) }
+        ensures device { OnErr result (B.device self.new.bus ≡ B.device self.old.bus) }
+        ensures cause { OnErr result (Rose (B.failed self.old.bus) (B.failed self.new.bus)) }
+    {
+        if let Some(stop) = self.bus.stop() {
+            return Ok(turn_by(&self.cpu, Event::Stopped(stop), None, None));
+        }
+        let error = self.cpu.control.error;
+        if let Some(trap) = &error {
+            return Ok(turn_by(&self.cpu, Event::ErrorMode(*trap), None, None));
+        }
+        if self.cpu.control.annul {
+            let turn = turn_by(&self.cpu, Event::Annulled, None, None);
+            self.cpu.control.advance();
+            self.cpu.control.annul = false;
+            return Ok(turn);
+        }
+        try_one(&mut self.cpu, &mut self.bus, &self.mmu)
+    }
+
+    /// A register of the current window.
+    pub fn reg(&self, r: Reg) -> u32
+        ensures { result ≡ reg_of N self.now.cpu.regs r }
+    {
+        self.cpu.regs.get(r)
+    }
+
+    /// Writes a register of the current window; register 0 ignores it.
+    pub fn set_reg(&mut self, r: Reg, x: u32)
+        ensures cpu { self.new.cpu ≡ record self.old.cpu { regs = with_reg N self.old.cpu.regs r x } }
+        ensures mmu { self.new.mmu ≡ self.old.mmu }
+        ensures bus { self.new.bus ≡ self.old.bus }
+    {
+        self.cpu.regs.set(r, x);
+    }
+
+    /// PSR as a word: N 23, Z 22, V 21, C 20, PIL 11:8, S 7, PS 6, ET 5, CWP 4:0 (chapter 4).
+    pub fn psr(&self) -> u32
+        ensures { result ≡ psr_of N self.now.cpu }
+    {
+        self.cpu.psr()
+    }
+
+    /// Writes PSR, whose other bits are ignored; false, with nothing changed, where CWP is at or above `N`.
+    pub fn set_psr(&mut self, word: u32) -> bool
+        ensures answer { IsTrue result ↔ (psr_window word < N) }
+        ensures cpu { self.new.cpu ≡ (if result then with_psr N self.old.cpu word else self.old.cpu) }
+        ensures mmu { self.new.mmu ≡ self.old.mmu }
+        ensures bus { self.new.bus ≡ self.old.bus }
+    {
+        self.cpu.set_psr(word)
+    }
+
+    /// The window invalid mask.
+    pub fn wim(&self) -> u32
+        ensures { result ≡ self.now.cpu.regs.mask }
+    {
+        self.cpu.regs.wim()
+    }
+
+    /// Writes the window invalid mask, whose bits at and above `N` are ignored.
+    pub fn set_wim(&mut self, mask: u32)
+        ensures cpu { self.new.cpu ≡ with_wim N self.old.cpu mask }
+        ensures mmu { self.new.mmu ≡ self.old.mmu }
+        ensures bus { self.new.bus ≡ self.old.bus }
+    {
+        self.cpu.regs.set_wim(mask);
+    }
+
+    /// TBR as a word: TBA 31:12, tt 11:4 (chapter 4).
+    pub fn tbr(&self) -> u32
+        ensures { result ≡ tbr_of self.now.cpu.control }
+    {
+        self.cpu.control.tbr()
+    }
+
+    /// Writes TBA and tt; TBR has no other bits.
+    pub fn set_tbr(&mut self, word: u32)
+        ensures cpu { self.new.cpu ≡ record self.old.cpu { control = record self.old.cpu.control { base = trap_base word; tt = word / 2 ^ 4 % 2 ^ 8 } } }
+        ensures mmu { self.new.mmu ≡ self.old.mmu }
+        ensures bus { self.new.bus ≡ self.old.bus }
+    {
+        self.cpu.control.set_tbr(word);
+    }
+
+    /// Y, the multiply and divide register.
+    pub fn y(&self) -> u32
+        ensures { result ≡ self.now.cpu.control.y }
+    {
+        self.cpu.control.y
+    }
+
+    /// Writes Y.
+    pub fn set_y(&mut self, word: u32)
+        ensures cpu { self.new.cpu ≡ record self.old.cpu { control = record self.old.cpu.control { y = word } } }
+        ensures mmu { self.new.mmu ≡ self.old.mmu }
+        ensures bus { self.new.bus ≡ self.old.bus }
+    {
+        self.cpu.control.y = word;
+    }
+
+    /// PC, the address of the instruction that comes next.
+    pub fn pc(&self) -> u32
+        ensures { result ≡ self.now.cpu.control.pc }
+    {
+        self.cpu.control.pc
+    }
+
+    /// Writes PC, a multiple of 4.
+    pub fn set_pc(&mut self, place: u32)
+        requires { place % 4 ≡ 0 }
+        ensures cpu { self.new.cpu ≡ record self.old.cpu { control = record self.old.cpu.control { pc = place } } }
+        ensures mmu { self.new.mmu ≡ self.old.mmu }
+        ensures bus { self.new.bus ≡ self.old.bus }
+    {
+        self.cpu.control.pc = place;
+    }
+
+    /// nPC, the address of the instruction after the next.
+    pub fn npc(&self) -> u32
+        ensures { result ≡ self.now.cpu.control.npc }
+    {
+        self.cpu.control.npc
+    }
+
+    /// Writes nPC, a multiple of 4.
+    pub fn set_npc(&mut self, place: u32)
+        requires { place % 4 ≡ 0 }
+        ensures cpu { self.new.cpu ≡ record self.old.cpu { control = record self.old.cpu.control { npc = place } } }
+        ensures mmu { self.new.mmu ≡ self.old.mmu }
+        ensures bus { self.new.bus ≡ self.old.bus }
+    {
+        self.cpu.control.npc = place;
+    }
+
+    /// The fault status of the most recent refused access, or 0: L 9:8, AT 7:5, FT 4:2, FAV 1 (appendix H).
+    pub fn fault_status(&self) -> u32
+        ensures { result ≡ self.now.cpu.control.status }
+    {
+        self.cpu.control.status
+    }
+
+    /// The bus.
+    pub fn bus(&self) -> &B
+        ensures { result.now ≡ self.now.bus }
+    {
+        &self.bus
+    }
+}

@@ -1,0 +1,9 @@
+// The processor's state, and what an instruction that reaches no memory does to it.
+#![tactic(auto)]
+
+mod effects;
+mod registers;
+mod state;
+mod traps;
+
+pub use state::{Control, Cpu};
