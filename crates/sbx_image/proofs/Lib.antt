@@ -2,3 +2,4 @@ pub mod Loops
 pub mod Fields
 pub mod TakesLaws
 pub mod Limits
+pub mod Appends

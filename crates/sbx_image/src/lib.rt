@@ -11,6 +11,7 @@ mod order;
 mod parts;
 mod reading;
 mod services;
+mod writing;
 
 pub use fault::ImageFault;
 pub use image::Image;
@@ -18,3 +19,7 @@ pub use items::Items;
 pub use parts::{Block, Cell, Function, Kind, Parts, Range, Term};
 pub use reading::parse;
 pub use services::Services;
+pub use writing::write;
+
+#[cfg(test)]
+mod tests;

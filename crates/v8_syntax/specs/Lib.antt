@@ -1,0 +1,3 @@
+pub mod Natives
+pub mod Mnemonics
+pub mod Text
