@@ -1,4 +1,5 @@
 ghost use Rattle.std.specs.Prelude.{◌≡◌, ℕ, ◌+◌, ◌*◌, ◌/◌, ◌%◌, ◌^◌, ◌<◌, ◌≤◌, ◌↔◌, IsTrue, IfOk, OnErr, if◌then◌else◌};
+ghost use Rattle.std.specs.Borrow.{sem};
 ghost use Rattle.v8_mmu.specs.Answers.{Rose};
 ghost use Rattle.v8_windows.specs.Windows.{reg_of, with_reg};
 ghost use Rattle.v8_state.specs.Registers.{booted, cleared, psr_of, psr_window, started_with, tbr_of, trap_base, with_psr, with_wim};
@@ -20,6 +21,8 @@ pub struct Machine<const N: usize, B: Bus> {
 }
 
 impl<const N: usize, B: Bus> Machine<N, B> {
+    ghost use Rattle.v8_core.specs.Lending.{lends_bus};
+
     /// A machine that has booted; its other registers and Y are 0.
     pub fn new(bus: B, mmu: MmuRegs) -> Self
         requires at_least { 4 ≤ N }
@@ -216,5 +219,13 @@ impl<const N: usize, B: Bus> Machine<N, B> {
         ensures { result.now ≡ self.now.bus }
     {
         &self.bus
+    }
+
+    /// The bus, to be written to. The machine then goes on with the bus as it was left; the rest of the machine stays.
+    pub fn bus_mut(&mut self) -> &mut B
+        ensures* writes_back { sem 𝓛 (lends_bus N.row B.row self.entry result) }
+        ensures value { result.now ≡ self.old.bus }
+    {
+        &mut self.bus
     }
 }
