@@ -1,0 +1,101 @@
+-- RAM with everything placed in it.
+use Rattle.std.proofs.Common.{◌≡◌, ℕ, ◌+◌, ◌-◌, ◌*◌, ◌/◌, ◌%◌, ◌<◌, ◌≤◌, ◌⊎◌, inl, inr, Bool, true, false, cond, List, length, take, drop, get_or, slice_index, Option, Some, None, refl, sym, ap, ◌∙◌, arith}
+use Rattle.std.specs.Prelude.{◌==◌, ◌&&◌, nat_le, if◌then◌else◌}
+use Rattle.std.specs.Int.{w32, from_be_bytes}
+use Rattle.std.proofs.lemmas.Bool.Decides.{nat_tests}
+use Rattle.std.proofs.lemmas.List.{get_or-take, get_or-drop, length-take, length-drop}
+use Rattle.std.proofs.lemmas.Grind.{same_number_lists}
+use Rattle.sbx_image.specs.declared.parts.Parts.{Parts}
+use Rattle.v8_mmu.specs.Ram.{entry_of}
+use Rattle.v8_handlers.specs.Handlers.{trap_word, handler_word}
+use Rattle.v8_layout.specs.Layout.{Pages, AreFew, HasTables, IsLoaded}
+use Rattle.v8_layout.specs.Laws.{IsMapped}
+use Rattle.v8_layout.specs.Tables.{table_word}
+use Rattle.v8_layout.proofs.Map.{tables_map}
+use Rattle.v8_layout.proofs.Words.{words_make_tables}
+use Rattle.v8_memory.specs.Placing.{HasWords, HasBytesOf}
+use Rattle.v8_board.specs.Start.{IsPlaced, at_most, pages_of}
+
+-- ---- words that are the same by their bytes
+
+four_same : (old new : List ℕ) (p : ℕ) → length new ≡ length old → ((j : ℕ) → p ≤ j → j < p + 4 → slice_index new j ≡ slice_index old j) → take 4 (drop p new) ≡ take 4 (drop p old)
+four_same old new p size same =
+    same_number_lists (take 4 (drop p new)) (take 4 (drop p old))
+    (omega (arith, length-take 4 (drop p new), length-take 4 (drop p old), length-drop p new, length-drop p old))
+    (λ k less.
+    let few : k < 4 = omega (arith, length-take 4 (drop p new)) in
+    get_or-take 4 (drop p new) k 0 few ∙ get_or-drop p new k 0 ∙ same (p + k) (omega arith) (omega arith)
+    ∙ sym (get_or-drop p old k 0) ∙ sym (get_or-take 4 (drop p old) k 0 few))
+
+word_by : List ℕ → ℕ → ℕ → Option ℕ
+word_by bytes len p = if p % 4 == 0 && nat_le (p + 4) len then Some (from_be_bytes w32 bytes) else None
+
+entry_by : (ram : List ℕ) (p : ℕ) → entry_of ram p ≡ word_by (take 4 (drop p ram)) (length ram) p
+unfolding entry_of word_by
+entry_by ram p = refl
+
+pub word_kept : (old new : List ℕ) (p : ℕ) → length new ≡ length old → ((j : ℕ) → p ≤ j → j < p + 4 → slice_index new j ≡ slice_index old j) → entry_of new p ≡ entry_of old p
+word_kept old new p size same =
+    entry_by new p ∙ ap (λ b. word_by b (length new) p) (four_same old new p size same) ∙ ap (λ l. word_by (take 4 (drop p old)) l p) size ∙ sym (entry_by old p)
+
+below_words : (at c p : ℕ) (ws old new : List ℕ) → HasWords at ws c old new → p + 4 ≤ at → entry_of new p ≡ entry_of old p
+below_words at c p ws old new h under = word_kept old new p h.size (λ j low high. h.others j (inl (omega arith)))
+
+below_bytes : (at c p : ℕ) (bs old new : List ℕ) → HasBytesOf at bs c old new → p + 4 ≤ at → entry_of new p ≡ entry_of old p
+below_bytes at c p bs old new h under = word_kept old new p h.size (λ j low high. h.others j (inl (omega arith)))
+
+-- ---- the pages of an image
+
+most_is : (most n : ℕ) → at_most most n ≤ most
+most_is most n = by_test (nat_le n most) refl
+  where
+    by_test : (b : Bool) → nat_le n most ≡ b → cond b n most ≤ most
+    by_test true e = grind (arith, nat_tests)
+    by_test false e = omega arith
+
+pub pages_few : (p : Parts) → AreFew (pages_of p)
+unfolding pages_of
+pages_few p =
+    record {
+      code = most_is 64 ((length p.words + 1023) / 1024);
+      data_pages = most_is 64 ((length p.bytes + 4095) / 4096);
+      stack = most_is 16 p.stack_pages;
+    }
+
+-- ---- one part after the other
+
+pub placed : (n : ℕ) (p : Parts) (cc dc : ℕ) (t h w m0 m1 m2 m3 m4 m5 : List ℕ) →
+    (pages_of p).code_count ≡ cc → (pages_of p).data_count ≡ dc → length m5 ≡ 0x100000 →
+    ((k : ℕ) → k < 1024 → slice_index t k ≡ trap_word k) → ((k : ℕ) → k < 1024 → slice_index h k ≡ handler_word n k) → ((k : ℕ) → k < 896 → slice_index w k ≡ table_word (pages_of p) k) →
+    HasWords 0 t 1024 m0 m1 → HasWords 0x1000 h 1024 m1 m2 → HasWords 0x2000 w 896 m2 m3 → HasWords 0x10000 p.words (1024 * cc) m3 m4 → HasBytesOf 0x50000 p.bytes (4096 * dc) m4 m5 → IsPlaced n p m0 m5
+placed n p cc dc t h w m0 m1 m2 m3 m4 m5 codes bytes size trap handler tables a b c d e =
+    let few = pages_few p in
+    let few_code : cc ≤ 64 = (let f = few.code in omega arith) in
+    let few_data : dc ≤ 64 = (let f = few.data_pages in omega arith) in
+    record {
+      size = size;
+      trap = λ k less.
+          below_bytes 0x50000 (4096 * dc) (4 * k) p.bytes m4 m5 e (omega arith) ∙ below_words 0x10000 (1024 * cc) (4 * k) p.words m3 m4 d (omega arith)
+          ∙ below_words 0x2000 896 (4 * k) w m2 m3 c (omega arith) ∙ below_words 0x1000 1024 (4 * k) h m1 m2 b (omega arith)
+          ∙ (let sum : 4 * k ≡ 0 + 4 * k = omega arith in ap (entry_of m1) sum) ∙ a.words_are k less ∙ ap Some (trap k less);
+      handler = λ k less.
+          below_bytes 0x50000 (4096 * dc) (0x1000 + 4 * k) p.bytes m4 m5 e (omega arith) ∙ below_words 0x10000 (1024 * cc) (0x1000 + 4 * k) p.words m3 m4 d (omega arith)
+          ∙ below_words 0x2000 896 (0x1000 + 4 * k) w m2 m3 c (omega arith) ∙ b.words_are k less ∙ ap Some (handler k less);
+      tables = λ k less.
+          below_bytes 0x50000 (4096 * dc) (0x2000 + 4 * k) p.bytes m4 m5 e (omega arith) ∙ below_words 0x10000 (1024 * cc) (0x2000 + 4 * k) p.words m3 m4 d (omega arith)
+          ∙ c.words_are k less ∙ ap Some (tables k less);
+      code = λ i less. below_bytes 0x50000 (4096 * dc) (0x10000 + 4 * i) p.bytes m4 m5 e (omega arith) ∙ d.words_are i (omega arith);
+      bytes = λ i less. e.bytes_are i (omega arith);
+      stack = λ i high. e.others i (inr (omega arith)) ∙ d.others i (inr (omega arith)) ∙ c.others i (inr (omega arith)) ∙ b.others i (inr (omega arith)) ∙ a.others i (inr (omega arith));
+    }
+
+-- ---- what was placed is loaded
+
+pub placed_tables : (n : ℕ) (p : Parts) (old new : List ℕ) → IsPlaced n p old new → HasTables (pages_of p) new
+placed_tables n p old new h = words_make_tables (pages_of p) new h.size h.tables
+
+pub placed_loaded : (n : ℕ) (p : Parts) (old new : List ℕ) → IsPlaced n p old new → IsLoaded n (pages_of p) p.words new
+placed_loaded n p old new h = record { tables = placed_tables n p old new h; trap = h.trap; handler = h.handler; code = h.code }
+
+pub placed_maps : (n : ℕ) (p : Parts) (old new : List ℕ) → IsPlaced n p old new → IsMapped (pages_of p) new
+placed_maps n p old new h = tables_map (pages_of p) new (pages_few p) (placed_tables n p old new h)

@@ -1,0 +1,7 @@
+use Rattle.v8_board.proofs.Placed.{placed_maps}
+use Rattle.v8_board.proofs.board.Board.load.Goals as goal
+
+pub returns-clause-map : goal.returns-clause-map
+returns-clause-map g c =
+    let maps = placed_maps g.row.N c.args.image.now _ _ c.place.ensures.ram in
+    rw c.boot.ensures.bus maps

@@ -1,0 +1,5 @@
+pub mod Counting
+pub mod Seen
+pub mod Runs
+pub mod Start
+pub mod Marks

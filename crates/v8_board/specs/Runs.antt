@@ -1,0 +1,37 @@
+-- Runs of a board.
+use Rattle.std.specs.Prelude.{ℕ, zero, suc, ◌≡◌, ◌<◌, ◌≤◌, Option, Some, None}
+use Rattle.v8_board.specs.declared.outcome.Ending.{Ending}
+use Rattle.v8_board.specs.declared.outcome.Ending.TheVariants as endings
+use Rattle.v8_board.specs.declared.outcome.Outcome.{Outcome}
+use Rattle.v8_board.specs.Seen.{State, ending_of, turned}
+
+-- the state after so many turns
+abbrev pub after : (n : ℕ) → ℕ → State n → State n
+after n zero s = s
+after n (suc k) s = (turned n (after n k s)).1
+
+-- some turns lead from one state to the other, and the machine had not ended before any of them
+pub record Turns (n : ℕ) (old new : State n) : Type 0 where
+  pub count : ℕ
+  pub running : (j : ℕ) → j < count → ending_of n (after n j old).world ≡ None
+  pub is : new ≡ after n count old
+
+-- a run of at most so many turns, which stops before the limit only at an end
+pub record IsRun (n limit : ℕ) (old new : State n) : Type 0 where
+  pub turns : Turns n old new
+  pub within : turns.count ≤ limit
+  pub whole : ending_of n new.world ≡ None → turns.count ≡ limit
+
+abbrev pub ending_or_limit : Option Ending → Ending
+ending_or_limit (Some e) = e
+ending_or_limit None = endings.Limit
+
+-- what is told of a run that ends in this state
+unfoldable pub outcome_of : (n : ℕ) → State n → Outcome
+outcome_of n s =
+    record {
+      ending = ending_or_limit (ending_of n s.world);
+      turns = s.counts.turns;
+      overflows = s.counts.overflows;
+      underflows = s.counts.underflows;
+    }

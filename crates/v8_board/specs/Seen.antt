@@ -1,0 +1,51 @@
+-- What a board is seen as: its processor, RAM and device, the MMU's registers, and the counts of its run.
+use Rattle.std.specs.Prelude.{ℕ, Bool, true, false, List, Option, Some, None}
+use Rattle.v8_mmu.specs.declared.bus.Stop.{Stop}
+use Rattle.v8_mmu.specs.declared.bus.Stop.TheVariants as stops
+use Rattle.v8_mmu.specs.declared.translation.MmuRegs.{MmuRegs}
+use Rattle.v8_core.specs.declared.turn.Event.{Event}
+use Rattle.v8_core.specs.declared.turn.Turn.{Turn}
+use Rattle.v8_core.specs.Accesses.{World}
+use Rattle.v8_core.specs.Steps.{next}
+use Rattle.v8_memory.specs.Board.{Device, board}
+use Rattle.v8_board.specs.declared.outcome.Counts.{Counts}
+use Rattle.v8_board.specs.declared.outcome.Ending.{Ending}
+use Rattle.v8_board.specs.declared.outcome.Ending.TheVariants as endings
+use Rattle.v8_board.specs.Counting.{counts_after}
+
+-- the state of a board of n windows
+pub record State (n : ℕ) : Type 0 where
+  pub world : World n Device
+  pub mmu : MmuRegs
+  pub counts : Counts
+
+-- with how often its port has failed
+pub record Seen (n : ℕ) : Type 0 where
+  pub state : State n
+  pub failed : ℕ
+
+-- ---- ends
+
+abbrev pub error_ending : Option ℕ → Option Ending
+error_ending (Some t) = Some (endings.ErrorMode t)
+error_ending None = None
+
+abbrev pub ending_by : Option Stop → ℕ → Option ℕ → Option Ending
+ending_by (Some (stops.Exit x)) t error = Some (endings.Exit x)
+ending_by (Some stops.Trapped) t error = Some (endings.Trapped t)
+ending_by None t error = error_ending error
+
+-- how the machine has ended: with an exit status, by a trap that no handler serves (TBR tells which), or in error mode
+unfoldable pub ending_of : (n : ℕ) → World n Device → Option Ending
+ending_of n w = ending_by w.memory.device.stopped w.cpu.control.tt w.cpu.control.error
+
+-- a turn of a machine that has ended counts nothing
+abbrev pub counts_unless : Option Ending → Event → Counts → Counts
+counts_unless None event c = counts_after event c
+counts_unless (Some e) event c = c
+
+-- one machine turn
+unfoldable pub turned : (n : ℕ) → State n → Turn × State n
+turned n s =
+    let t = next board n s.mmu s.world in
+    (t.0, record s { world = t.1; counts = counts_unless (ending_of n s.world) t.0.event s.counts })

@@ -1,0 +1,57 @@
+-- What a board is when it is made, and when an image has been loaded.
+use Rattle.std.specs.Prelude.{ℕ, ◌≡◌, ◌+◌, ◌*◌, ◌/◌, ◌<◌, ◌≤◌, nat_le, Bool, false, List, length, slice_index, Option, Some, None, if◌then◌else◌}
+use Rattle.sbx_image.specs.declared.parts.Parts.{Parts}
+use Rattle.v8_mmu.specs.Ram.{entry_of}
+use Rattle.v8_mmu.specs.Walked.{root_of}
+use Rattle.v8_state.specs.Registers.{booted, cleared, started_with}
+use Rattle.v8_handlers.specs.Handlers.{trap_word, handler_word}
+use Rattle.v8_layout.specs.Layout.{Pages}
+use Rattle.v8_layout.specs.Tables.{table_word}
+use Rattle.v8_memory.specs.Board.{Device, IsBlank, seen}
+use Rattle.v8_board.specs.declared.outcome.Counts.{Counts}
+use Rattle.v8_board.specs.Seen.{State}
+
+abbrev pub no_counts : Counts
+no_counts = record { turns = 0; overflows = 0; underflows = 0 }
+
+-- a board as it is made: booted, with no image; every other register and every byte of RAM is 0
+pub record IsNew (n : ℕ) (input output : List ℕ) (s : State n) : Type 0 where
+  pub cpu : s.world.cpu ≡ booted n (record { regs = cleared n; control = started_with 0 })
+  pub ram : IsBlank s.world.memory.ram
+  pub device : s.world.memory.device ≡ seen input false output None
+  pub mmu : root_of s.mmu ≡ 0x2000
+  pub counts : s.counts ≡ no_counts
+
+-- ---- an image in RAM
+
+abbrev pub at_most : ℕ → ℕ → ℕ
+at_most most n = if nat_le n most then n else most
+
+-- the pages that an image takes: as many as hold its code words and data bytes, and its pages of stack. No image takes more than
+-- 64 pages of code, 64 of data and 16 of stack.
+unfoldable pub pages_of : Parts → Pages
+pages_of p =
+    record {
+      code_count = at_most 64 ((length p.words + 1023) / 1024);
+      data_count = at_most 64 ((length p.bytes + 4095) / 4096);
+      stack_count = at_most 16 p.stack_pages;
+    }
+
+-- Trap table, handlers, tables, code and data; the rest of the last code page and of the last data page is 0. The bytes of the
+-- stack, and all above them, are as before.
+pub record IsPlaced (n : ℕ) (p : Parts) (old new : List ℕ) : Type 0 where
+  pub size : length new ≡ 0x100000
+  pub trap : (k : ℕ) → k < 1024 → entry_of new (4 * k) ≡ Some (trap_word k)
+  pub handler : (k : ℕ) → k < 1024 → entry_of new (0x1000 + 4 * k) ≡ Some (handler_word n k)
+  pub tables : (k : ℕ) → k < 896 → entry_of new (0x2000 + 4 * k) ≡ Some (table_word (pages_of p) k)
+  pub code : (i : ℕ) → i < 1024 * (pages_of p).code_count → entry_of new (0x10000 + 4 * i) ≡ Some (slice_index p.words i)
+  pub bytes : (i : ℕ) → i < 4096 * (pages_of p).data_count → slice_index new (0x50000 + i) ≡ slice_index p.bytes i
+  pub stack : (i : ℕ) → 0x90000 ≤ i → slice_index new i ≡ slice_index old i
+
+-- The state in which an image starts. Registers but those that booting sets, and Y, are as before.
+pub record IsStart (n : ℕ) (p : Parts) (old new : State n) : Type 0 where
+  pub cpu : new.world.cpu ≡ booted n old.world.cpu
+  pub ram : IsPlaced n p old.world.memory.ram new.world.memory.ram
+  pub device : new.world.memory.device ≡ record old.world.memory.device { ended = false; stopped = None }
+  pub mmu : new.mmu ≡ old.mmu
+  pub counts : new.counts ≡ no_counts

@@ -1,0 +1,236 @@
+ghost use Rattle.std.specs.Prelude.{◌≡◌, ℕ, ◌+◌, ◌-◌, ◌*◌, ◌%◌, ◌^◌, ◌<◌, ◌≤◌, IfOk, OnErr, IsSome, Option, Some, None, List};
+ghost use Rattle.v8_mmu.specs.Answers.{Rose};
+ghost use Rattle.v8_mmu.specs.Ram.{entry_of};
+ghost use Rattle.v8_mmu.specs.Walked.{root_of};
+ghost use Rattle.v8_state.specs.Registers.{psr_of};
+ghost use Rattle.v8_windows.specs.Windows.{reg_of};
+ghost use Rattle.v8_layout.specs.Laws.{IsMapped};
+
+use crate::outcome::{Counts, Ending, Outcome};
+use crate::page_use::{PageUse, page_use_of};
+use crate::placing::place;
+use sbx_image::Image;
+use std::alloc::{AllocError, Global};
+use std::marker::Model;
+use v8_core::{Machine, Turn};
+use v8_memory::{Memory, Port};
+use v8_mmu::{Bus, MmuRegs, PortFault, Stop};
+use v8_word::Reg;
+
+/// Where the context table lies.
+const CONTEXTS: u64 = 0x2000;
+
+/// A machine of `N` register windows, 4 to 32, with RAM of 1 MiB and a device over a port.
+#[derive(Drop)]
+pub struct Board<const N: usize, P: Port> {
+    machine: Machine<N, Memory<P>>,
+    counts: Counts,
+}
+
+impl<const N: usize, P: Port> Model for Board<N, P> {
+    ghost use Rattle.std.specs.Prelude.{◌≡◌, ℕ, ◌≤◌};
+    ghost use Rattle.v8_core.specs.Accesses.{world};
+    ghost use Rattle.v8_mmu.specs.Walked.{root_of};
+    ghost use Rattle.v8_memory.specs.Board.{seen};
+    ghost use Rattle.v8_board.specs.Seen.{Seen};
+
+    ghost Value = { Seen N };
+
+    ghost view = { λ b. record {
+      state = record {
+        world = world N b.machine.cpu b.machine.bus.ram (seen (P.input b.machine.bus.port) b.machine.bus.ended (P.output b.machine.bus.port) b.machine.bus.stopped);
+        mmu = b.machine.mmu;
+        counts = b.counts;
+      };
+      failed = P.failed b.machine.bus.port;
+    } };
+
+    ghost invariant = { λ b. (4 ≤ N) × (N ≤ 32) × (root_of b.machine.mmu ≡ 0x2000) };
+}
+
+impl<const N: usize, P: Port> Board<N, P> {
+    ghost use Rattle.v8_board.specs.Seen.{ending_of, turned};
+    ghost use Rattle.v8_board.specs.Runs.{IsRun, Turns, ending_or_limit, outcome_of};
+    ghost use Rattle.v8_board.specs.Start.{IsNew, IsStart, pages_of};
+    ghost use Rattle.v8_board.specs.Marks.{page_use_of};
+
+    /// A board with RAM of zeros and no image: it has booted, and every other register is 0. A refusal of memory drops the port.
+    pub fn new(alloc: Global, port: P) -> Result<Self, AllocError>
+        requires at_least { 4 ≤ N }
+        requires at_most { N ≤ 32 }
+        ensures made { IfOk result (λ board. IsNew N (P.input port) (P.output port) board.state) }
+        ensures failed { IfOk result (λ board. board.failed ≡ P.failed port) }
+    {
+        match Memory::new(alloc, port) {
+            Ok(memory) => Ok(Board {
+                machine: Machine::new(
+                    memory,
+                    MmuRegs {
+                        table: CONTEXTS,
+                        context: 0,
+                    },
+                ),
+                counts: Counts::NONE,
+            }),
+            Err(refused) => Err(refused),
+        }
+    }
+
+    /// Loads an image and boots: trap table, handlers and page tables, the image's code and data, and 0 in the rest of their last
+    /// pages. The device's stop and the end of its input are taken back, and the counts begin at 0. Registers that booting leaves,
+    /// Y and the stack's bytes stay as they were.
+    pub fn load(&mut self, image: &Image)
+        ensures start { IsStart N image.now self.old.state self.new.state }
+        ensures map { IsMapped (pages_of image.now) self.new.state.world.memory.ram }
+        ensures root { root_of self.new.state.mmu ≡ 0x2000 }
+        ensures failed { self.new.failed ≡ self.old.failed }
+    {
+        place::<N, P>(self.machine.bus_mut(), image);
+        self.machine.boot();
+        self.counts = Counts::NONE;
+    }
+
+    /// How the machine has ended, if it has.
+    #[tactic(auto, unfolding(crate::specs::Seen::ending_of))]
+    fn ending(&self) -> Option<Ending>
+        ensures { result ≡ ending_of N self.now.state.world }
+    {
+        match self.machine.bus().stop() {
+            Some(Stop::Exit(status)) => Some(Ending::Exit(status)),
+            Some(Stop::Trapped) => Some(Ending::Trapped(self.machine.trap_type())),
+            None => match &self.machine.error_mode() {
+                Some(trap) => Some(Ending::ErrorMode(*trap)),
+                None => None,
+            },
+        }
+    }
+
+    /// A turn of a machine that has not ended.
+    #[tactic(auto, unfolding(crate::specs::Seen::turned))]
+    fn turn(&mut self) -> Result<Turn, PortFault>
+        requires { ending_of N self.old.state.world ≡ None }
+        ensures turn { IfOk result (λ turn. turned N self.old.state ≡ (turn, self.new.state)) }
+        ensures state { OnErr result (self.new.state ≡ self.old.state) }
+        ensures cause { OnErr result (Rose self.old.failed self.new.failed) }
+    {
+        match self.machine.step() {
+            Ok(turn) => {
+                self.counts.count(&turn.event);
+                Ok(turn)
+            }
+            Err(fault) => Err(fault),
+        }
+    }
+
+    /// A turn of a machine that has ended, which tells the end again.
+    #[tactic(auto, unfolding(crate::specs::Seen::turned))]
+    fn repeat(&mut self) -> Result<Turn, PortFault>
+        requires { IsSome (ending_of N self.old.state.world) }
+        ensures turn { IfOk result (λ turn. turned N self.old.state ≡ (turn, self.new.state)) }
+        ensures state { OnErr result (self.new.state ≡ self.old.state) }
+        ensures cause { OnErr result (Rose self.old.failed self.new.failed) }
+    {
+        self.machine.step()
+    }
+
+    /// One turn, which is counted unless the machine has ended. On a fault of the port nothing has changed, page bits included, and
+    /// the port's count of failures rose. Where no word of the page tables changes but in R and M, addresses translate as before.
+    pub fn step(&mut self) -> Result<Turn, PortFault>
+        ensures turn { IfOk result (λ turn. turned N self.old.state ≡ (turn, self.new.state)) }
+        ensures state { OnErr result (self.new.state ≡ self.old.state) }
+        ensures cause { OnErr result (Rose self.old.failed self.new.failed) }
+    {
+        match self.ending() {
+            None => self.turn(),
+            Some(_end) => self.repeat(),
+        }
+    }
+
+    /// What is told of a run that stops here.
+    #[tactic(auto, unfolding(crate::specs::Runs::outcome_of))]
+    fn outcome(&self) -> Outcome
+        ensures { result ≡ outcome_of N self.now.state }
+    {
+        let counts = self.counts;
+        let ending = match self.ending() {
+            Some(ending) => ending,
+            None => Ending::Limit,
+        };
+        Outcome {
+            ending,
+            turns: counts.turns,
+            overflows: counts.overflows,
+            underflows: counts.underflows,
+        }
+    }
+
+    /// Runs to an end, but at most so many turns. After an end it tells that end again. On a fault of the port the board stands
+    /// after the last whole turn, and may go on from there.
+    pub fn run(&mut self, limit: u64) -> Result<Outcome, PortFault>
+        ensures run { IfOk result (λ told. IsRun N limit self.old.state self.new.state) }
+        ensures told { IfOk result (λ told. told ≡ outcome_of N self.new.state) }
+        ensures stands { OnErr result (Turns N self.old.state self.new.state) }
+    {
+        for done in 0..limit {
+            let None = self.ending() else {
+                return Ok(self.outcome());
+            };
+            match self.turn() {
+                Ok(_turn) => {}
+                Err(fault) => return Err(fault),
+            }
+        }
+        Ok(self.outcome())
+    }
+
+    /// Which pages of code, data and stack were referenced and modified.
+    pub fn page_use(&self) -> PageUse
+        ensures { result ≡ page_use_of self.now.state.world.memory.ram }
+    {
+        page_use_of(self.machine.bus())
+    }
+
+    /// The fault status of the most recent refused access, or 0: L 9:8, AT 7:5, FT 4:2, FAV 1 (appendix H).
+    pub fn fault_status(&self) -> u32
+        ensures { result ≡ self.now.state.world.cpu.control.status }
+    {
+        self.machine.fault_status()
+    }
+
+    /// A register of the current window.
+    pub fn reg(&self, r: Reg) -> u32
+        ensures { result ≡ reg_of N self.now.state.world.cpu.regs r }
+    {
+        self.machine.reg(r)
+    }
+
+    /// PSR as a word.
+    pub fn psr(&self) -> u32
+        ensures { result ≡ psr_of N self.now.state.world.cpu }
+    {
+        self.machine.psr()
+    }
+
+    /// The window invalid mask.
+    pub fn wim(&self) -> u32
+        ensures { result ≡ self.now.state.world.cpu.regs.mask }
+    {
+        self.machine.wim()
+    }
+
+    /// The word of RAM that begins at a physical address, a multiple of 4; None elsewhere.
+    pub fn entry(&self, pa: u64) -> Option<u32>
+        ensures { result ≡ entry_of self.now.state.world.memory.ram pa }
+    {
+        self.machine.bus().word(pa)
+    }
+
+    /// The port.
+    pub fn port(&self) -> &P
+        ensures input { P.input result.now ≡ self.now.state.world.memory.device.input }
+        ensures output { P.output result.now ≡ self.now.state.world.memory.device.output }
+        ensures failed { P.failed result.now ≡ self.now.failed }
+    {
+        self.machine.bus().port()
+    }
+}

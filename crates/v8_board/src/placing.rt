@@ -1,0 +1,73 @@
+ghost use Rattle.std.specs.Prelude.{◌≡◌, ℕ, ◌+◌, ◌-◌, ◌*◌, ◌/◌, ◌^◌, ◌<◌, ◌≤◌, length, false, None};
+ghost use Rattle.v8_board.specs.Start.{IsPlaced, at_most, pages_of};
+
+use sbx_image::Image;
+use v8_handlers::{handler_page, trap_table};
+use v8_layout::{PageCounts, page_tables};
+use v8_memory::{Memory, Port};
+
+/// How many pages of so many items hold a number of items, at most `most`.
+fn pages(count: u64, items: u64, most: u64) -> u64
+    requires some { 1 ≤ items }
+    requires small { items ≤ 4096 }
+    requires count { count < 2 ^ 63 }
+    ensures value { result ≡ at_most most ((count + (items - 1)) / items) }
+    ensures bound { result ≤ most }
+{
+    let pages = (count + (items - 1)) / items;
+    if pages <= most { pages } else { most }
+}
+
+fn at_most(most: u32, count: u32) -> u32
+    ensures value { result ≡ at_most most count }
+    ensures bound { result ≤ most }
+{
+    if count <= most { count } else { most }
+}
+
+/// The pages that an image takes.
+#[tactic(auto, unfolding(crate::specs::Start::pages_of))]
+fn pages_of(image: &Image) -> PageCounts
+    ensures { record { code_count = result.code; data_count = result.bytes; stack_count = result.stack } ≡ pages_of image.now }
+{
+    let code = pages(image.words().len() as u64, 1024, 64);
+    let bytes = pages(image.bytes().len() as u64, 4096, 64);
+    PageCounts {
+        code: code as u32,
+        bytes: bytes as u32,
+        stack: at_most(16, u32::from(image.stack_pages())),
+    }
+}
+
+/// How many words of code are placed.
+fn code_words(counts: &PageCounts) -> u64
+    ensures { result ≡ 1024 * counts.now.code }
+{
+    1024 * u64::from(counts.code)
+}
+
+/// How many bytes of data are placed.
+fn data_bytes(counts: &PageCounts) -> u64
+    ensures { result ≡ 4096 * counts.now.bytes }
+{
+    4096 * u64::from(counts.bytes)
+}
+
+/// Places the trap table, the handlers, the tables and an image's code and data in RAM, and takes back the device's stop and the end
+/// of its input.
+pub(crate) fn place<const N: usize, P: Port>(memory: &mut Memory<P>, image: &Image)
+    requires at_least { 4 ≤ N }
+    requires at_most { N ≤ 32 }
+    ensures ram { IsPlaced N image.now memory.old.ram memory.new.ram }
+    ensures port { memory.new.port ≡ memory.old.port }
+    ensures ended { memory.new.ended ≡ false }
+    ensures stopped { memory.new.stopped ≡ None }
+{
+    let counts = pages_of(image);
+    memory.set_words(0, &trap_table::<N>(), 1024);
+    memory.set_words(0x1000, &handler_page::<N>(), 1024);
+    memory.set_words(0x2000, &page_tables(&counts), 896);
+    memory.set_words(0x1_0000, image.words(), code_words(&counts));
+    memory.set_bytes(0x5_0000, image.bytes(), data_bytes(&counts));
+    memory.restart();
+}
