@@ -3,3 +3,4 @@ pub mod Fields
 pub mod TakesLaws
 pub mod Limits
 pub mod Appends
+pub mod Eaches
