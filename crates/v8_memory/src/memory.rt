@@ -1,4 +1,4 @@
-ghost use Rattle.std.specs.Prelude.{◌≡◌, ℕ, ◌+◌, ◌*◌, ◌%◌, ◌-◌, ◌^◌, ◌<◌, ◌≤◌, [], IfOk, OnOk, OnErr, None, false, Option};
+ghost use Rattle.std.specs.Prelude.{◌≡◌, ℕ, ◌+◌, ◌*◌, ◌%◌, ◌-◌, ◌^◌, ◌<◌, ◌≤◌, [], length, IfOk, OnOk, OnErr, None, false, Option};
 ghost use Rattle.v8_mmu.specs.Answers.{OnPort, OnUnanswered, Rose};
 ghost use Rattle.v8_memory.specs.Placing.{HasWords, HasBytesOf};
 ghost use Rattle.v8_mmu.specs.Ram.{entry_of};
@@ -69,6 +69,7 @@ impl<P: Port> Memory<P> {
         requires whole { at % 4 ≡ 0 }
         requires fits { at + 4 * count ≤ 0x100000 }
         ensures ram { HasWords at words.now count self.old.ram self.new.ram }
+        ensures size { length self.new.ram ≡ 0x100000 }
         ensures port { self.new.port ≡ self.old.port }
         ensures ended { self.new.ended ≡ self.old.ended }
         ensures stopped { self.new.stopped ≡ self.old.stopped }
@@ -80,6 +81,7 @@ impl<P: Port> Memory<P> {
     pub fn set_bytes(&mut self, at: u64, bytes: &[u8], count: u64)
         requires { at + count ≤ 0x100000 }
         ensures ram { HasBytesOf at bytes.now count self.old.ram self.new.ram }
+        ensures size { length self.new.ram ≡ 0x100000 }
         ensures port { self.new.port ≡ self.old.port }
         ensures ended { self.new.ended ≡ self.old.ended }
         ensures stopped { self.new.stopped ≡ self.old.stopped }

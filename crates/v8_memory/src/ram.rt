@@ -231,7 +231,8 @@ impl Ram {
     pub fn set_words(&mut self, at: u64, words: &[u32], count: u64)
         requires whole { at % 4 ≡ 0 }
         requires fits { at + 4 * count ≤ 0x100000 }
-        ensures { HasWords at words.now count self.old self.new }
+        ensures placed { HasWords at words.now count self.old self.new }
+        ensures size { length self.new ≡ 0x100000 }
     {
         let _ = &self.bytes;
         for k in 0..count {
@@ -242,7 +243,8 @@ impl Ram {
     /// Writes so many bytes from `at` on; past the end of `bytes` they are 0.
     pub fn set_bytes(&mut self, at: u64, bytes: &[u8], count: u64)
         requires { at + count ≤ 0x100000 }
-        ensures { HasBytesOf at bytes.now count self.old self.new }
+        ensures placed { HasBytesOf at bytes.now count self.old self.new }
+        ensures size { length self.new ≡ 0x100000 }
     {
         let _ = &self.bytes;
         for k in 0..count {
