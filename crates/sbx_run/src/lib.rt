@@ -1,0 +1,10 @@
+//! Runs of accepted images.
+#![tactic(auto)]
+
+mod machine;
+mod runner;
+#[cfg(test)]
+mod tests;
+
+pub use runner::{Finished, RunFault, run_accepted};
+pub use sbx_verify::{Accepted, Cause, Refusal, budget, verify};
