@@ -9,6 +9,8 @@ ghost use Rattle.v8_formats.specs.Table.{meaning, table, IsCanonical, AreApart};
 mod encoding;
 mod fields;
 mod instr;
+#[cfg(test)]
+mod tests;
 
 pub use encoding::encode;
 use fields::{
@@ -291,27 +293,3 @@ pub fn is_canonical(word: u32) -> bool
 pub fn rows_are_apart()
     ensures { AreApart table }
 {}
-
-#[cfg(test)]
-mod tests {
-    use super::*;
-    use std::test::Fail;
-
-    #[test]
-    fn worked_words(rt: HostRuntime) -> Result<(), Fail> {
-        for word in [
-            0x9de3_bfa0u32,
-            0x81c7_e008,
-            0x81e8_0000,
-            0x91d0_2000,
-            0x9202_2005,
-        ] {
-            assert_eq!(rt; encode(&decode(word)), word);
-            assert!(rt; is_canonical(word));
-        }
-        assert!(rt; !is_canonical(0x81e8_0020));
-        assert!(rt; matches!(decode(0x81e8_0020), Instr::Restore(_)));
-        rows_are_apart();
-        Ok(())
-    }
-}

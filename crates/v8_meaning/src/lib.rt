@@ -4,6 +4,8 @@
 mod admitted;
 mod asked;
 mod operation;
+#[cfg(test)]
+mod tests;
 mod transfer;
 
 pub use admitted::{is_admitted, is_normal, is_pair, is_ret, is_retl, is_service_call};

@@ -52,7 +52,7 @@ pub fn is_taken(branch: &Branch, icc: Icc) -> bool
 pub fn annuls(branch: &Branch, icc: Icc) -> bool
     ensures { result ≡ annuls branch.now icc }
 {
-    branch.annul && (is_always(branch.cond) || !branch.cond.holds(icc))
+    branch.annul && (is_always(branch.cond) || !is_taken(branch, icc))
 }
 
 /// The trap type of a taken Ticc, 128 to 255: the low seven bits of its operands' sum (appendix B, "Trap on Integer Condition Codes").

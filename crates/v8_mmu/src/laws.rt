@@ -1,5 +1,5 @@
-// What holds of every walk and every mark, whatever RAM holds.
-ghost use Rattle.v8_mmu.specs.Laws.{OnePath, OneFault, NoFaultOnPath, MarksTwoBits};
+// What holds of every walk, every mark and every store, whatever RAM holds.
+ghost use Rattle.v8_mmu.specs.Laws.{OnePath, OneFault, NoFaultOnPath, MarksTwoBits, StoresOneNumber};
 
 /// An access has at most one translation path.
 pub fn path_is_unique()
@@ -19,4 +19,9 @@ pub fn no_fault_on_a_path()
 /// A mark sets the bit R of one entry, for a store also M, and no other bit of RAM.
 pub fn marks_two_bits()
     ensures { MarksTwoBits }
+{}
+
+/// A number stored in RAM is read back at its place, and no other byte is changed.
+pub fn stores_one_number()
+    ensures { StoresOneNumber }
 {}

@@ -195,3 +195,80 @@ impl<const N: usize> RegFile<N> {
         (mask >> window) & 1 == 0
     }
 }
+
+#[cfg(test)]
+mod tests {
+    use super::RegFile;
+    use std::process::Abort;
+    use std::test::Fail;
+    use v8_word::Reg;
+
+    /// Goes once round all windows by SAVE and back by RESTORE; `all` is a mask of one bit for each window.
+    fn goes_round<const N: usize>(rt: &impl Abort, all: u32) -> Result<(), Fail>
+        requires few { 4 ≤ N }
+        requires many { N ≤ 32 }
+    {
+        let out = Reg::new(8).ok_or("register")?;
+        let same_as_in = Reg::new(24).ok_or("register")?;
+        let mut file = RegFile::<N>::new();
+        assert_eq!(rt; file.cwp(), 0);
+        assert_eq!(rt; file.wim(), 0);
+        file.set(out, 7);
+        assert!(rt; file.save());
+        assert_eq!(rt; file.cwp() as usize, N - 1);
+        assert_eq!(rt; file.get(same_as_in), 7);
+        for _ in 1..N {
+            assert!(rt; file.save());
+        }
+        assert_eq!(rt; file.cwp(), 0);
+        assert_eq!(rt; file.get(out), 7);
+        for _ in 1..N {
+            assert!(rt; file.restore());
+        }
+        assert_eq!(rt; file.get(same_as_in), 7);
+        assert!(rt; file.restore());
+        assert_eq!(rt; file.get(out), 7);
+        file.set_wim(0xffff_ffff);
+        assert_eq!(rt; file.wim(), all);
+        Ok(())
+    }
+
+    #[test]
+    fn goes_round_any_number_of_windows(rt: HostRuntime) -> Result<(), Fail> {
+        goes_round::<4>(&rt, 0xf)?;
+        goes_round::<8>(&rt, 0xff)?;
+        goes_round::<32>(&rt, 0xffff_ffff)?;
+        Ok(())
+    }
+
+    #[test]
+    fn masks_forbid_windows_but_to_traps(rt: HostRuntime) -> Result<(), Fail> {
+        let mut file = RegFile::<4>::new();
+        let numbers = [(0u8, 0u32), (1, 5), (8, 6), (16, 7), (31, 8)];
+        for (number, word) in numbers {
+            let r = Reg::new(number).ok_or("register")?;
+            file.set(r, 0x1111_1111);
+            file.set(r, word);
+            assert_eq!(rt; file.get(r), word, "at {number}");
+        }
+        file.set_wim(8);
+        assert!(rt; !file.save());
+        file.set_wim(2);
+        assert!(rt; !file.restore());
+        assert!(rt; !file.leave_trap());
+        assert!(rt; !file.set_cwp(4));
+        assert_eq!(rt; file.cwp(), 0);
+        file.set_wim(8);
+        file.enter_trap(0x4_0000, 0x4_0004);
+        assert_eq!(rt; file.cwp(), 3);
+        let pc = Reg::new(17).ok_or("register")?;
+        let npc = Reg::new(18).ok_or("register")?;
+        assert_eq!(rt; file.get(pc), 0x4_0000);
+        assert_eq!(rt; file.get(npc), 0x4_0004);
+        assert!(rt; file.leave_trap());
+        assert_eq!(rt; file.cwp(), 0);
+        assert!(rt; file.set_cwp(2));
+        assert_eq!(rt; file.cwp(), 2);
+        Ok(())
+    }
+}

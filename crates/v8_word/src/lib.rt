@@ -267,3 +267,6 @@ impl Cond {
         }
     }
 }
+
+#[cfg(test)]
+mod tests;

@@ -1,0 +1,30 @@
+//! What a command line may ask for.
+ghost use Rattle.std.specs.Prelude.{◌≤◌};
+ghost use Rattle.std.specs.Option.{SomeIff};
+ghost use Rattle.std.specs.Str.Parse.{IsNumeral, digits_value};
+
+/// One job of the sandbox. Each path that it needs stands in it.
+#[derive(Clone, Copy, Debug, PartialEq, Eq)]
+pub enum Job<'a> {
+    /// Verifies the image file.
+    Verify { image: &'a str },
+    /// Prints the code of the image file.
+    List { image: &'a str },
+}
+
+/// The most turns that a trace may be asked for: as many as ten decimal digits count.
+pub const MOST_TURNS: u64 = 9_999_999_999;
+
+/// The number that a text spells by decimal digits alone, if it is at most `most`.
+pub fn decimal(text: &str, most: u64) -> Option<u64>
+    ensures { SomeIff result (IsNumeral 10 text.now × (digits_value 10 text.now ≤ most))
+        (digits_value 10 text.now) }
+{
+    if text.as_bytes().first() == Some(&b'+') {
+        return None;
+    }
+    match u64::from_str_radix(text, 10) {
+        Ok(number) if number <= most => Some(number),
+        _ => None,
+    }
+}

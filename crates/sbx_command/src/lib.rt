@@ -1,0 +1,18 @@
+//! What each command of the sandbox does with a file, an input and two outputs.
+#![tactic(auto)]
+
+mod commands;
+mod images;
+mod jobs;
+mod listing;
+mod reading;
+mod stops;
+mod verifying;
+
+pub use commands::command;
+pub use jobs::{Job, MOST_TURNS, decimal};
+pub use reading::{ReadFault, read_whole};
+pub use stops::Stop;
+
+#[cfg(test)]
+mod tests;

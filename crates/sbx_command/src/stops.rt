@@ -1,0 +1,71 @@
+//! Why a command stops, its line on standard error and its exit status.
+ghost use Rattle.std.specs.Prelude.{◌≡◌};
+ghost use Rattle.sbx_command.specs.Stops.{status_of, stop_of_image};
+
+use sbx_image::ImageFault;
+use sbx_verify::Refusal;
+use std::fmt::{self, Display, Formatter, Write};
+use std::io;
+
+/// Why a command stops before its job is done. Its text is its line on standard error.
+#[derive(Clone, Copy, Debug, PartialEq, Eq)]
+pub enum Stop {
+    /// The bytes of the file are no image.
+    Image(ImageFault),
+    /// The image breaks a rule.
+    Refused(Refusal),
+    /// The file can't be read, or is longer than the bound.
+    File,
+    /// Standard input can't be read, or is longer than the bound.
+    Input,
+    /// The output can't be written.
+    Output,
+    /// Memory is used up.
+    Memory,
+}
+
+impl Stop {
+    /// The exit status: 2 where the bytes of the file are at fault, 4 where a file, an input or an output is, 5 for
+    /// memory.
+    pub fn status(self) -> u8
+        ensures { result ≡ status_of self }
+    {
+        match self {
+            Stop::Image(_) | Stop::Refused(_) => 2,
+            Stop::File | Stop::Input | Stop::Output => 4,
+            Stop::Memory => 5,
+        }
+    }
+
+    /// Tells it on standard error, whose own faults change nothing, and gives the exit status.
+    pub fn report<E: io::Write>(self, err: &mut E) -> u8
+        ensures { result ≡ status_of self }
+    {
+        let _ = writeln!(err, "{self}");
+        self.status()
+    }
+}
+
+impl Display for Stop {
+    fn fmt<W: Write>(&self, f: &mut Formatter<W>) -> fmt::Result {
+        match self {
+            Stop::Image(fault) => write!(f, "image {fault}"),
+            Stop::Refused(refusal) => write!(f, "{refusal}"),
+            Stop::File => f.write_str("file"),
+            Stop::Input => f.write_str("input"),
+            Stop::Output => f.write_str("output"),
+            Stop::Memory => f.write_str("memory"),
+        }
+    }
+}
+
+impl From<ImageFault> for Stop {
+    ghost from_gives = { λ fault stop. stop ≡ stop_of_image fault };
+
+    fn from(fault: ImageFault) -> Stop {
+        match fault {
+            ImageFault::Memory => Stop::Memory,
+            fault => Stop::Image(fault),
+        }
+    }
+}

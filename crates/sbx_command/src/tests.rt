@@ -1,0 +1,277 @@
+//! Commands on bytes that are or aren't images, over readers and writers that fail at one call.
+use crate::{Job, ReadFault, command, decimal, read_whole};
+use std::alloc::Global;
+use std::io::{self, Read, Write};
+
+/// Gives a byte a call, and fails at call `fails`, counted from 1.
+#[derive(Drop)]
+struct Reader<'a> {
+    bytes: &'a [u8],
+    calls: usize,
+    fails: usize,
+}
+
+impl Reader<'_> {
+    fn new(bytes: &[u8], fails: usize) -> Reader<'_> {
+        Reader {
+            bytes,
+            calls: 0,
+            fails,
+        }
+    }
+}
+
+impl Read for Reader<'_> {
+    fn read(&mut self, buf: &mut [u8]) -> io::Result<usize> {
+        self.calls = self.calls.wrapping_add(1);
+        if self.calls == self.fails {
+            return Err(io::Error::from(io::ErrorKind::Other));
+        }
+        match self.bytes.split_first() {
+            Some((first, rest)) => {
+                if buf.is_empty() {
+                    return Ok(0);
+                }
+                buf[0] = *first;
+                self.bytes = rest;
+                Ok(1)
+            }
+            None => Ok(0),
+        }
+    }
+}
+
+/// Keeps what is written, and fails at call `fails`, counted from 1, flushes among the calls.
+#[derive(Drop)]
+struct Writer {
+    kept: Vec<u8>,
+    calls: usize,
+    fails: usize,
+}
+
+impl Writer {
+    fn call(&mut self) -> io::Result<()> {
+        self.calls = self.calls.wrapping_add(1);
+        if self.calls == self.fails {
+            return Err(io::Error::from(io::ErrorKind::Other));
+        }
+        Ok(())
+    }
+}
+
+impl Write for Writer {
+    fn write(&mut self, buf: &[u8]) -> io::Result<usize> {
+        self.call()?;
+        self.kept.extend_from_slice(buf)?;
+        Ok(buf.len())
+    }
+
+    fn flush(&mut self) -> io::Result<()> {
+        self.call()
+    }
+}
+
+/// Puts `H` and `i` and exits with 0.
+const HELLO: [u8; 86] = [
+    0x53, 0x42, 0x58, 0x38, 0x00, 0x01, 0x00, 0x05, 0x00, 0x00, 0x00, 0x06, 0x00, 0x00, 0x00, 0x00,
+    0x00, 0x01, 0x00, 0x01, 0x90, 0x10, 0x20, 0x48, 0x91, 0xD0, 0x20, 0x02, 0x90, 0x10, 0x20, 0x69,
+    0x91, 0xD0, 0x20, 0x02, 0x90, 0x10, 0x20, 0x00, 0x91, 0xD0, 0x20, 0x00, 0x00, 0x00, 0x00, 0x00,
+    0x00, 0x04, 0x00, 0x00, 0x00, 0x00, 0x00, 0x00, 0x00, 0x00, 0x00, 0x00, 0x00, 0x00, 0x00, 0x00,
+    0x00, 0x00, 0x00, 0x10, 0x00, 0x01, 0x00, 0x04, 0x00, 0x00, 0x00, 0x00, 0x00, 0x00, 0x00, 0x00,
+    0x00, 0x00, 0x00, 0x00, 0x00, 0x10,
+];
+
+const VERIFY: Job<'static> = Job::Verify { image: "a.img" };
+
+const LIST: Job<'static> = Job::List { image: "a.img" };
+
+const LISTING: &[u8] = b"00040000 90102048 or %g0,72,%o0
+00040004 91D02002 ta 2
+00040008 90102069 or %g0,105,%o0
+0004000C 91D02002 ta 2
+00040010 90102000 or %g0,0,%o0
+00040014 91D02000 ta 0
+";
+
+/// A command, the calls at which its file, its input and its output fail (0: none), and what it has to answer.
+#[derive(Clone, Copy, Debug)]
+struct Case<'a> {
+    job: Job<'a>,
+    file: &'a [u8],
+    fails: [usize; 3],
+    status: u8,
+    out: &'a [u8],
+    err: &'a [u8],
+}
+
+/// Whether the command answers as it has to. Want of memory is the one other answer, also that of the writer.
+fn is_answered(alloc: Global, case: &Case<'_>) -> bool {
+    let [file_fails, input_fails, out_fails] = case.fails;
+    let mut file = Reader::new(case.file, file_fails);
+    let mut input = Reader::new(b"abc", input_fails);
+    let mut out = Writer {
+        kept: Vec::new(alloc),
+        calls: 0,
+        fails: out_fails,
+    };
+    let mut err: Vec<u8> = Vec::new(alloc);
+    let status = command(alloc, &case.job, &mut file, &mut input, &mut out, &mut err);
+    status == case.status && out.kept.as_slice() == case.out && err.as_slice() == case.err
+}
+
+/// The sample with the bytes from `place` on replaced.
+fn changed(place: usize, bytes: &[u8]) -> [u8; 86] {
+    let mut image = HELLO;
+    for (old, new) in image.iter_mut().skip(place).zip(bytes) {
+        *old = *new;
+    }
+    image
+}
+
+#[test]
+fn reads_within_a_bound(rt: HostRuntime) {
+    let table: [(&[u8], usize, usize, Result<&[u8], ReadFault>); 7] = [
+        (b"", 0, 0, Ok(b"")),
+        (b"abc", 3, 0, Ok(b"abc")),
+        (b"abc", 4, 0, Ok(b"abc")),
+        (b"abc", 2, 0, Err(ReadFault::TooLong)),
+        (b"abc", 3, 1, Err(ReadFault::Reader)),
+        (b"abc", 3, 4, Err(ReadFault::Reader)),
+        (b"abc", 3, 5, Ok(b"abc")),
+    ];
+    for (bytes, most, fails, wanted) in table {
+        let is_read = || match read_whole(rt.alloc(), &mut Reader::new(bytes, fails), most) {
+            Ok(found) => Ok(found.as_slice()) == wanted,
+            Err(fault) => Err(fault) == wanted,
+        };
+        assert!(rt; is_read() || is_read(), "at {most} {fails}");
+    }
+    for (text, wanted) in [
+        ("0", Some(0)),
+        ("007", Some(7)),
+        ("9", Some(9)),
+        ("10", None),
+    ] {
+        assert_eq!(rt; decimal(text, 9), wanted, "at {text}");
+    }
+    for text in ["", "+8", "-8", "8 ", "0x8", "٨"] {
+        assert_eq!(rt; decimal(text, 9), None, "at {text}");
+    }
+}
+
+/// The sample and a byte after it.
+fn longer() -> [u8; 87] {
+    let mut image = [0; 87];
+    for (new, old) in image.iter_mut().zip(HELLO) {
+        *new = old;
+    }
+    image
+}
+
+/// A command on whole bytes that has to answer with status 2 and a line.
+fn refused<'a>(job: Job<'a>, file: &'a [u8], err: &'a [u8]) -> Case<'a> {
+    Case {
+        job,
+        file,
+        fails: [0, 0, 0],
+        status: 2,
+        out: b"",
+        err,
+    }
+}
+
+#[test]
+fn refuses_what_is_bad(rt: HostRuntime) {
+    let alloc = rt.alloc();
+    for end in 0..86usize {
+        let case = refused(LIST, &HELLO[..end], b"image I1\n");
+        assert!(rt;
+            is_answered(alloc, &case) || is_answered(alloc, &case),
+            "at {end}"
+        );
+    }
+    let longer = longer();
+    let case = refused(LIST, &longer, b"image I6\n");
+    assert!(rt; is_answered(alloc, &case) || is_answered(alloc, &case));
+    let table: [(usize, &[u8], &[u8]); 5] = [
+        (0, &[0x54], b"image I2\n"),
+        (4, &[0, 2], b"image I3\n"),
+        (6, &[0, 8], b"image I4\n"),
+        (60, &[0, 0, 1, 0, 0, 0, 0, 0], b"image I5\n"),
+        (48, &[0, 4, 0, 4], b"image I7\n"),
+    ];
+    for (place, bytes, line) in table {
+        let image = changed(place, bytes);
+        for job in [VERIFY, LIST] {
+            // a case whose growth was refused is run once more
+            let case = refused(job, &image, line);
+            assert!(rt;
+                is_answered(alloc, &case) || is_answered(alloc, &case),
+                "at {case:?}"
+            );
+        }
+    }
+}
+
+#[test]
+fn refuses_what_breaks_a_rule(rt: HostRuntime) {
+    let alloc = rt.alloc();
+    let table: [(usize, &[u8], &[u8]); 4] = [
+        // fuel and budget 15
+        (
+            60,
+            &[
+                0, 0, 0, 0, 0, 0, 0, 15, 0, 1, 0, 4, 0, 0, 0, 0, 0, 0, 0, 0, 0, 0, 0, 0, 0, 15,
+            ],
+            b"refused V14 in function 0 at 00040014\n",
+        ),
+        // put alone, exit alone
+        (6, &[0, 4], b"refused V12 in function 0 at 00040014\n"),
+        (6, &[0, 1], b"refused V12 in function 0 at 00040004\n"),
+        // restore %g0,%g0,%g0 with an unused bit set
+        (
+            20,
+            &[0x81, 0xE8, 0, 0x20],
+            b"refused V1 in function 0 at 00040000\n",
+        ),
+    ];
+    for (place, bytes, line) in table {
+        let image = changed(place, bytes);
+        let case = refused(VERIFY, &image, line);
+        assert!(rt;
+            is_answered(alloc, &case) || is_answered(alloc, &case),
+            "at {case:?}"
+        );
+    }
+}
+
+#[test]
+fn stops_at_a_fault(rt: HostRuntime) {
+    let alloc = rt.alloc();
+    let table: [(Job<'_>, [usize; 3], u8, &[u8], &[u8]); 10] = [
+        (LIST, [0, 0, 0], 0, LISTING, b""),
+        (LIST, [1, 0, 0], 4, b"", b"file\n"),
+        (LIST, [86, 0, 0], 4, b"", b"file\n"),
+        (LIST, [87, 0, 0], 4, b"", b"file\n"),
+        (LIST, [88, 0, 0], 0, LISTING, b""),
+        (LIST, [0, 0, 1], 4, b"", b"output\n"),
+        (VERIFY, [0, 0, 0], 0, b"accepted\n", b""),
+        (VERIFY, [87, 0, 0], 4, b"", b"file\n"),
+        (VERIFY, [0, 0, 1], 4, b"", b"output\n"),
+        (VERIFY, [0, 0, 2], 4, b"accepted\n", b"output\n"),
+    ];
+    for (job, fails, status, out, err) in table {
+        let case = Case {
+            job,
+            file: &HELLO,
+            fails,
+            status,
+            out,
+            err,
+        };
+        assert!(rt;
+            is_answered(alloc, &case) || is_answered(alloc, &case),
+            "at {case:?}"
+        );
+    }
+}

@@ -1,0 +1,79 @@
+//! The sandbox's command line.
+#![tactic(auto)]
+
+mod words;
+
+use sbx_command::{Job, Stop, command};
+use std::alloc::AllocError;
+use std::fs::File;
+use std::io::BufWriter;
+use std::process::ExitCode;
+use std::{env, fs, io};
+use words::{Usage, read_words};
+
+/// The exit status of words that ask for nothing.
+const USAGE: u8 = 3;
+
+/// The file at a path, to be read.
+fn opened(rt: &HostRuntime, path: &str) -> Result<File, Stop> {
+    match fs::open(rt, path) {
+        Ok(file) => Ok(file),
+        Err(error) if error.kind() == io::ErrorKind::OutOfMemory => Err(Stop::Memory),
+        Err(_) => Err(Stop::File),
+    }
+}
+
+/// Does a job on the file at `path`, from standard input to standard output.
+fn on_streams(rt: &HostRuntime, job: &Job<'_>, path: &str) -> Result<u8, Stop> {
+    let mut file = opened(rt, path)?;
+    let Ok(mut out) = BufWriter::new(rt.alloc(), rt.stdout()) else {
+        return Err(Stop::Memory);
+    };
+    let mut err = rt.stderr();
+    Ok(command(
+        rt.alloc(),
+        job,
+        &mut file,
+        &mut rt.stdin(),
+        &mut out,
+        &mut err,
+    ))
+}
+
+/// The words after the program's name.
+fn words_of(rt: &HostRuntime) -> io::Result<Vec<String>> {
+    let mut words: Vec<String> = env::args(rt)?.collect(rt.alloc())?;
+    if !words.is_empty() {
+        words.remove(0);
+    }
+    Ok(words)
+}
+
+/// Does what the words ask for.
+fn perform(rt: &HostRuntime, words: &[String]) -> Result<u8, Stop> {
+    match read_words(rt.alloc(), words) {
+        Ok(job) => match job {
+            Job::Verify { image } | Job::List { image } => on_streams(rt, &job, image),
+        },
+        Err(Usage::Text(text)) => {
+            let _ = eprint!(rt; "{text}");
+            Ok(USAGE)
+        }
+        Err(Usage::Memory) => Err(Stop::Memory),
+    }
+}
+
+fn main(rt: HostRuntime) -> ExitCode {
+    let status = match words_of(&rt) {
+        Ok(words) => perform(&rt, words.as_slice()),
+        Err(error) if error.kind() == io::ErrorKind::OutOfMemory => Err(Stop::Memory),
+        Err(_) => {
+            let _ = eprintln!(rt; "error: the words of a command line are UTF-8");
+            Ok(USAGE)
+        }
+    };
+    match status {
+        Ok(status) => ExitCode::from(status),
+        Err(stop) => ExitCode::from(stop.report(&mut rt.stderr())),
+    }
+}
