@@ -11,6 +11,8 @@ mod printing;
 mod shape;
 mod statement;
 mod symbols;
+#[cfg(test)]
+mod tests;
 mod value;
 mod word;
 
