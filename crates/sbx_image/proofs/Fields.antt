@@ -172,3 +172,16 @@ pub bytes_again : (bytes rest : List ℕ) → bytes_at (length bytes) (bytes ++ 
 bytes_again bytes rest =
     let long : ltb (length (bytes ++ rest)) (length bytes) ≡ false = le-ltb _ _ (omega (arith, length-append bytes rest)) in
     rw (long, take_at bytes rest (length bytes) refl, drop_at bytes rest (length bytes) refl) refl
+
+-- ---- from bytes that begin so
+
+pub number_reads : (w : Width) (limit : ℕ) (wide : IsWide w limit) (n : ℕ) (bytes rest : List ℕ) → bytes ≡ to_be_bytes w n ++ rest → n < limit → number_at w bytes ≡ Ok (n, rest)
+number_reads w limit wide n bytes rest e lt = ap (number_at w) e ∙ number_again w limit wide n rest lt
+
+pub signed_reads : (w : Width) (limit : ℕ) (wide : IsWide w limit) (sign : IsSigned w limit) (z : ℤ) (bytes rest : List ℕ) → bytes ≡ signed w z ++ rest → FitsSigned w z → signed_at w bytes ≡ Ok (z, rest)
+signed_reads w limit wide sign z bytes rest e fits = ap (signed_at w) e ∙ signed_again w limit wide sign z rest fits
+
+pub number_in_reads : (w : Width) (limit : ℕ) (wide : IsWide w limit) (low high : ℕ) (bad : ImageFault) (n : ℕ) (bytes rest : List ℕ) → bytes ≡ to_be_bytes w n ++ rest → high < limit → between low high n ≡ true → number_in w low high bad bytes ≡ Ok (n, rest)
+number_in_reads w limit wide low high bad n bytes rest e room h =
+    let lt : n < limit = omega (arith, (is_between low high n h).1, room) in
+    rw (number_reads w limit wide n bytes rest e lt, h) refl

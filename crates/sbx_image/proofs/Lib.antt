@@ -2,3 +2,5 @@ pub mod Loops
 pub mod Fields
 pub mod TakesLaws
 pub mod Limits
+pub mod Appends
+pub mod Eaches

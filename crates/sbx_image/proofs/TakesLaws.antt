@@ -22,7 +22,7 @@ use Rattle.sbx_image.specs.declared.parts.Function.{Function}
 use Rattle.sbx_image.specs.declared.parts.Parts.{Parts}
 use Rattle.sbx_image.specs.Rules.{◌>>=◌, wants, between, each, Place, code_start, admits, is_fuel, is_coefficient, is_known, is_data_length, in_order, range_keeps, location_keeps, cell_keeps, term_keeps, block_keeps, ranges_keep, function_keeps, parts_keep}
 use Rattle.sbx_image.specs.Reading.{number_at, number_in, signed_at, bytes_at, items_at, range_at, location_at, cell_at, term_at, block_head_at, block_at, kind_at, function_head_at, function_at, header_at, parts_at, reading}
-use Rattle.sbx_image.specs.Spelling.{IsBytes, signed, kind_code, range_text, cell_text, term_text, block_text, function_text, spelling}
+use Rattle.sbx_image.specs.Spelling.{IsBytes, signed, kind_code, range_text, cell_text, term_text, block_text, function_head_text, function_text, header_text, spelling}
 use Rattle.sbx_image.proofs.Fields.{bind_ok, wanted, is_between, both_true, ok_is, Takes, Takes-then, wide8, wide16, wide32, wide64, signed32, signed64, number_takes, number_in_takes, signed_takes, bytes_take}
 
 range_keeps_by : (r : Range) → in_order r.lo r.hi ≡ true → between 0 3 r.alignment ≡ true → range_keeps r ≡ Ok tt
@@ -198,7 +198,7 @@ function_head_takes end place bytes x fits e =
     (b, record { params = t1.1; results = t2.1; entry = admitted.0; frame = t5.1; stack_room = t6.1; budget = t7.1; blocks = t8.1 })
 
 function_takes : (end : ℕ) (place : Place) (bytes : List ℕ) (x : Function × (Place × List ℕ)) → IsBytes bytes → function_at end (place, bytes) ≡ Ok x → Takes bytes (function_text x.0) x.1.1 × (function_keeps end place x.0 ≡ Ok x.1.0)
-unfolding function_at function_text function_keeps
+unfolding function_at function_head_text function_text function_keeps
 function_takes end place bytes x fits e =
     let head = bind_ok _ _ _ e in
     let params = bind_ok _ _ _ head.2 in
@@ -219,8 +219,8 @@ function_takes end place bytes x fits e =
 
 -- ---- the whole
 
-header_text : Header → List ℕ
-header_text h = to_be_bytes w32 0x53425838 ++ to_be_bytes w16 1 ++ to_be_bytes w16 h.services.0 ++ to_be_bytes w32 h.words ++ to_be_bytes w32 h.bytes ++ to_be_bytes w16 h.stack_pages ++ to_be_bytes w16 h.functions
+abbrev pub counts_text : Header → List ℕ
+counts_text h = to_be_bytes w32 0x53425838 ++ to_be_bytes w16 1 ++ to_be_bytes w16 h.services.0 ++ to_be_bytes w32 h.words ++ to_be_bytes w32 h.bytes ++ to_be_bytes w16 h.stack_pages ++ to_be_bytes w16 h.functions
 
 pub record HeaderKeeps (h : Header) : Type 0 where
   pub services : is_known h.services.0 ≡ true
@@ -232,8 +232,8 @@ pub record HeaderKeeps (h : Header) : Type 0 where
 only : (k n : ℕ) → between k k n ≡ true → n ≡ k
 only k n h = let b = is_between k k n h in omega (arith, b.0, b.1)
 
-header_takes : (bytes : List ℕ) (x : Header × List ℕ) → IsBytes bytes → header_at bytes ≡ Ok x → Takes bytes (header_text x.0) x.1 × HeaderKeeps x.0
-unfolding header_at header_text
+header_takes : (bytes : List ℕ) (x : Header × List ℕ) → IsBytes bytes → header_at bytes ≡ Ok x → Takes bytes (counts_text x.0) x.1 × HeaderKeeps x.0
+unfolding header_at
 header_takes bytes x fits e =
     let magic = bind_ok _ _ _ e in
     let version = bind_ok _ _ _ magic.2 in
@@ -256,7 +256,7 @@ header_takes bytes x fits e =
     let a = Takes-then _ _ _ _ _ (Takes-then _ _ _ _ _ m0 m1) t2.0 in
     let b = Takes-then _ _ _ _ _ (Takes-then _ _ _ _ _ (Takes-then _ _ _ _ _ (Takes-then _ _ _ _ _ a t3.0) t4.0) t5.0) t6.0 in
     let made : Header × List ℕ = (record { services = record { 0 = services.0.0 }; words = words.0.0; bytes = data_bytes.0.0; stack_pages = stack_pages.0.0; functions = functions.0.0 }, functions.0.1) in
-    subst (λ (y : Header × List ℕ). Takes bytes (header_text y.0) y.1 × HeaderKeeps y.0) (ok_is made x functions.2)
+    subst (λ (y : Header × List ℕ). Takes bytes (counts_text y.0) y.1 × HeaderKeeps y.0) (ok_is made x functions.2)
     (b, record { services = known.0; words = t3.1; bytes = whole_slots.0; stack_pages = t5.1; functions = t6.1 })
 
 abbrev done_with : ℕ → Result (Unit {0}) ImageFault
@@ -280,7 +280,7 @@ parts_take bytes x fits e =
     let lists = Takes-then _ _ _ _ _ (Takes-then _ _ _ _ _ (Takes-then _ _ _ _ _ h.0 w.0) d.0) f.0 in
     let counted : Header = record { services = header.0.0.services; words = length words.0.0; bytes = length data_bytes.0.0; stack_pages = header.0.0.stack_pages; functions = length functions.0.0 } in
     let same : header.0.0 ≡ counted = rw (w.1, d.1, f.1) refl in
-    let whole = subst (λ (g : Header). Takes bytes (header_text g ++ flat_map (to_be_bytes w32) words.0.0 ++ data_bytes.0.0 ++ flat_map function_text functions.0.0) functions.0.1.1) same lists in
+    let whole = subst (λ (g : Header). Takes bytes (counts_text g ++ flat_map (to_be_bytes w32) words.0.0 ++ data_bytes.0.0 ++ flat_map function_text functions.0.0) functions.0.1.1) same lists in
     let k : HeaderKeeps counted = subst HeaderKeeps same h.1 in
     let in_turn : each (function_keeps (code_start + 4 * length words.0.0)) (Exactly code_start, 0) functions.0.0 ≡ Ok functions.0.1.0 = subst (λ (n : ℕ). each (function_keeps (code_start + 4 * n)) (Exactly code_start, 0) functions.0.0 ≡ Ok functions.0.1.0) (sym w.1) f.2 in
     let made : Parts × List ℕ = (record { services = header.0.0.services; words = words.0.0; bytes = data_bytes.0.0; stack_pages = header.0.0.stack_pages; functions = functions.0.0 }, functions.0.1.1) in

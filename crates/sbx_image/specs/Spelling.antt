@@ -1,5 +1,5 @@
 -- The one spelling of each image: every number with its most significant byte first, and nothing between the fields.
-use Rattle.std.specs.Prelude.{ℕ, ◌+◌, ◌*◌, ◌<◌, ◌^◌, ℤ, List, [], ◌∷◌, ◌++◌, length, get_or, FitsSigned}
+use Rattle.std.specs.Prelude.{ℕ, ◌+◌, ◌*◌, ◌<◌, ◌^◌, ℤ, List, [], ◌∷◌, ◌++◌, length, get_or, FitsSigned, All}
 use Rattle.std.specs.List.{flat_map, AllByRecursion}
 use Rattle.std.specs.Int.{Width, w8, w16, w32, w64, to_be_bytes, cast_unsigned}
 use Rattle.sbx_image.specs.declared.parts.Kind.{Kind}
@@ -37,8 +37,8 @@ abbrev pub kind_code : Kind → ℕ
 kind_code Leaf = 0
 kind_code Framed = 1
 
-unfoldable pub function_text : Function → List ℕ
-function_text f =
+unfoldable pub function_head_text : Function → List ℕ
+function_head_text f =
     to_be_bytes w8 (kind_code f.kind)
     ++ to_be_bytes w8 (length f.params)
     ++ to_be_bytes w8 (length f.results)
@@ -48,13 +48,17 @@ function_text f =
     ++ to_be_bytes w32 f.stack_room
     ++ to_be_bytes w64 f.budget
     ++ to_be_bytes w16 (length f.blocks)
+
+unfoldable pub function_text : Function → List ℕ
+function_text f =
+    function_head_text f
     ++ flat_map range_text f.params
     ++ flat_map range_text f.results
     ++ flat_map block_text f.blocks
 
--- `SBX8`, version 1
-unfoldable pub spelling : Parts → List ℕ
-spelling p =
+-- `SBX8`, version 1, and how much follows
+unfoldable pub header_text : Parts → List ℕ
+header_text p =
     to_be_bytes w32 0x53425838
     ++ to_be_bytes w16 1
     ++ to_be_bytes w16 p.services.0
@@ -62,6 +66,10 @@ spelling p =
     ++ to_be_bytes w32 (length p.bytes)
     ++ to_be_bytes w16 p.stack_pages
     ++ to_be_bytes w16 (length p.functions)
+
+unfoldable pub spelling : Parts → List ℕ
+spelling p =
+    header_text p
     ++ flat_map (to_be_bytes w32) p.words
     ++ p.bytes
     ++ flat_map function_text p.functions
@@ -96,3 +104,13 @@ pub record IsTyped (p : Parts) : Type 0 where
   pub services : p.services.0 < 2 ^ 16
   pub words : AllByRecursion (λ w. w < 2 ^ 32) p.words
   pub functions : AllByRecursion IsTypedFunction p.functions
+
+-- Each list has a length that its count can say.
+abbrev pub IsCountedBlock : Block → Type 0
+IsCountedBlock b = (length b.cells < 2 ^ 16) × (length b.terms < 2 ^ 16)
+
+pub record IsCountedFunction (f : Function) : Type 0 where
+  pub params : length f.params < 2 ^ 8
+  pub results : length f.results < 2 ^ 8
+  pub blocks : length f.blocks < 2 ^ 16
+  pub each_block : All IsCountedBlock f.blocks

@@ -1,5 +1,6 @@
 //! Parts that keep every limit and order of the format.
-ghost use Rattle.std.specs.Prelude.{◌≡◌, ◌≤◌, length, Ok};
+ghost use Rattle.std.specs.Prelude.{◌≡◌, ◌≤◌, length, Ok, All};
+ghost use Rattle.sbx_image.specs.Spelling.{IsCountedFunction};
 ghost use Rattle.sbx_image.specs.Rules.{parts_keep};
 
 use crate::parts::{Function, Parts};
@@ -58,6 +59,22 @@ impl Image {
         self.parts.words.len() as u32
     }
 
+    /// How many bytes of data there are.
+    #[tactic(auto, using(crate::proofs::Limits::bytes_within))]
+    pub fn byte_count(&self) -> u32
+        ensures { result ≡ length self.now.bytes }
+    {
+        self.parts.bytes.len() as u32
+    }
+
+    /// How many functions there are, 1 to 256.
+    #[tactic(auto, using(crate::proofs::Limits::functions_within))]
+    pub fn function_count(&self) -> u16
+        ensures { result ≡ length self.now.functions }
+    {
+        self.parts.functions.len() as u16
+    }
+
     /// The data.
     pub fn bytes(&self) -> &[u8]
         ensures { result.now ≡ self.now.bytes }
@@ -72,9 +89,11 @@ impl Image {
         self.parts.stack_pages
     }
 
-    /// The functions, by entry; a run begins in the first.
+    /// The functions, by entry; a run begins in the first. The length of each list is one that its count can say.
+    #[tactic(auto, using(crate::proofs::Limits::functions_counted))]
     pub fn functions(&self) -> &[Function]
-        ensures { result.now ≡ self.now.functions }
+        ensures value { result.now ≡ self.now.functions }
+        ensures counted { All IsCountedFunction self.now.functions }
     {
         self.parts.functions.as_slice()
     }

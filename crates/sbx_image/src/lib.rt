@@ -1,6 +1,7 @@
 //! The image format: a program with its annotations as bytes, version 1.
 #![tactic(auto)]
 
+mod checking;
 mod fault;
 mod heads;
 mod image;
@@ -11,6 +12,7 @@ mod order;
 mod parts;
 mod reading;
 mod services;
+mod writing;
 
 pub use fault::ImageFault;
 pub use image::Image;
@@ -18,3 +20,7 @@ pub use items::Items;
 pub use parts::{Block, Cell, Function, Kind, Parts, Range, Term};
 pub use reading::parse;
 pub use services::Services;
+pub use writing::write;
+
+#[cfg(test)]
+mod tests;

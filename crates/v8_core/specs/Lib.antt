@@ -1,3 +1,4 @@
 pub mod Memory
 pub mod Accesses
 pub mod Steps
+pub mod Lending

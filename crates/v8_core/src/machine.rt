@@ -1,4 +1,5 @@
 ghost use Rattle.std.specs.Prelude.{◌≡◌, ℕ, ◌+◌, ◌*◌, ◌/◌, ◌%◌, ◌^◌, ◌<◌, ◌≤◌, ◌↔◌, IsTrue, IfOk, OnErr, if◌then◌else◌};
+ghost use Rattle.std.specs.Borrow.{sem};
 ghost use Rattle.v8_mmu.specs.Answers.{Rose};
 ghost use Rattle.v8_windows.specs.Windows.{reg_of, with_reg};
 ghost use Rattle.v8_state.specs.Registers.{booted, cleared, psr_of, psr_window, started_with, tbr_of, trap_base, with_psr, with_wim};
@@ -9,7 +10,7 @@ use crate::step::{try_one, turn_by};
 use crate::turn::{Event, Turn};
 use v8_mmu::{Bus, MmuRegs, PortFault};
 use v8_state::Cpu;
-use v8_word::Reg;
+use v8_word::{Reg, TrapType};
 
 /// A processor of `N` register windows, 4 to 32, on a bus.
 #[derive(Drop)]
@@ -20,6 +21,8 @@ pub struct Machine<const N: usize, B: Bus> {
 }
 
 impl<const N: usize, B: Bus> Machine<N, B> {
+    ghost use Rattle.v8_core.specs.Lending.{lends_bus};
+
     /// A machine that has booted; its other registers and Y are 0.
     pub fn new(bus: B, mmu: MmuRegs) -> Self
         requires at_least { 4 ≤ N }
@@ -197,10 +200,32 @@ impl<const N: usize, B: Bus> Machine<N, B> {
         self.cpu.control.status
     }
 
+    /// The trap type that TBR shows.
+    pub fn trap_type(&self) -> TrapType
+        ensures { result ≡ self.now.cpu.control.tt }
+    {
+        self.cpu.control.tt
+    }
+
+    /// The trap that put the machine into error mode, if one did.
+    pub fn error_mode(&self) -> Option<TrapType>
+        ensures { result ≡ self.now.cpu.control.error }
+    {
+        self.cpu.control.error
+    }
+
     /// The bus.
     pub fn bus(&self) -> &B
         ensures { result.now ≡ self.now.bus }
     {
         &self.bus
+    }
+
+    /// The bus, to be written to. The machine then goes on with the bus as it was left; the rest of the machine stays.
+    pub fn bus_mut(&mut self) -> &mut B
+        ensures* writes_back { sem 𝓛 (lends_bus N.row B.row self.entry result) }
+        ensures value { result.now ≡ self.old.bus }
+    {
+        &mut self.bus
     }
 }

@@ -1,3 +1,4 @@
 pub mod Layout
 pub mod AddressMap
 pub mod Laws
+pub mod Tables

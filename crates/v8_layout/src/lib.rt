@@ -2,3 +2,6 @@
 #![tactic(auto)]
 
 pub mod laws;
+mod tables;
+
+pub use tables::{PageCounts, page_tables};

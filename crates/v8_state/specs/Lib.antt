@@ -1,3 +1,4 @@
 pub mod Registers
 pub mod Effects
 pub mod Traps
+pub mod Laws

@@ -2,6 +2,7 @@
 #![tactic(auto)]
 
 mod effects;
+pub mod laws;
 mod registers;
 mod state;
 mod traps;

@@ -1,0 +1,14 @@
+use Rattle.std.proofs.Common.{arith, ap, sym, ◌∙◌, length}
+use Rattle.v8_memory.proofs.Places.{no_words, word_more}
+use Rattle.v8_memory.proofs.ram.Ram.set_words.Goals as goal
+
+pub loop-k-init : goal.loop-k-init
+loop-k-init c = record { placed = no_words _ _ _; size = ap length (sym c.self.view_is) ∙ c.self.invariant }
+
+pub loop-k-preserved : goal.loop-k-preserved
+loop-k-preserved c =
+    let l = c.loop-k in
+    record {
+      placed = word_more c.args.at c.args.words.now l.k c.word_or_zero.result _ _ _ l.invariant.placed (omega arith) (omega arith) (omega arith) c.word_or_zero.ensures c.place_word.ensures.value;
+      size = c.place_word.ensures.size;
+    }

@@ -1,0 +1,236 @@
+ghost use Rattle.std.specs.Prelude.{◌≡◌, ℕ, ◌+◌, ◌*◌, ◌%◌, ◌-◌, ◌^◌, ◌<◌, ◌≤◌, [], length, IfOk, OnOk, OnErr, None, false, Option};
+ghost use Rattle.v8_mmu.specs.Answers.{OnPort, OnUnanswered, Rose};
+ghost use Rattle.v8_memory.specs.Placing.{HasWords, HasBytesOf};
+ghost use Rattle.v8_mmu.specs.Ram.{entry_of};
+ghost use Rattle.v8_memory.specs.Board.{IsBlank, device_store, gets, seen};
+
+use crate::port::Port;
+use crate::ram::Ram;
+use std::alloc::{AllocError, Global};
+use v8_mmu::{Bus, BusFault, PortFault, Stop};
+use v8_word::Size;
+
+/// Where the device begins.
+const DEVICE: u64 = 0x1_0000_0000;
+
+/// What a load of the input register gives at the end of the input.
+const NO_BYTE: u64 = 0xFFFF_FFFF;
+
+/// RAM of 1 MiB from physical address 0, and from 100000000 (hexadecimal) on a device of four registers of a word: a load of the
+/// first gives the next byte of input, or FFFFFFFF at its end; a store to the second puts the word's low byte out, one to the third
+/// stops the machine with the word as its exit status, and one to the fourth stops it as trapped. Nothing else answers there.
+#[derive(Drop)]
+pub struct Memory<P: Port> {
+    ram: Ram,
+    port: P,
+    ended: bool,
+    stopped: Option<Stop>,
+}
+
+impl<P: Port> Memory<P> {
+    /// RAM of zeros and a device that has neither stopped nor met the end of its input. A refusal of memory drops the port.
+    pub fn new(alloc: Global, port: P) -> Result<Self, AllocError>
+        ensures ram { IfOk result (λ m. IsBlank m.ram) }
+        ensures port { IfOk result (λ m. m.port ≡ port) }
+        ensures ended { IfOk result (λ m. m.ended ≡ false) }
+        ensures stopped { IfOk result (λ m. m.stopped ≡ None) }
+    {
+        match Ram::new(alloc) {
+            Ok(ram) => Ok(Memory {
+                ram,
+                port,
+                ended: false,
+                stopped: None,
+            }),
+            Err(refused) => Err(refused),
+        }
+    }
+
+    /// Takes back the device's stop and the end of its input.
+    pub fn restart(&mut self)
+        ensures ram { self.new.ram ≡ self.old.ram }
+        ensures port { self.new.port ≡ self.old.port }
+        ensures ended { self.new.ended ≡ false }
+        ensures stopped { self.new.stopped ≡ None }
+    {
+        self.ended = false;
+        self.stopped = None;
+    }
+
+    /// The word of RAM that begins at `pa`, a multiple of 4; None elsewhere.
+    pub fn word(&self, pa: u64) -> Option<u32>
+        ensures { result ≡ entry_of self.now.ram pa }
+    {
+        self.ram.entry(pa)
+    }
+
+    /// Writes so many words to RAM from `at` on, a multiple of 4; past the end of `words` they are 0.
+    pub fn set_words(&mut self, at: u64, words: &[u32], count: u64)
+        requires whole { at % 4 ≡ 0 }
+        requires fits { at + 4 * count ≤ 0x100000 }
+        ensures ram { HasWords at words.now count self.old.ram self.new.ram }
+        ensures size { length self.new.ram ≡ 0x100000 }
+        ensures port { self.new.port ≡ self.old.port }
+        ensures ended { self.new.ended ≡ self.old.ended }
+        ensures stopped { self.new.stopped ≡ self.old.stopped }
+    {
+        self.ram.set_words(at, words, count);
+    }
+
+    /// Writes so many bytes to RAM from `at` on; past the end of `bytes` they are 0.
+    pub fn set_bytes(&mut self, at: u64, bytes: &[u8], count: u64)
+        requires { at + count ≤ 0x100000 }
+        ensures ram { HasBytesOf at bytes.now count self.old.ram self.new.ram }
+        ensures size { length self.new.ram ≡ 0x100000 }
+        ensures port { self.new.port ≡ self.old.port }
+        ensures ended { self.new.ended ≡ self.old.ended }
+        ensures stopped { self.new.stopped ≡ self.old.stopped }
+    {
+        self.ram.set_bytes(at, bytes, count);
+    }
+
+    /// The port.
+    pub fn port(&self) -> &P
+        ensures { result.now ≡ self.now.port }
+    {
+        &self.port
+    }
+
+    /// The word of the first register.
+    #[tactic(auto, unfolding(crate::specs::Board::gets))]
+    fn get_word(&mut self) -> Result<u64, PortFault>
+        ensures small { IfOk result (λ v. v < 2 ^ 32) }
+        ensures ok { IfOk result (λ v. gets (seen (P.input self.old.port) self.old.ended (P.output self.old.port) self.old.stopped) ≡ (v, seen (P.input self.new.port) self.new.ended (P.output self.new.port) self.new.stopped)) }
+        ensures ram { self.new.ram ≡ self.old.ram }
+        ensures ended { OnErr result (self.new.ended ≡ self.old.ended) }
+        ensures stopped { self.new.stopped ≡ self.old.stopped }
+        ensures input { OnErr result (P.input self.new.port ≡ P.input self.old.port) }
+        ensures output { P.output self.new.port ≡ P.output self.old.port }
+        ensures count { P.failed self.old.port ≤ P.failed self.new.port }
+        ensures cause { OnErr result (Rose (P.failed self.old.port) (P.failed self.new.port)) }
+    {
+        if self.ended {
+            return Ok(NO_BYTE);
+        }
+        match self.port.get() {
+            Ok(Some(byte)) => Ok(u64::from(byte)),
+            Ok(None) => {
+                self.ended = true;
+                Ok(NO_BYTE)
+            }
+            Err(fault) => Err(fault),
+        }
+    }
+
+    /// Stores a word at a place in the device.
+    #[tactic(auto, unfolding(crate::specs::Board::device_store))]
+    fn put_word(&mut self, place: u64, value: u64) -> Result<(), BusFault>
+        requires { value < 2 ^ 32 }
+        ensures ok { OnOk result (device_store (seen (P.input self.old.port) self.old.ended (P.output self.old.port) self.old.stopped) place Size.Word value ≡ Some (seen (P.input self.new.port) self.new.ended (P.output self.new.port) self.new.stopped)) }
+        ensures refused { OnUnanswered result (device_store (seen (P.input self.old.port) self.old.ended (P.output self.old.port) self.old.stopped) place Size.Word value ≡ None) }
+        ensures ram { self.new.ram ≡ self.old.ram }
+        ensures ended { self.new.ended ≡ self.old.ended }
+        ensures stopped { OnErr result (self.new.stopped ≡ self.old.stopped) }
+        ensures input { P.input self.new.port ≡ P.input self.old.port }
+        ensures output { OnErr result (P.output self.new.port ≡ P.output self.old.port) }
+        ensures count { P.failed self.old.port ≤ P.failed self.new.port }
+        ensures cause { OnPort result (Rose (P.failed self.old.port) (P.failed self.new.port)) }
+    {
+        match place {
+            4 => match self.port.put((value & 0xFF) as u8) {
+                Ok(()) => Ok(()),
+                Err(fault) => Err(BusFault::Port(fault)),
+            },
+            8 => {
+                self.stopped = Some(Stop::Exit(value as u32));
+                Ok(())
+            }
+            12 => {
+                self.stopped = Some(Stop::Trapped);
+                Ok(())
+            }
+            _ => Err(BusFault::Unanswered),
+        }
+    }
+}
+
+#[tactic(auto, unfolding(crate::specs::Board::board_load, crate::specs::Board::board_store, crate::specs::Board::device_load, crate::specs::Board::device_store))]
+impl<P: Port> Bus for Memory<P> {
+    ghost use Rattle.v8_memory.specs.Board.{Device, board, seen};
+
+    ghost Device = { Device };
+
+    ghost ram = { λ m. m.ram };
+
+    ghost device = { λ m. seen (P.input m.port) m.ended (P.output m.port) m.stopped };
+
+    ghost failed = { λ m. P.failed m.port };
+
+    ghost meaning = { board };
+
+    fn entry(&self, pa: u64) -> Option<u32> {
+        self.ram.entry(pa)
+    }
+
+    fn set_entry(&mut self, pa: u64, word: u32) {
+        self.ram.set_entry(pa, word);
+    }
+
+    fn read(&mut self, pa: u64, size: Size) -> Result<u64, BusFault> {
+        if pa < DEVICE {
+            return match self.ram.read(pa, size) {
+                Some(value) => Ok(value),
+                None => Err(BusFault::Unanswered),
+            };
+        }
+        match size {
+            Size::Word => {
+                if pa != DEVICE {
+                    return Err(BusFault::Unanswered);
+                }
+                match self.get_word() {
+                    Ok(word) => Ok(word),
+                    Err(fault) => Err(BusFault::Port(fault)),
+                }
+            }
+            Size::Byte | Size::Half | Size::Double => Err(BusFault::Unanswered),
+        }
+    }
+
+    fn write(&mut self, pa: u64, size: Size, value: u64) -> Result<(), BusFault> {
+        if pa < DEVICE {
+            return if self.ram.write(pa, size, value) {
+                Ok(())
+            } else {
+                Err(BusFault::Unanswered)
+            };
+        }
+        match size {
+            Size::Word => self.put_word(pa - DEVICE, value),
+            Size::Byte | Size::Half | Size::Double => Err(BusFault::Unanswered),
+        }
+    }
+
+    fn swap(&mut self, pa: u64, size: Size, value: u64) -> Result<u64, BusFault> {
+        if pa >= DEVICE {
+            return Err(BusFault::Unanswered);
+        }
+        match self.ram.read(pa, size) {
+            Some(before) => {
+                if !self.ram.write(pa, size, value) {
+                    return Err(BusFault::Unanswered);
+                }
+                Ok(before)
+            }
+            None => Err(BusFault::Unanswered),
+        }
+    }
+
+    fn stop(&self) -> Option<Stop> {
+        self.stopped
+    }
+
+    fn failures(&self) -> u64 {
+        self.port.failures()
+    }
+}

@@ -1,0 +1,39 @@
+use v8_mmu::PortFault;
+
+/// A source of input bytes and a sink of output bytes.
+///
+/// An implementor says which bytes it has yet to give, which it was given, and how often it has failed.
+pub trait Port: Drop {
+    ghost use Rattle.std.specs.Prelude.{◌≡◌, ℕ, ◌≤◌, List, [], ◌∷◌, ◌++◌, IfOk, OnOk, OnErr};
+    ghost use Rattle.v8_mmu.specs.Answers.{Rose};
+    ghost use Rattle.v8_memory.specs.Input.{next_byte};
+
+    /// The bytes that it has yet to give.
+    ghost input: { Self → List ℕ };
+
+    /// The bytes that it was given.
+    ghost output: { Self → List ℕ };
+
+    /// How often it has failed. A count of 2^64 - 1 stays there.
+    ghost failed: { Self → ℕ };
+
+    /// The next byte, or None at the end of the input. A fault leaves input and output as they were.
+    fn get(&mut self) -> Result<Option<u8>, PortFault>
+        ensures byte { IfOk result (λ byte. next_byte (input self.old) ≡ (byte, input self.new)) }
+        ensures input { OnErr result (input self.new ≡ input self.old) }
+        ensures output { output self.new ≡ output self.old }
+        ensures count { failed self.old ≤ failed self.new }
+        ensures cause { OnErr result (Rose (failed self.old) (failed self.new)) };
+
+    /// Puts a byte out. A fault leaves input and output as they were.
+    fn put(&mut self, byte: u8) -> Result<(), PortFault>
+        ensures ok { OnOk result (output self.new ≡ output self.old ++ byte ∷ []) }
+        ensures output { OnErr result (output self.new ≡ output self.old) }
+        ensures input { input self.new ≡ input self.old }
+        ensures count { failed self.old ≤ failed self.new }
+        ensures cause { OnErr result (Rose (failed self.old) (failed self.new)) };
+
+    /// How often it has failed, up to 2^64 - 1.
+    fn failures(&self) -> u64
+        ensures { result ≡ failed self.now };
+}
