@@ -1,5 +1,5 @@
 -- The laws of the tables, row by row.
-use Rattle.std.proofs.Common.{◌≡◌, ℕ, refl, Option, Some, None}
+use Rattle.std.proofs.Common.{◌≡◌, ℕ, refl, Some}
 use Rattle.v8_word.specs.declared.Cond.{Cond}
 use Rattle.v8_word.specs.declared.Cond.TheVariants as conds
 use Rattle.v8_formats.specs.declared.instr.Place.{Place}
@@ -17,12 +17,9 @@ use Rattle.v8_syntax.specs.declared.native.Loading.{Loading}
 use Rattle.v8_syntax.specs.declared.native.Loading.TheVariants as loads
 use Rattle.v8_syntax.specs.declared.native.Storing.{Storing}
 use Rattle.v8_syntax.specs.declared.native.Storing.TheVariants as stores
-use Rattle.v8_syntax.specs.declared.native.Special.{Special}
-use Rattle.v8_syntax.specs.declared.native.Special.TheVariants as specials
 use Rattle.v8_syntax.specs.declared.native.Elsewhere.{Elsewhere}
 use Rattle.v8_syntax.specs.declared.native.Native.{Native}
 use Rattle.v8_syntax.specs.declared.native.Native.TheVariants as natives
-use Rattle.v8_syntax.specs.declared.mnemonic.Mnemonic.{Mnemonic}
 use Rattle.v8_syntax.specs.declared.mnemonic.Mnemonic.TheVariants as mnemonics
 use Rattle.v8_syntax.specs.declared.mnemonic.BranchAlias.{BranchAlias}
 use Rattle.v8_syntax.specs.declared.mnemonic.BranchAlias.TheVariants as aliases

@@ -1,5 +1,5 @@
 -- The laws of the tables.
-use Rattle.std.specs.Prelude.{◌≡◌, Option, Some, None, MatchOption}
+use Rattle.std.specs.Prelude.{◌≡◌, Some, MatchOption}
 use Rattle.v8_formats.specs.declared.instr.Instr.{Instr}
 use Rattle.v8_syntax.specs.declared.mnemonic.Mnemonic.{Mnemonic}
 use Rattle.v8_syntax.specs.Natives.{native_of, instr_of}

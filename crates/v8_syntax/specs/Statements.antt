@@ -1,5 +1,5 @@
 -- What a statement means: its mnemonic and operands as one or two instructions (appendix A; appendix B for each instruction), or the fault.
-use Rattle.std.specs.Prelude.{ℕ, ◌+◌, ◌-◌, ◌*◌, ◌/◌, ◌%◌, ◌^◌, ◌==◌, Bool, true, false, not, ◌&&◌, ◌||◌, nat_lt, nat_le, if◌then◌else◌, ℤ, pos, negsuc, ◌+ℤ◌, neg_ℤ, int_lt, int_le, List, [], ◌∷◌, Option, Some, None, Result, Ok, Err}
+use Rattle.std.specs.Prelude.{ℕ, ◌+◌, ◌-◌, ◌*◌, ◌/◌, ◌%◌, ◌^◌, ◌==◌, Bool, true, false, not, ◌&&◌, ◌||◌, nat_lt, nat_le, if◌then◌else◌, ℤ, pos, negsuc, ◌+ℤ◌, neg_ℤ, int_le, List, [], ◌∷◌, Option, Some, None, Result, Ok, Err}
 use Rattle.sbx_text.specs.declared.Token.{Token}
 use Rattle.sbx_text.specs.declared.Kind.{Kind}
 use Rattle.sbx_text.specs.declared.Kind.TheVariants as kinds
@@ -9,8 +9,6 @@ use Rattle.v8_formats.specs.declared.instr.Operand.{Operand}
 use Rattle.v8_formats.specs.declared.instr.Operand.TheVariants as operands
 use Rattle.v8_formats.specs.declared.instr.Three.{Three}
 use Rattle.v8_formats.specs.declared.instr.Two.{Two}
-use Rattle.v8_formats.specs.declared.instr.Trap.{Trap}
-use Rattle.v8_formats.specs.declared.instr.Upper.{Upper}
 use Rattle.v8_formats.specs.declared.instr.Instr.{Instr}
 use Rattle.v8_syntax.specs.declared.fault.SyntaxFault.{SyntaxFault}
 use Rattle.v8_syntax.specs.declared.fault.SyntaxFault.TheVariants.{UnknownMnemonic, Shape, Immediate, UnknownSymbol, Target}
@@ -22,7 +20,6 @@ use Rattle.v8_syntax.specs.declared.native.Special.{Special}
 use Rattle.v8_syntax.specs.declared.native.Elsewhere.{Elsewhere}
 use Rattle.v8_syntax.specs.declared.native.Native.{Native}
 use Rattle.v8_syntax.specs.declared.native.Native.TheVariants as natives
-use Rattle.v8_syntax.specs.declared.native.Window.{Window}
 use Rattle.v8_syntax.specs.declared.mnemonic.Mnemonic.{Mnemonic}
 use Rattle.v8_syntax.specs.declared.mnemonic.Mnemonic.TheVariants as mnemonics
 use Rattle.v8_syntax.specs.declared.mnemonic.BranchAlias.{BranchAlias}

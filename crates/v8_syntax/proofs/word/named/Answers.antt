@@ -1,4 +1,3 @@
-use Rattle.std.proofs.Common.{◌≡◌}
 use Rattle.v8_syntax.specs.Mnemonics.{all_mnemonics}
 use Rattle.v8_syntax.specs.Words.{named}
 use Rattle.v8_syntax.proofs.word.named.Goals as goal
