@@ -4,3 +4,4 @@ pub mod TakesLaws
 pub mod Limits
 pub mod Appends
 pub mod Eaches
+pub mod AgainLaws
