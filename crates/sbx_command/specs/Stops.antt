@@ -3,12 +3,16 @@ use Rattle.std.specs.Prelude.{◌≡◌, ℕ, List, Result, Ok, Err}
 use Rattle.sbx_image.specs.declared.fault.ImageFault.{ImageFault}
 use Rattle.sbx_image.specs.declared.fault.ImageFault.TheVariants as fault
 use Rattle.sbx_image.specs.Reading.{reading}
+use Rattle.sbx_verify.specs.declared.cause.Refusal.{Refusal}
+use Rattle.sbx_verify.specs.Rules.{IsLeastFault}
+use Rattle.sbx_image.specs.declared.parts.Parts.{Parts}
 use Rattle.sbx_command.specs.declared.stops.Stop.{Stop}
-use Rattle.sbx_command.specs.declared.stops.Stop.TheVariants.{Image, File, Input, Output, Memory}
+use Rattle.sbx_command.specs.declared.stops.Stop.TheVariants.{Image, Refused, File, Input, Output, Memory}
 
 -- 2 says that the bytes are at fault, 4 that the system is, 5 that memory is used up
 abbrev pub status_of : Stop → ℕ
 status_of (Image fault) = 2
+status_of (Refused refusal) = 2
 status_of File = 4
 status_of Input = 4
 status_of Output = 4
@@ -19,10 +23,20 @@ abbrev pub stop_of_image : ImageFault → Stop
 stop_of_image fault.Memory = Memory
 stop_of_image other = Image other
 
--- what is told of the bytes of a file holds of them
+-- what is told of an image and of the rules holds of the bytes of the file
 abbrev pub IsTrueOf : Stop → List ℕ → Type 0
 IsTrueOf (Image fault) bytes = reading bytes ≡ Err fault
+IsTrueOf (Refused refusal) bytes = (parts : Parts) × (reading bytes ≡ Ok parts) × IsLeastFault parts refusal
 IsTrueOf File bytes = Unit {0}
 IsTrueOf Input bytes = Unit {0}
 IsTrueOf Output bytes = Unit {0}
 IsTrueOf Memory bytes = Unit {0}
+
+-- the same where no rule is looked at
+abbrev pub IsTrueOfImage : Stop → List ℕ → Type 0
+IsTrueOfImage (Image fault) bytes = reading bytes ≡ Err fault
+IsTrueOfImage (Refused refusal) bytes = ⊥
+IsTrueOfImage File bytes = Unit {0}
+IsTrueOfImage Input bytes = Unit {0}
+IsTrueOfImage Output bytes = Unit {0}
+IsTrueOfImage Memory bytes = Unit {0}

@@ -1,11 +1,12 @@
 //! A command from its job to its exit status.
 ghost use Rattle.std.specs.Prelude.{◌≡◌, ◌<◌, IfErr, IfOk, IfSome};
-ghost use Rattle.sbx_command.specs.Stops.{IsTrueOf, status_of};
-ghost use Rattle.sbx_command.specs.Verdicts.{Deserves, IsAtFault};
+ghost use Rattle.sbx_command.specs.Stops.{status_of};
+ghost use Rattle.sbx_command.specs.Verdicts.{Deserves, IsTold};
 
 use crate::jobs::Job;
 use crate::listing::list_file;
 use crate::stops::Stop;
+use crate::verifying::verify_file;
 use std::alloc::Global;
 use std::io::{Read, Write};
 
@@ -19,11 +20,15 @@ fn perform<F: Read, I: Read, O: Write>(
 ) -> Result<u8, Stop>
     ensures range { IfOk result (λ status. status < 2) }
     ensures done { IfOk result (λ status. IfSome (F.remaining file.old) (Deserves job.now)) }
-    ensures stop { IfErr result (λ stop. IfSome (F.remaining file.old) (IsTrueOf stop)) }
+    ensures stop { IfErr result (λ stop. IfSome (F.remaining file.old) (IsTold job.now stop)) }
     ensures untouched { IfErr result (λ stop. status_of stop ≡ 2
         → (input.new ≡ input.old) × (out.new ≡ out.old)) }
 {
     let status = match *job {
+        Job::Verify { .. } => {
+            verify_file(alloc, file, out)?;
+            0
+        }
         Job::List { .. } => {
             list_file(alloc, file, out)?;
             0
@@ -35,6 +40,7 @@ fn perform<F: Read, I: Read, O: Write>(
     }
 }
 
+#[tactic(auto, using(crate::proofs::Verdicts::known_is_refused))]
 /// Does a job and gives its exit status; what the system opened for it is passed in: the file that the job reads,
 /// standard input, where its result goes, and standard error.
 pub fn command<F: Read, I: Read, O: Write, E: Write>(
@@ -47,9 +53,9 @@ pub fn command<F: Read, I: Read, O: Write, E: Write>(
 ) -> u8
     ensures range { result < 6 }
 
-    // A job is done only with bytes that deserve it, and refused only with bytes that are at fault.
+    // A job is done only with bytes that deserve it, and refused only with bytes that don't.
     ensures done { result < 2 → IfSome (F.remaining file.old) (Deserves job.now) }
-    ensures refused { result ≡ 2 → IfSome (F.remaining file.old) (IsAtFault job.now) }
+    ensures refused { result ≡ 2 → IfSome (F.remaining file.old) (λ bytes. Deserves job.now bytes → ⊥) }
 
     // A refusal takes no input and puts nothing out; a job that is done says nothing on standard error.
     ensures untouched { result ≡ 2 → (input.new ≡ input.old) × (out.new ≡ out.old) }

@@ -6,6 +6,8 @@ ghost use Rattle.std.specs.Str.Parse.{IsNumeral, digits_value};
 /// One job of the sandbox. Each path that it needs stands in it.
 #[derive(Clone, Copy, Debug, PartialEq, Eq)]
 pub enum Job<'a> {
+    /// Verifies the image file.
+    Verify { image: &'a str },
     /// Prints the code of the image file.
     List { image: &'a str },
 }

@@ -7,6 +7,7 @@ mod jobs;
 mod listing;
 mod reading;
 mod stops;
+mod verifying;
 
 pub use commands::command;
 pub use jobs::{Job, MOST_TURNS, decimal};

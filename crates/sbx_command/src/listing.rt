@@ -1,6 +1,6 @@
 //! The command `list`.
 ghost use Rattle.std.specs.Prelude.{◌≡◌, IfErr, IfSome, OnOk};
-ghost use Rattle.sbx_command.specs.Stops.{IsTrueOf, status_of};
+ghost use Rattle.sbx_command.specs.Stops.{IsTrueOfImage, status_of};
 ghost use Rattle.sbx_command.specs.Verdicts.{IsImage};
 
 use crate::images::image_in;
@@ -34,7 +34,7 @@ fn list_words<O: Write>(words: &[u32], out: &mut O) -> Result<(), Stop>
 /// Lists the code of the image of a file.
 pub fn list_file<F: Read, O: Write>(alloc: Global, file: &mut F, out: &mut O) -> Result<(), Stop>
     ensures image { OnOk result (IfSome (F.remaining file.old) IsImage) }
-    ensures stop { IfErr result (λ stop. IfSome (F.remaining file.old) (IsTrueOf stop)) }
+    ensures stop { IfErr result (λ stop. IfSome (F.remaining file.old) (IsTrueOfImage stop)) }
     ensures untouched { IfErr result (λ stop. status_of stop ≡ 2 → out.new ≡ out.old) }
 {
     let image = image_in(alloc, file)?;

@@ -3,6 +3,7 @@ ghost use Rattle.std.specs.Prelude.{◌≡◌};
 ghost use Rattle.sbx_command.specs.Stops.{status_of, stop_of_image};
 
 use sbx_image::ImageFault;
+use sbx_verify::Refusal;
 use std::fmt::{self, Display, Formatter, Write};
 use std::io;
 
@@ -11,6 +12,8 @@ use std::io;
 pub enum Stop {
     /// The bytes of the file are no image.
     Image(ImageFault),
+    /// The image breaks a rule.
+    Refused(Refusal),
     /// The file can't be read, or is longer than the bound.
     File,
     /// Standard input can't be read, or is longer than the bound.
@@ -28,7 +31,7 @@ impl Stop {
         ensures { result ≡ status_of self }
     {
         match self {
-            Stop::Image(_) => 2,
+            Stop::Image(_) | Stop::Refused(_) => 2,
             Stop::File | Stop::Input | Stop::Output => 4,
             Stop::Memory => 5,
         }
@@ -47,6 +50,7 @@ impl Display for Stop {
     fn fmt<W: Write>(&self, f: &mut Formatter<W>) -> fmt::Result {
         match self {
             Stop::Image(fault) => write!(f, "image {fault}"),
+            Stop::Refused(refusal) => write!(f, "{refusal}"),
             Stop::File => f.write_str("file"),
             Stop::Input => f.write_str("input"),
             Stop::Output => f.write_str("output"),

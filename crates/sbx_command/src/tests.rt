@@ -81,6 +81,8 @@ const HELLO: [u8; 86] = [
     0x00, 0x00, 0x00, 0x00, 0x00, 0x10,
 ];
 
+const VERIFY: Job<'static> = Job::Verify { image: "a.img" };
+
 const LIST: Job<'static> = Job::List { image: "a.img" };
 
 const LISTING: &[u8] = b"00040000 90102048 or %g0,72,%o0
@@ -200,8 +202,42 @@ fn refuses_what_is_bad(rt: HostRuntime) {
     ];
     for (place, bytes, line) in table {
         let image = changed(place, bytes);
-        // a case whose growth was refused is run once more
-        let case = refused(LIST, &image, line);
+        for job in [VERIFY, LIST] {
+            // a case whose growth was refused is run once more
+            let case = refused(job, &image, line);
+            assert!(rt;
+                is_answered(alloc, &case) || is_answered(alloc, &case),
+                "at {case:?}"
+            );
+        }
+    }
+}
+
+#[test]
+fn refuses_what_breaks_a_rule(rt: HostRuntime) {
+    let alloc = rt.alloc();
+    let table: [(usize, &[u8], &[u8]); 4] = [
+        // fuel and budget 15
+        (
+            60,
+            &[
+                0, 0, 0, 0, 0, 0, 0, 15, 0, 1, 0, 4, 0, 0, 0, 0, 0, 0, 0, 0, 0, 0, 0, 0, 0, 15,
+            ],
+            b"refused V14 in function 0 at 00040014\n",
+        ),
+        // put alone, exit alone
+        (6, &[0, 4], b"refused V12 in function 0 at 00040014\n"),
+        (6, &[0, 1], b"refused V12 in function 0 at 00040004\n"),
+        // restore %g0,%g0,%g0 with an unused bit set
+        (
+            20,
+            &[0x81, 0xE8, 0, 0x20],
+            b"refused V1 in function 0 at 00040000\n",
+        ),
+    ];
+    for (place, bytes, line) in table {
+        let image = changed(place, bytes);
+        let case = refused(VERIFY, &image, line);
         assert!(rt;
             is_answered(alloc, &case) || is_answered(alloc, &case),
             "at {case:?}"
@@ -212,17 +248,21 @@ fn refuses_what_is_bad(rt: HostRuntime) {
 #[test]
 fn stops_at_a_fault(rt: HostRuntime) {
     let alloc = rt.alloc();
-    let table: [([usize; 3], u8, &[u8], &[u8]); 6] = [
-        ([0, 0, 0], 0, LISTING, b""),
-        ([1, 0, 0], 4, b"", b"file\n"),
-        ([86, 0, 0], 4, b"", b"file\n"),
-        ([87, 0, 0], 4, b"", b"file\n"),
-        ([88, 0, 0], 0, LISTING, b""),
-        ([0, 0, 1], 4, b"", b"output\n"),
+    let table: [(Job<'_>, [usize; 3], u8, &[u8], &[u8]); 10] = [
+        (LIST, [0, 0, 0], 0, LISTING, b""),
+        (LIST, [1, 0, 0], 4, b"", b"file\n"),
+        (LIST, [86, 0, 0], 4, b"", b"file\n"),
+        (LIST, [87, 0, 0], 4, b"", b"file\n"),
+        (LIST, [88, 0, 0], 0, LISTING, b""),
+        (LIST, [0, 0, 1], 4, b"", b"output\n"),
+        (VERIFY, [0, 0, 0], 0, b"accepted\n", b""),
+        (VERIFY, [87, 0, 0], 4, b"", b"file\n"),
+        (VERIFY, [0, 0, 1], 4, b"", b"output\n"),
+        (VERIFY, [0, 0, 2], 4, b"accepted\n", b"output\n"),
     ];
-    for (fails, status, out, err) in table {
+    for (job, fails, status, out, err) in table {
         let case = Case {
-            job: LIST,
+            job,
             file: &HELLO,
             fails,
             status,

@@ -3,3 +3,5 @@ pub mod Fields
 pub mod TakesLaws
 pub mod Limits
 pub mod Appends
+pub mod Eaches
+pub mod AgainLaws

@@ -9,3 +9,8 @@ ghost use Rattle.sbx_image.specs.Spelling.{IsBytes, IsTyped, spelling};
 pub fn what_is_read_is_spelled()
     ensures { (bytes : List ℕ) (p : Parts) → IsBytes bytes → reading bytes ≡ Ok p → (bytes ≡ spelling p) × (parts_keep p ≡ Ok tt) }
 {}
+
+/// What keeps each limit and order is read from its spelling.
+pub fn what_is_spelled_is_read()
+    ensures { (p : Parts) → IsTyped p → parts_keep p ≡ Ok tt → reading (spelling p) ≡ Ok p }
+{}

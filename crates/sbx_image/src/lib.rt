@@ -1,6 +1,7 @@
 //! The image format: a program with its annotations as bytes, version 1.
 #![tactic(auto)]
 
+mod checking;
 mod fault;
 mod heads;
 mod image;

@@ -1,6 +1,11 @@
-//! The order of addresses and locations.
+//! The order of addresses, and the bounds of signed fields.
 ghost use Rattle.std.specs.Prelude.{◌≡◌};
-ghost use Rattle.sbx_image.specs.Rules.{admits};
+ghost use Rattle.sbx_image.specs.Rules.{admits, is_coefficient, is_fuel};
+
+/// Where the code begins.
+pub const CODE_START: u32 = 0x0004_0000;
+
+const FUEL: i64 = 1 << 40;
 
 /// Where the next address may lie.
 #[derive(Clone, Copy, Debug)]
@@ -19,4 +24,18 @@ pub fn admits(end: u32, next: Next, address: u32) -> bool
         Next::Exactly(only) => address == only,
         Next::Above(last) => last < address && (address % 4 == 0 && address < end),
     }
+}
+
+/// Whether a coefficient is not 0.
+pub fn is_coefficient(n: i32) -> bool
+    ensures { result ≡ is_coefficient n }
+{
+    n < 0 || 0 < n
+}
+
+/// Whether a fuel constant is below 2^40 in magnitude.
+pub fn is_fuel(fuel: i64) -> bool
+    ensures { result ≡ is_fuel fuel }
+{
+    -FUEL < fuel && fuel < FUEL
 }

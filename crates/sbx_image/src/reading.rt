@@ -10,14 +10,10 @@ use crate::heads::{BlockHead, FunctionHead, Header};
 use crate::image::Image;
 use crate::items::Items;
 use crate::numbers::{i32_at, i64_at, u8_in, u16_at, u16_in, u32_at, u32_in, u64_in};
-use crate::order::{Next, admits};
+use crate::order::{CODE_START, Next, admits, is_coefficient, is_fuel};
 use crate::parts::{Block, Cell, Function, Kind, Parts, Range, Term};
 use crate::services::{Services, services_of};
 use std::alloc::Global;
-
-const CODE_START: u32 = 0x0004_0000;
-
-const FUEL: i64 = 1 << 40;
 
 #[tactic(auto, unfolding(crate::specs::Reading::range_at))]
 fn range_of(bytes: &[u8]) -> Result<(Range, &[u8]), ImageFault>
@@ -52,13 +48,6 @@ fn cell_of(last: u16, bytes: &[u8]) -> Result<(Cell, (u16, &[u8])), ImageFault>
     Ok((Cell { location, range }, (location, rest)))
 }
 
-/// Whether a coefficient is not 0.
-pub fn is_coefficient(n: i32) -> bool
-    ensures { result ≡ is_coefficient n }
-{
-    n < 0 || 0 < n
-}
-
 #[tactic(auto, unfolding(crate::specs::Reading::term_at))]
 fn term_of(last: u16, bytes: &[u8]) -> Result<(Term, (u16, &[u8])), ImageFault>
     ensures { Gives (λ x. (x.0, (x.1.0, x.1.1.now))) result (term_at (last, bytes.now)) }
@@ -73,13 +62,6 @@ fn term_of(last: u16, bytes: &[u8]) -> Result<(Term, (u16, &[u8])), ImageFault>
         coefficient,
     };
     Ok((term, (location, rest)))
-}
-
-/// Whether a fuel constant is below 2^40 in magnitude.
-pub fn is_fuel(fuel: i64) -> bool
-    ensures { result ≡ is_fuel fuel }
-{
-    -FUEL < fuel && fuel < FUEL
 }
 
 #[tactic(auto, unfolding(crate::specs::Reading::block_head_at))]

@@ -163,3 +163,55 @@ fn faults(rt: HostRuntime) {
         told(&rt, rt.alloc(), &bytes, wanted);
     }
 }
+
+/// The fault that parts get; they come back as they are.
+fn told_of_parts(
+    rt: &impl Abort,
+    parts: Parts,
+    pages: u16,
+    words: usize,
+    wanted: Option<ImageFault>,
+) {
+    match Image::from_parts(parts) {
+        Ok(image) => assert!(rt; wanted.is_none() && image.stack_pages() == pages),
+        Err((back, fault)) => {
+            assert!(rt; wanted == Some(fault), "{fault}");
+            assert!(rt; back.stack_pages == pages && back.words.len() == words);
+        }
+    }
+}
+
+#[test]
+fn parts(rt: HostRuntime) {
+    let rows = [
+        (7u16, 16u16, 0x40000u32, None),
+        (8, 16, 0x40000, Some(ImageFault::Service)),
+        (7, 0, 0x40000, Some(ImageFault::Limit)),
+        (7, 1, 0x40000, None),
+        (7, 17, 0x40000, Some(ImageFault::Limit)),
+        (7, 16, 0x40004, Some(ImageFault::Order)),
+        (8, 17, 0x40004, Some(ImageFault::Service)),
+    ];
+    for (services, pages, entry, wanted) in rows {
+        if let Ok(image) = parse(rt.alloc(), &CALLS) {
+            let Parts {
+                words,
+                bytes,
+                functions,
+                ..
+            } = image.into_parts();
+            let mut functions = functions.into_vec();
+            if functions.len() == 2 {
+                functions[0].entry = entry;
+            }
+            let parts = Parts {
+                services: Services(services),
+                words,
+                bytes,
+                stack_pages: pages,
+                functions: Items::new(functions),
+            };
+            told_of_parts(&rt, parts, pages, 8, wanted);
+        }
+    }
+}

@@ -40,6 +40,9 @@ fn path<'a>(alloc: Global, name: &'a str) -> Arg<'a> {
 }
 
 fn sandbox<'a>(alloc: Global) -> Result<Command<'a>, AllocError> {
+    let verify = Command::new(alloc, "verify")
+        .about("Verifies an image")
+        .arg(path(alloc, "IMG"))?;
     let list = Command::new(alloc, "list")
         .about("Prints the code of an image")
         .arg(path(alloc, "IMG"))?;
@@ -48,6 +51,7 @@ fn sandbox<'a>(alloc: Global) -> Result<Command<'a>, AllocError> {
         .bin_name("sandbox")?
         .no_binary_name(true)
         .subcommand_required(true)
+        .subcommand(verify)?
         .subcommand(list)
 }
 
@@ -56,6 +60,9 @@ fn job_of<'a>(name: &str, found: &ArgMatches<'a>) -> Option<Job<'a>>
     ensures { IfSome result IsInRange }
 {
     match name {
+        "verify" => Some(Job::Verify {
+            image: found.get_str("IMG")?,
+        }),
         "list" => Some(Job::List {
             image: found.get_str("IMG")?,
         }),

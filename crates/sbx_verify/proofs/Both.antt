@@ -198,7 +198,8 @@ both_does parts fresh still known (SetHigh f) s c fine a = both_write known f.rd
 both_does parts fresh still known (TrapOnCondition t) s c fine a = both_serve parts.services known (service_of t) s c (some_service t fine.accepted) fine.declared fine.reads a
 both_does parts fresh still known _ s c fine a = absurd (let no = fine.accepted in cc)
 
-admitted : (op : Operation) → is_accepted op ≡ true → is_admitted op ≡ true
+-- what is accepted is admitted
+pub admitted : (op : Operation) → is_accepted op ≡ true → is_admitted op ≡ true
 unfolding is_accepted is_admitted
 admitted (Compute op f) h = refl
 admitted (SetHigh f) h = refl

@@ -25,7 +25,7 @@ pub fn room(image: &Image) -> u32
     }
 }
 
-/// Its budget in turns.
+/// The budget of the function where a run begins, in turns.
 pub fn budget(image: &Image) -> u64
     ensures { result ≡ budget image.now }
 {

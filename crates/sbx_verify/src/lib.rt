@@ -9,4 +9,5 @@ mod rules;
 mod verifier;
 
 pub use cause::{Cause, Refusal};
+pub use entry::budget;
 pub use verifier::{Accepted, verify};

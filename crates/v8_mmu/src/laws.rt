@@ -1,5 +1,5 @@
-// What holds of every walk and every mark, whatever RAM holds.
-ghost use Rattle.v8_mmu.specs.Laws.{OnePath, OneFault, NoFaultOnPath, MarksTwoBits};
+// What holds of every walk, every mark and every store, whatever RAM holds.
+ghost use Rattle.v8_mmu.specs.Laws.{OnePath, OneFault, NoFaultOnPath, MarksTwoBits, StoresOneNumber};
 
 /// An access has at most one translation path.
 pub fn path_is_unique()
@@ -20,3 +20,22 @@ pub fn no_fault_on_a_path()
 pub fn marks_two_bits()
     ensures { MarksTwoBits }
 {}
+
+/// A number stored in RAM is read back at its place, and no other byte is changed.
+pub fn stores_one_number()
+    ensures { StoresOneNumber }
+{}
+
+#[cfg(test)]
+mod tests {
+    use super::*;
+
+    #[test]
+    fn laws_return(_rt: HostRuntime) {
+        path_is_unique();
+        fault_is_unique();
+        no_fault_on_a_path();
+        marks_two_bits();
+        stores_one_number();
+    }
+}

@@ -12,3 +12,6 @@ pub use bus::{Bus, BusFault, PortFault, Stop};
 pub use translation::{Found, MmuFault, MmuRegs};
 pub use v8_word::Size;
 pub use walks::{mark, mark_saved, walk};
+
+#[cfg(test)]
+mod tests;

@@ -1,3 +1,7 @@
 pub mod Natives
 pub mod Mnemonics
 pub mod Text
+pub mod Words
+pub mod Shapes
+pub mod Statements
+pub mod Laws

@@ -1,5 +1,5 @@
 -- The mnemonics (appendix A and appendix B): one table, by which statements are read and instructions printed.
-use Rattle.std.specs.Prelude.{ℕ, List, [], ◌∷◌, ◌++◌, map, codes}
+use Rattle.std.specs.Prelude.{ℕ, List, [], ◌∷◌, codes}
 use Rattle.v8_word.specs.declared.Cond.{Cond}
 use Rattle.v8_word.specs.declared.Cond.TheVariants as conds
 use Rattle.v8_syntax.specs.declared.native.Arithmetic.{Arithmetic}
@@ -12,8 +12,6 @@ use Rattle.v8_syntax.specs.declared.native.Loading.{Loading}
 use Rattle.v8_syntax.specs.declared.native.Loading.TheVariants as loads
 use Rattle.v8_syntax.specs.declared.native.Storing.{Storing}
 use Rattle.v8_syntax.specs.declared.native.Storing.TheVariants as stores
-use Rattle.v8_syntax.specs.declared.native.Special.{Special}
-use Rattle.v8_syntax.specs.declared.native.Special.TheVariants as specials
 use Rattle.v8_syntax.specs.declared.mnemonic.Mnemonic.{Mnemonic}
 use Rattle.v8_syntax.specs.declared.mnemonic.Mnemonic.TheVariants as mnemonics
 use Rattle.v8_syntax.specs.declared.mnemonic.BranchAlias.{BranchAlias}

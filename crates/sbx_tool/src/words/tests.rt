@@ -2,6 +2,8 @@
 use super::{Job, Usage, read_words};
 use std::alloc::Global;
 
+const VERIFY: Job<'static> = Job::Verify { image: "a.img" };
+
 const LIST: Job<'static> = Job::List { image: "a.img" };
 
 /// Whether the words of a line are read as the job, or as words that ask for nothing.
@@ -19,6 +21,9 @@ fn is_read(alloc: Global, line: &str, job: Option<Job<'_>>) -> bool {
 #[test]
 fn reads_the_words(rt: HostRuntime) {
     let table = [
+        ("verify a.img", Some(VERIFY)),
+        ("verify", None),
+        ("verify --limit 8 a.img", None),
         ("list a.img", Some(LIST)),
         ("list -- a.img", Some(LIST)),
         ("list", None),

@@ -1,4 +1,4 @@
-use Rattle.std.proofs.Common.{◌≡◌, ◌+◌, ◌^◌, ◌<◌, ◌≤◌, ◌++◌, append_assoc, arith}
+use Rattle.std.proofs.Common.{◌^◌, ◌<◌, ◌≤◌, append_assoc, arith}
 use Rattle.v8_syntax.proofs.Decimal.{more_digits}
 use Rattle.v8_syntax.proofs.printing.+push_digits.Goals as goal
 

@@ -1,4 +1,4 @@
-use Rattle.std.proofs.Common.{◌≡◌, ◌++◌, ◌∷◌, [], append_assoc}
+use Rattle.std.proofs.Common.{append_assoc}
 use Rattle.v8_syntax.proofs.printing.push_word.Goals as goal
 
 pub returns : goal.returns

@@ -1,0 +1,50 @@
+-- A job that is refused did not deserve to be done.
+use Rattle.std.proofs.Common.{◌≡◌, ℕ, List, Option, None, Some, IfSome, Result, Ok, Err, arith, sym, ◌∙◌, rules}
+use Rattle.sbx_image.specs.declared.fault.ImageFault.{ImageFault}
+use Rattle.sbx_image.specs.declared.parts.Parts.{Parts}
+use Rattle.sbx_image.specs.Reading.{reading}
+use Rattle.sbx_verify.specs.Rules.{Checked, IsLeastFault}
+use Rattle.sbx_command.specs.declared.jobs.Job.{Job}
+use Rattle.sbx_command.specs.declared.jobs.Job.TheVariants.{Verify, List as Listing}
+use Rattle.sbx_command.specs.declared.stops.Stop.{Stop}
+use Rattle.sbx_command.specs.declared.stops.Stop.TheVariants.{Image, Refused, File, Input, Output, Memory}
+use Rattle.sbx_command.specs.Stops.{IsTrueOf, IsTrueOfImage, status_of}
+use Rattle.sbx_command.specs.Verdicts.{Deserves, IsAccepted, IsImage, IsTold}
+
+pub faulty_is_no_image : (bytes : List ℕ) (fault : ImageFault) → reading bytes ≡ Err fault → IsImage bytes → ⊥
+faulty_is_no_image bytes fault faulty image =
+    let read : reading bytes ≡ Ok image.0 = image.1 in
+    search rules
+
+pub fault_is_not_checked : (parts other : Parts) (bytes : List ℕ) (refusal : _) → reading bytes ≡ Ok parts
+    → IsLeastFault parts refusal → reading bytes ≡ Ok other → Checked other → ⊥
+fault_is_not_checked parts other bytes refusal read least same checked =
+    let equal : parts ≡ other = search rules in
+    let kept : Checked parts = rw equal checked in
+    kept least.place refusal.cause (least.within, least.first.breaks)
+
+pub image_stop : (stop : Stop) (bytes : List ℕ) → status_of stop ≡ 2 → IsTrueOfImage stop bytes → IsImage bytes → ⊥
+image_stop (Image fault) bytes two told image = faulty_is_no_image bytes fault told image
+image_stop (Refused refusal) bytes two told image = told
+image_stop File bytes two told image = absurd (omega arith)
+image_stop Input bytes two told image = absurd (omega arith)
+image_stop Output bytes two told image = absurd (omega arith)
+image_stop Memory bytes two told image = absurd (omega arith)
+
+pub rule_stop : (stop : Stop) (bytes : List ℕ) → status_of stop ≡ 2 → IsTrueOf stop bytes → IsAccepted bytes → ⊥
+rule_stop (Image fault) bytes two told accepted = faulty_is_no_image bytes fault told (accepted.0, accepted.1)
+rule_stop (Refused refusal) bytes two told accepted =
+    fault_is_not_checked told.0 accepted.0 bytes refusal told.1 told.2 accepted.1 accepted.2
+rule_stop File bytes two told accepted = absurd (omega arith)
+rule_stop Input bytes two told accepted = absurd (omega arith)
+rule_stop Output bytes two told accepted = absurd (omega arith)
+rule_stop Memory bytes two told accepted = absurd (omega arith)
+
+pub told_is_refused : (job : Job) (stop : Stop) (bytes : List ℕ) → status_of stop ≡ 2 → IsTold job stop bytes → Deserves job bytes → ⊥
+told_is_refused (Verify image) stop bytes two told deserved = rule_stop stop bytes two told deserved
+told_is_refused (Listing image) stop bytes two told deserved = image_stop stop bytes two told deserved
+
+pub known_is_refused : (known : Option (List ℕ)) (job : Job) (stop : Stop) → status_of stop ≡ 2
+    → IfSome known (IsTold job stop) → IfSome known (λ bytes. Deserves job bytes → ⊥)
+known_is_refused None job stop two told = tt
+known_is_refused (Some bytes) job stop two told = told_is_refused job stop bytes two told

@@ -1,0 +1,46 @@
+//! The command `verify`.
+ghost use Rattle.std.specs.Prelude.{◌≡◌, IfErr, IfOk, IfSome, Ok, OnOk};
+ghost use Rattle.sbx_image.specs.Reading.{reading};
+ghost use Rattle.sbx_verify.specs.Rules.{Checked};
+ghost use Rattle.sbx_command.specs.Stops.{IsTrueOf, status_of};
+ghost use Rattle.sbx_command.specs.Verdicts.{IsAccepted};
+
+use crate::images::image_in;
+use crate::stops::Stop;
+use sbx_verify::{Accepted, Cause, verify};
+use std::alloc::Global;
+use std::io::{Read, Write};
+
+/// The image of a file, where it keeps every rule.
+pub fn accepted_in<F: Read>(alloc: Global, file: &mut F) -> Result<Accepted, Stop>
+    ensures accepted { IfOk result (λ accepted. IfSome (F.remaining file.old)
+        (λ bytes. (reading bytes ≡ Ok accepted) × Checked accepted)) }
+    ensures stop { IfErr result (λ stop. IfSome (F.remaining file.old) (IsTrueOf stop)) }
+{
+    let image = image_in(alloc, file)?;
+    match verify(alloc, image) {
+        Ok(accepted) => Ok(accepted),
+        Err((_image, refusal)) if refusal.cause == Cause::V19 => Err(Stop::Memory),
+        Err((_image, refusal)) => Err(Stop::Refused(refusal)),
+    }
+}
+
+/// Writes all bytes of a result.
+pub fn write_all<O: Write>(out: &mut O, bytes: &[u8]) -> Result<(), Stop>
+    ensures { IfErr result (λ stop. stop ≡ Stop.Output) }
+{
+    match out.write_all(bytes) {
+        Ok(()) => Ok(()),
+        Err(_) => Err(Stop::Output),
+    }
+}
+
+/// Verifies the image of a file, and says so where it is accepted.
+pub fn verify_file<F: Read, O: Write>(alloc: Global, file: &mut F, out: &mut O) -> Result<(), Stop>
+    ensures accepted { OnOk result (IfSome (F.remaining file.old) IsAccepted) }
+    ensures stop { IfErr result (λ stop. IfSome (F.remaining file.old) (IsTrueOf stop)) }
+    ensures untouched { IfErr result (λ stop. status_of stop ≡ 2 → out.new ≡ out.old) }
+{
+    let _accepted = accepted_in(alloc, file)?;
+    write_all(out, b"accepted\n")
+}

@@ -1,0 +1,211 @@
+-- What keeps the rules is read from its spelling: a law for each part of an image.
+use Rattle.std.proofs.Common.{◌≡◌, ℕ, zero, suc, ◌+◌, ◌-◌, ◌*◌, ◌^◌, ◌<◌, ◌≤◌, ℤ, Bool, true, false, cond, ltb, eqb, ◌&&◌, List, [], ◌∷◌, ◌++◌, length, Result, Ok, Err, refl, sym, ap, subst, ◌∙◌, append_assoc, lit<, arith}
+use Rattle.std.specs.Int.{Width, w8, w16, w32, w64, to_be_bytes}
+use Rattle.std.specs.List.{flat_map, AllByRecursion}
+use Rattle.std.proofs.lemmas.Bool.{leb-true}
+use Rattle.std.proofs.lemmas.List.{append-nil}
+use Rattle.std.proofs.lemmas.List.Concat.{flat_map-cons}
+use Rattle.sbx_image.specs.declared.fault.ImageFault.{ImageFault}
+use Rattle.sbx_image.specs.declared.fault.ImageFault.TheVariants as fault
+use Rattle.sbx_image.specs.declared.order.Next.{Next}
+use Rattle.sbx_image.specs.declared.order.Next.TheVariants.{Exactly, Above}
+use Rattle.sbx_image.specs.declared.heads.Header.{Header}
+use Rattle.sbx_image.specs.declared.heads.FunctionHead.{FunctionHead}
+use Rattle.sbx_image.specs.declared.heads.BlockHead.{BlockHead}
+use Rattle.sbx_image.specs.declared.parts.Kind.{Kind}
+use Rattle.sbx_image.specs.declared.parts.Kind.TheVariants.{Leaf, Framed}
+use Rattle.sbx_image.specs.declared.parts.Range.{Range}
+use Rattle.sbx_image.specs.declared.parts.Cell.{Cell}
+use Rattle.sbx_image.specs.declared.parts.Term.{Term}
+use Rattle.sbx_image.specs.declared.parts.Block.{Block}
+use Rattle.sbx_image.specs.declared.parts.Function.{Function}
+use Rattle.sbx_image.specs.declared.parts.Parts.{Parts}
+use Rattle.sbx_image.specs.Rules.{◌>>=◌, wants, between, each, Place, code_start, admits, is_fuel, is_coefficient, is_known, is_data_length, in_order, range_keeps, location_keeps, cell_keeps, term_keeps, block_keeps, ranges_keep, function_keeps, parts_keep}
+use Rattle.sbx_image.specs.Reading.{number_at, number_in, signed_at, bytes_at, items_at, range_at, location_at, cell_at, term_at, block_head_at, block_at, kind_at, function_head_at, function_at, header_at, parts_at, reading}
+use Rattle.sbx_image.specs.Spelling.{IsBytes, IsTyped, IsTypedRange, IsTypedCell, IsTypedTerm, IsTypedBlock, IsTypedFunction, signed, kind_code, range_text, cell_text, term_text, block_text, function_head_text, function_text, header_text, spelling}
+use Rattle.sbx_image.proofs.Fields.{bind_ok, is_between, both_true, ok_is, wants_true, number_reads, number_in_reads, signed_reads, bytes_again, wide8, wide16, wide32, wide64, signed32, signed64}
+use Rattle.sbx_image.proofs.TakesLaws.{head_text, HeadKeeps, counts_text, HeaderKeeps}
+use Rattle.sbx_image.proofs.Limits.{range_kept, location_kept, cell_kept, term_kept, block_kept, function_kept, parts_kept}
+
+-- a step that gives what is known, and then the rest
+then_is : {A B : Type 0} (r : Result A ImageFault) (x : A) (f : A → Result B ImageFault) (y : Result B ImageFault) → r ≡ Ok x → f x ≡ y → (r >>= f) ≡ y
+then_is {A = A} r x f y h k = ap (λ (z : Result A ImageFault). z >>= f) h ∙ k
+
+-- pieces in turn
+unnest3 : (x1 x2 x3 rest : List ℕ) → (x1 ++ x2 ++ x3) ++ rest ≡ x1 ++ (x2 ++ (x3 ++ rest))
+unnest3 x1 x2 x3 rest = append_assoc (x1 ++ x2) x3 rest ∙ append_assoc x1 x2 (x3 ++ rest)
+
+unnest4 : (x1 x2 x3 x4 rest : List ℕ) → (x1 ++ x2 ++ x3 ++ x4) ++ rest ≡ x1 ++ (x2 ++ (x3 ++ (x4 ++ rest)))
+unnest4 x1 x2 x3 x4 rest = append_assoc (x1 ++ x2 ++ x3) x4 rest ∙ append_assoc (x1 ++ x2) x3 (x4 ++ rest) ∙ append_assoc x1 x2 (x3 ++ (x4 ++ rest))
+
+range_reads : (r : Range) (rest : List ℕ) → IsTypedRange r → range_keeps r ≡ Ok tt → range_at (range_text r ++ rest) ≡ Ok (r, rest)
+unfolding range_at range_text
+range_reads r rest typed e =
+    let k = range_kept r e in
+    let last = to_be_bytes w8 r.alignment ++ rest in
+    then_is _ _ _ _ (signed_reads w32 (2 ^ 32) wide32 signed32 r.lo (range_text r ++ rest) (signed w32 r.hi ++ last) refl typed.lo)
+    (then_is _ _ _ _ (signed_reads w32 (2 ^ 32) wide32 signed32 r.hi (signed w32 r.hi ++ last) last refl typed.hi)
+    (then_is _ _ _ _ (wants_true _ fault.Range k.ends)
+    (then_is _ _ _ _ (number_in_reads w8 (2 ^ 8) wide8 0 3 fault.Range r.alignment last rest refl (lit< tt) k.alignment) refl)))
+
+location_reads : (last location : ℕ) (bytes rest : List ℕ) → bytes ≡ to_be_bytes w16 location ++ rest → location_keeps last location ≡ Ok tt → location_at last bytes ≡ Ok (location, rest)
+unfolding location_at
+location_reads last location bytes rest b e =
+    let k = location_kept last location e in
+    then_is _ _ _ _ (number_in_reads w16 (2 ^ 16) wide16 1 1039 fault.Limit location bytes rest b (lit< tt) k.0)
+    (then_is _ _ _ _ (wants_true _ fault.Order k.1) refl)
+
+cell_reads : (last : ℕ) (c : Cell) (state : ℕ) (rest : List ℕ) → IsTypedCell c → cell_keeps last c ≡ Ok state → cell_at (last, cell_text c ++ rest) ≡ Ok (c, (state, rest))
+unfolding cell_at cell_text
+cell_reads last c state rest typed e =
+    let k = cell_kept last c state e in
+    then_is _ _ _ _ (location_reads last c.location (cell_text c ++ rest) (range_text c.range ++ rest) refl k.location)
+    (then_is _ _ _ _ (range_reads c.range rest typed k.range) (ap (λ (n : ℕ). Ok (c, (n, rest))) k.state_is))
+
+term_reads : (last : ℕ) (t : Term) (state : ℕ) (rest : List ℕ) → IsTypedTerm t → term_keeps last t ≡ Ok state → term_at (last, term_text t ++ rest) ≡ Ok (t, (state, rest))
+unfolding term_at term_text
+term_reads last t state rest typed e =
+    let k = term_kept last t state e in
+    let after = signed w32 t.coefficient ++ rest in
+    then_is _ _ _ _ (location_reads last t.location (term_text t ++ rest) after refl k.location)
+    (then_is _ _ _ _ (signed_reads w32 (2 ^ 32) wide32 signed32 t.coefficient after rest refl typed)
+    (then_is _ _ _ _ (wants_true _ fault.Limit k.coefficient) (ap (λ (n : ℕ). Ok (t, (n, rest))) k.state_is)))
+
+-- ---- lists of items
+
+module _ {A C S : Type 0} (item : C → Result (A × C) ImageFault) (at : S → List ℕ → C) (keeps : S → A → Result S ImageFault) (text : A → List ℕ) (Typed : A → Type 0) where
+  abbrev pub ReadsOne : Type 0
+  ReadsOne = (s : S) (a : A) (t : S) (rest : List ℕ) → Typed a → keeps s a ≡ Ok t → item (at s (text a ++ rest)) ≡ Ok (a, at t rest)
+
+  pub items_read : ReadsOne → (xs : List A) (s t : S) (rest : List ℕ) → AllByRecursion Typed xs → each keeps s xs ≡ Ok t → items_at item (length xs) (at s (flat_map text xs ++ rest)) ≡ Ok (xs, at t rest)
+  unfolding items_at each
+  items_read one [] s t rest typed e = ap (λ (z : S). Ok ([], at z rest)) (ok_is s t e)
+  items_read one (x ∷ xs) s t rest typed e =
+      let first = bind_ok (keeps s x) (λ next. each keeps next xs) t e in
+      let regrouped : flat_map text (x ∷ xs) ++ rest ≡ text x ++ (flat_map text xs ++ rest) = ap (λ (y : List ℕ). y ++ rest) (flat_map-cons text x xs) ∙ append_assoc (text x) (flat_map text xs) rest in
+      ap (λ (b : List ℕ). items_at item (suc (length xs)) (at s b)) regrouped
+      ∙ then_is _ _ _ _ (one s x first.0 (flat_map text xs ++ rest) typed.0 first.1) (then_is _ _ _ _ (items_read one xs first.0 t rest typed.1 first.2) refl)
+
+-- ---- blocks
+
+block_reads : (end : ℕ) (next : Next) (b : Block) (state : Next) (rest : List ℕ) → IsTypedBlock b → block_keeps end next b ≡ Ok state → block_at end (next, block_text b ++ rest) ≡ Ok (b, (state, rest))
+unfolding block_at block_head_at block_text
+block_reads end next b state rest typed e =
+    let k = block_kept end next b state e in
+    let n1 = to_be_bytes w32 b.address in
+    let n2 = to_be_bytes w16 (length b.cells) in
+    let n3 = to_be_bytes w16 (length b.terms) in
+    let n4 = signed w64 b.fuel in
+    let cells = flat_map cell_text b.cells in
+    let terms = flat_map term_text b.terms in
+    let lists = cells ++ (terms ++ rest) in
+    let grouped : block_text b ++ rest ≡ (n1 ++ n2 ++ n3 ++ n4) ++ lists = unnest3 (n1 ++ n2 ++ n3 ++ n4) cells terms rest in
+    let head : block_head_at end next (block_text b ++ rest) ≡ Ok (record { address = b.address; cells = length b.cells; terms = length b.terms; fuel = b.fuel }, lists)
+    = then_is _ _ _ _ (number_reads w32 (2 ^ 32) wide32 b.address (block_text b ++ rest) (n2 ++ (n3 ++ (n4 ++ lists))) grouped typed.address)
+    (then_is _ _ _ _ (wants_true _ fault.Order k.address)
+    (then_is _ _ _ _ (number_in_reads w16 (2 ^ 16) wide16 0 64 fault.Limit (length b.cells) (n2 ++ (n3 ++ (n4 ++ lists))) (n3 ++ (n4 ++ lists)) refl (lit< tt) k.cell_count)
+    (then_is _ _ _ _ (number_in_reads w16 (2 ^ 16) wide16 0 8 fault.Limit (length b.terms) (n3 ++ (n4 ++ lists)) (n4 ++ lists) refl (lit< tt) k.term_count)
+    (then_is _ _ _ _ (signed_reads w64 (2 ^ 64) wide64 signed64 b.fuel (n4 ++ lists) lists refl typed.fuel)
+    (then_is _ _ _ _ (wants_true _ fault.Limit k.fuel) refl))))) in
+    then_is _ _ _ _ head
+    (then_is _ _ _ _ (items_read cell_at (λ s y. (s, y)) cell_keeps cell_text IsTypedCell cell_reads b.cells 0 k.last_cell (terms ++ rest) typed.cells k.cells)
+    (then_is _ _ _ _ (items_read term_at (λ s y. (s, y)) term_keeps term_text IsTypedTerm term_reads b.terms 0 k.last_term rest typed.terms k.terms) (ap (λ (s : Next). Ok (b, (s, rest))) k.state_is)))
+
+-- ---- functions
+
+kind_reads : (k : Kind) (bytes rest : List ℕ) → bytes ≡ to_be_bytes w8 (kind_code k) ++ rest → kind_at bytes ≡ Ok (k, rest)
+unfolding kind_at
+kind_reads Leaf bytes rest b = then_is _ _ _ _ (number_in_reads w8 (2 ^ 8) wide8 0 1 fault.Limit 0 bytes rest b (lit< tt) refl) refl
+kind_reads Framed bytes rest b = then_is _ _ _ _ (number_in_reads w8 (2 ^ 8) wide8 0 1 fault.Limit 1 bytes rest b (lit< tt) refl) refl
+
+function_head_reads : (end : ℕ) (place : Place) (h : FunctionHead) (bytes rest : List ℕ) → bytes ≡ head_text h ++ rest → h.entry < 2 ^ 32 → HeadKeeps end place h → function_head_at end place bytes ≡ Ok (h, rest)
+unfolding function_head_at
+function_head_reads end place h bytes rest b entry k =
+    let r8 = to_be_bytes w16 h.blocks ++ rest in
+    let r7 = to_be_bytes w64 h.budget ++ r8 in
+    let r6 = to_be_bytes w32 h.stack_room ++ r7 in
+    let r5 = to_be_bytes w32 h.frame ++ r6 in
+    let r4 = to_be_bytes w32 h.entry ++ r5 in
+    let r3 = to_be_bytes w8 0 ++ r4 in
+    let r2 = to_be_bytes w8 h.results ++ r3 in
+    let r1 = to_be_bytes w8 h.params ++ r2 in
+    then_is _ _ _ _ (kind_reads h.kind bytes r1 b)
+    (then_is _ _ _ _ (number_in_reads w8 (2 ^ 8) wide8 0 6 fault.Limit h.params r1 r2 refl (lit< tt) k.params)
+    (then_is _ _ _ _ (number_in_reads w8 (2 ^ 8) wide8 0 6 fault.Limit h.results r2 r3 refl (lit< tt) k.results)
+    (then_is _ _ _ _ (number_in_reads w8 (2 ^ 8) wide8 0 0 fault.Limit 0 r3 r4 refl (lit< tt) refl)
+    (then_is _ _ _ _ (number_reads w32 (2 ^ 32) wide32 h.entry r4 r5 refl entry)
+    (then_is _ _ _ _ (wants_true _ fault.Order k.entry)
+    (then_is _ _ _ _ (number_in_reads w32 (2 ^ 32) wide32 0 4096 fault.Limit h.frame r5 r6 refl (lit< tt) k.frame)
+    (then_is _ _ _ _ (number_in_reads w32 (2 ^ 32) wide32 0 65536 fault.Limit h.stack_room r6 r7 refl (lit< tt) k.stack_room)
+    (then_is _ _ _ _ (number_in_reads w64 (2 ^ 64) wide64 0 1099511627775 fault.Limit h.budget r7 r8 refl (lit< tt) k.budget)
+    (then_is _ _ _ _ (number_in_reads w16 (2 ^ 16) wide16 1 (4096 - place.1) fault.Limit h.blocks r8 rest refl (omega arith) k.blocks) refl)))))))))
+
+function_reads : (end : ℕ) (place : Place) (f : Function) (state : Place) (rest : List ℕ) → IsTypedFunction f → function_keeps end place f ≡ Ok state → function_at end (place, function_text f ++ rest) ≡ Ok (f, (state, rest))
+unfolding function_at function_head_text function_text
+function_reads end place f state rest typed e =
+    let k = function_kept end place f state e in
+    let head : FunctionHead = record { kind = f.kind; params = length f.params; results = length f.results; entry = f.entry; frame = f.frame; stack_room = f.stack_room; budget = f.budget; blocks = length f.blocks } in
+    let params = flat_map range_text f.params in
+    let results = flat_map range_text f.results in
+    let blocks = flat_map block_text f.blocks in
+    let grouped : function_text f ++ rest ≡ head_text head ++ (params ++ (results ++ (blocks ++ rest))) = unnest4 (head_text head) params results blocks rest in
+    let keeps : HeadKeeps end place head = record { params = k.param_count; results = k.result_count; entry = k.entry; frame = k.frame; stack_room = k.stack_room; budget = k.budget; blocks = k.block_count } in
+    let same : (k.next, place.1 + length f.blocks) ≡ state = ap (λ (n : Next). (n, place.1 + length f.blocks)) k.next_is ∙ ap (λ (m : ℕ). (state.0, m)) k.blocks_is in
+    then_is _ _ _ _ (function_head_reads end place head (function_text f ++ rest) (params ++ (results ++ (blocks ++ rest))) grouped typed.entry keeps)
+    (then_is _ _ _ _ (items_read range_at (λ _ y. y) (λ _ r. range_keeps r) range_text IsTypedRange (λ _ r _ y t g. range_reads r y t g) f.params tt tt (results ++ (blocks ++ rest)) typed.params k.params)
+    (then_is _ _ _ _ (items_read range_at (λ _ y. y) (λ _ r. range_keeps r) range_text IsTypedRange (λ _ r _ y t g. range_reads r y t g) f.results tt tt (blocks ++ rest) typed.results k.results)
+    (then_is _ _ _ _ (items_read (block_at end) (λ s y. (s, y)) (block_keeps end) block_text IsTypedBlock (block_reads end) f.blocks (Exactly f.entry) k.next rest typed.blocks k.blocks)
+    (ap (λ (s : Place). Ok (f, (s, rest))) same))))
+
+-- ---- the whole
+
+header_reads : (h : Header) (bytes rest : List ℕ) → bytes ≡ counts_text h ++ rest → HeaderKeeps h → h.services.0 < 2 ^ 16 → header_at bytes ≡ Ok (h, rest)
+unfolding header_at
+header_reads h bytes rest b k services =
+    let r6 = to_be_bytes w16 h.functions ++ rest in
+    let r5 = to_be_bytes w16 h.stack_pages ++ r6 in
+    let r4 = to_be_bytes w32 h.bytes ++ r5 in
+    let r3 = to_be_bytes w32 h.words ++ r4 in
+    let r2 = to_be_bytes w16 h.services.0 ++ r3 in
+    let r1 = to_be_bytes w16 1 ++ r2 in
+    let few : h.bytes < 2 ^ 32 = omega (arith, leb-true h.bytes 262144 (both_true _ _ k.bytes).0) in
+    then_is _ _ _ _ (number_in_reads w32 (2 ^ 32) wide32 0x53425838 0x53425838 fault.Magic 0x53425838 bytes r1 b (lit< tt) refl)
+    (then_is _ _ _ _ (number_in_reads w16 (2 ^ 16) wide16 1 1 fault.Version 1 r1 r2 refl (lit< tt) refl)
+    (then_is _ _ _ _ (number_reads w16 (2 ^ 16) wide16 h.services.0 r2 r3 refl services)
+    (then_is _ _ _ _ (wants_true _ fault.Service k.services)
+    (then_is _ _ _ _ (number_in_reads w32 (2 ^ 32) wide32 1 65536 fault.Limit h.words r3 r4 refl (lit< tt) k.words)
+    (then_is _ _ _ _ (number_reads w32 (2 ^ 32) wide32 h.bytes r4 r5 refl few)
+    (then_is _ _ _ _ (wants_true _ fault.Limit k.bytes)
+    (then_is _ _ _ _ (number_in_reads w16 (2 ^ 16) wide16 1 16 fault.Limit h.stack_pages r5 r6 refl (lit< tt) k.stack_pages)
+    (then_is _ _ _ _ (number_in_reads w16 (2 ^ 16) wide16 1 256 fault.Limit h.functions r6 rest refl (lit< tt) k.functions) refl))))))))
+
+word_reads : (w : ℕ) (rest : List ℕ) → w < 2 ^ 32 → number_at w32 (to_be_bytes w32 w ++ rest) ≡ Ok (w, rest)
+word_reads w rest lt = number_reads w32 (2 ^ 32) wide32 w (to_be_bytes w32 w ++ rest) rest refl lt
+
+-- words have no order
+abbrev any_word : Unit {0} → ℕ → Result (Unit {0}) ImageFault
+any_word _ _ = Ok tt
+
+all_words : (ws : List ℕ) → each any_word tt ws ≡ Ok tt
+unfolding each
+all_words [] = refl
+all_words (w ∷ ws) = all_words ws
+
+parts_read : (p : Parts) (rest : List ℕ) → IsTyped p → parts_keep p ≡ Ok tt → parts_at (spelling p ++ rest) ≡ Ok (p, rest)
+unfolding parts_at header_text spelling
+parts_read p rest typed e =
+    let k = parts_kept p e in
+    let header : Header = record { services = p.services; words = length p.words; bytes = length p.bytes; stack_pages = p.stack_pages; functions = length p.functions } in
+    let words = flat_map (to_be_bytes w32) p.words in
+    let functions = flat_map function_text p.functions in
+    let end = code_start + 4 * length p.words in
+    let grouped : spelling p ++ rest ≡ counts_text header ++ (words ++ (p.bytes ++ (functions ++ rest))) = unnest4 (counts_text header) words p.bytes functions rest in
+    let keeps : HeaderKeeps header = record { services = k.services; words = k.word_count; bytes = k.byte_count; stack_pages = k.stack_pages; functions = k.function_count } in
+    then_is _ _ _ _ (header_reads header (spelling p ++ rest) (words ++ (p.bytes ++ (functions ++ rest))) grouped keeps typed.services)
+    (then_is _ _ _ _ (items_read (number_at w32) (λ _ y. y) any_word (to_be_bytes w32) (λ w. w < 2 ^ 32) (λ _ w _ y t _. word_reads w y t) p.words tt tt (p.bytes ++ (functions ++ rest)) typed.words (all_words p.words))
+    (then_is _ _ _ _ (bytes_again p.bytes (functions ++ rest))
+    (then_is _ _ _ _ (items_read (function_at end) (λ s y. (s, y)) (function_keeps end) function_text IsTypedFunction (function_reads end) p.functions (Exactly code_start, 0) k.last rest typed.functions k.functions) refl)))
+
+pub reading_again : (p : Parts) → IsTyped p → parts_keep p ≡ Ok tt → reading (spelling p) ≡ Ok p
+unfolding reading
+reading_again p typed e = then_is _ _ _ _ (ap parts_at (sym (append-nil (spelling p))) ∙ parts_read p [] typed e) refl

@@ -1,0 +1,8 @@
+//! Runs of accepted images.
+#![tactic(auto)]
+
+mod machine;
+mod runner;
+
+pub use runner::{Finished, RunFault, run_accepted};
+pub use sbx_verify::{Accepted, Cause, Refusal, budget, verify};

@@ -1,0 +1,343 @@
+#![tactic(auto, unfolding(v8_mmu::specs::Ram::entry_of, v8_mmu::specs::Ram::with_entry))]
+
+ghost use Rattle.std.specs.Prelude.{◌≡◌, ℕ, ◌+◌, ◌*◌, ◌/◌, ◌%◌, ◌^◌, ◌<◌, ◌≤◌, take, drop, ◌++◌, length, nat_le, ◌==◌, ◌&&◌, IsTrue, ◌↔◌, IfSome, Some, None, IsSome, false};
+ghost use Rattle.std.specs.Int.{w32, w64, from_be_bytes, to_be_bytes};
+ghost use Rattle.v8_mmu.specs.Answers.{Rose};
+ghost use Rattle.v8_mmu.specs.Meaning.{limit_of};
+ghost use Rattle.v8_mmu.specs.Ram.{entry_of, with_entry, HasBytes};
+ghost use Rattle.v8_core_tests.specs.Small.{has_half, kept, ram_load, ram_store};
+
+use v8_mmu::{Bus, BusFault, PortFault, Stop};
+use v8_word::Size;
+
+/// The address of the device's one word.
+const DEVICE: u64 = 0x1000_0000;
+
+/// `M` bytes of RAM, and a device of one word: it reads 7, and a word written to it stops the machine. A port that is broken
+/// fails at each call.
+#[derive(Drop)]
+pub struct Small<const M: usize> {
+    bytes: [u8; M],
+    stop: Option<Stop>,
+    pub broken: bool,
+    failures: u64,
+}
+
+impl<const M: usize> Small<M> {
+    /// RAM whose bytes are all 0.
+    pub fn new() -> Self {
+        Small {
+            bytes: [0; M],
+            stop: None,
+            broken: false,
+            failures: 0,
+        }
+    }
+
+    /// Writes a word of RAM, where there is one.
+    pub fn put(&mut self, pa: u64, word: u32) {
+        if let Some(_old) = self.word(pa) {
+            self.set_word(pa, word);
+        }
+    }
+
+    /// The word of RAM at a place.
+    pub fn word_at(&self, pa: u64) -> Option<u32> {
+        self.word(pa)
+    }
+
+    fn has(&self, pa: u64, count: u64) -> bool
+        requires { count < 9 }
+        ensures { result ≡ nat_le (pa + count) (length self.now.bytes) }
+    {
+        let room = self.bytes.len() as u64;
+        if room < count {
+            return false;
+        }
+        pa <= room - count
+    }
+
+    fn has_word(&self, pa: u64) -> bool
+        ensures { result ≡ (pa % 4 == 0 && nat_le (pa + 4) (length self.now.bytes)) }
+    {
+        if pa % 4 != 0 {
+            return false;
+        }
+        self.has(pa, 4)
+    }
+
+    fn has_half(&self, pa: u64) -> bool
+        ensures { result ≡ has_half self.now.bytes pa }
+    {
+        if pa % 2 != 0 {
+            return false;
+        }
+        self.has(pa, 2)
+    }
+
+    fn word(&self, pa: u64) -> Option<u32>
+        ensures value { result ≡ entry_of self.now.bytes pa }
+        ensures bytes { IsSome result → HasBytes self.now.bytes pa }
+    {
+        if !self.has_word(pa) {
+            return None;
+        }
+        let at = pa as usize;
+        let first = self.bytes[at];
+        let second = self.bytes[at + 1];
+        let third = self.bytes[at + 2];
+        let fourth = self.bytes[at + 3];
+        Some(u32::from_be_bytes([first, second, third, fourth]))
+    }
+
+    fn set_word(&mut self, pa: u64, word: u32)
+        requires { IsSome (entry_of self.old.bytes pa) }
+        ensures ram { self.new.bytes ≡ with_entry self.old.bytes pa word }
+        ensures stop { self.new.stop ≡ self.old.stop }
+        ensures failures { self.new.failures ≡ self.old.failures }
+    {
+        let at = pa as usize;
+        let bytes = &mut self.bytes[..];
+        bytes[at..at + 4].copy_from_slice(&word.to_be_bytes());
+    }
+
+    fn byte(&self, pa: u64) -> Option<u64>
+        ensures value { result ≡ ram_load self.now.bytes pa Size.Byte }
+        ensures small { IfSome result (λ v. v < 2 ^ 8) }
+    {
+        if !self.has(pa, 1) {
+            return None;
+        }
+        Some(u64::from(self.bytes[pa as usize]))
+    }
+
+    fn half(&self, pa: u64) -> Option<u64>
+        ensures value { result ≡ ram_load self.now.bytes pa Size.Half }
+        ensures small { IfSome result (λ v. v < 2 ^ 16) }
+    {
+        if !self.has_half(pa) {
+            return None;
+        }
+        let at = pa as usize;
+        let high = self.bytes[at];
+        let low = self.bytes[at + 1];
+        Some(u64::from(high) * 0x100 + u64::from(low))
+    }
+
+    fn double(&self, pa: u64) -> Option<u64>
+        ensures value { result ≡ ram_load self.now.bytes pa Size.Double }
+    {
+        if !self.has(pa, 8) {
+            return None;
+        }
+        let at = pa as usize;
+        let a = self.bytes[at];
+        let b = self.bytes[at + 1];
+        let c = self.bytes[at + 2];
+        let d = self.bytes[at + 3];
+        let e = self.bytes[at + 4];
+        let f = self.bytes[at + 5];
+        let g = self.bytes[at + 6];
+        let h = self.bytes[at + 7];
+        Some(u64::from_be_bytes([a, b, c, d, e, f, g, h]))
+    }
+
+    fn number(&self, pa: u64, size: Size) -> Option<u64>
+        ensures value { result ≡ ram_load self.now.bytes pa size }
+        ensures small { IfSome result (λ v. v < limit_of size) }
+    {
+        match size {
+            Size::Byte => self.byte(pa),
+            Size::Half => self.half(pa),
+            Size::Word => match self.word(pa) {
+                Some(word) => Some(u64::from(word)),
+                None => None,
+            },
+            Size::Double => self.double(pa),
+        }
+    }
+
+    fn set_byte(&mut self, pa: u64, value: u64) -> bool
+        requires { value < 2 ^ 8 }
+        ensures ram { kept result self.new.bytes ≡ ram_store self.old.bytes pa Size.Byte value }
+        ensures refused { result ≡ false → self.new.bytes ≡ self.old.bytes }
+        ensures stop { self.new.stop ≡ self.old.stop }
+        ensures failures { self.new.failures ≡ self.old.failures }
+    {
+        if !self.has(pa, 1) {
+            return false;
+        }
+        self.bytes[pa as usize] = value as u8;
+        true
+    }
+
+    fn set_half(&mut self, pa: u64, value: u64) -> bool
+        requires { value < 2 ^ 16 }
+        ensures ram { kept result self.new.bytes ≡ ram_store self.old.bytes pa Size.Half value }
+        ensures refused { result ≡ false → self.new.bytes ≡ self.old.bytes }
+        ensures stop { self.new.stop ≡ self.old.stop }
+        ensures failures { self.new.failures ≡ self.old.failures }
+    {
+        if !self.has_half(pa) {
+            return false;
+        }
+        let at = pa as usize;
+        self.bytes[at] = (value / 0x100) as u8;
+        self.bytes[at + 1] = (value % 0x100) as u8;
+        true
+    }
+
+    fn set_number_word(&mut self, pa: u64, value: u64) -> bool
+        requires { value < 2 ^ 32 }
+        ensures ram { kept result self.new.bytes ≡ ram_store self.old.bytes pa Size.Word value }
+        ensures refused { result ≡ false → self.new.bytes ≡ self.old.bytes }
+        ensures stop { self.new.stop ≡ self.old.stop }
+        ensures failures { self.new.failures ≡ self.old.failures }
+    {
+        match self.word(pa) {
+            Some(_old) => {
+                self.set_word(pa, value as u32);
+                true
+            }
+            None => false,
+        }
+    }
+
+    fn set_double(&mut self, pa: u64, value: u64) -> bool
+        requires { value < 2 ^ 64 }
+        ensures ram { kept result self.new.bytes ≡ ram_store self.old.bytes pa Size.Double value }
+        ensures refused { result ≡ false → self.new.bytes ≡ self.old.bytes }
+        ensures stop { self.new.stop ≡ self.old.stop }
+        ensures failures { self.new.failures ≡ self.old.failures }
+    {
+        if !self.has(pa, 8) {
+            return false;
+        }
+        let at = pa as usize;
+        let bytes = &mut self.bytes[..];
+        bytes[at..at + 8].copy_from_slice(&value.to_be_bytes());
+        true
+    }
+
+    fn set_number(&mut self, pa: u64, size: Size, value: u64) -> bool
+        requires { value < limit_of size }
+        ensures ram { kept result self.new.bytes ≡ ram_store self.old.bytes pa size value }
+        ensures refused { result ≡ false → self.new.bytes ≡ self.old.bytes }
+        ensures stop { self.new.stop ≡ self.old.stop }
+        ensures failures { self.new.failures ≡ self.old.failures }
+    {
+        match size {
+            Size::Byte => self.set_byte(pa, value),
+            Size::Half => self.set_half(pa, value),
+            Size::Word => self.set_number_word(pa, value),
+            Size::Double => self.set_double(pa, value),
+        }
+    }
+}
+
+impl<const M: usize> Small<M> {
+    ghost use Rattle.v8_core_tests.specs.Small.{answered, is_device, small_load, small_store, with_device};
+
+    fn is_device(pa: u64, size: Size) -> bool
+        ensures { result ≡ is_device pa size }
+    {
+        size == Size::Word && pa == DEVICE
+    }
+
+    fn answer(&self, pa: u64, size: Size) -> Option<u64>
+        ensures value { with_device self.now.stop result ≡ small_load self.now.bytes self.now.stop pa size }
+        ensures small { IfSome result (λ v. v < limit_of size) }
+    {
+        if Self::is_device(pa, size) {
+            Some(7)
+        } else {
+            self.number(pa, size)
+        }
+    }
+
+    fn take(&mut self, pa: u64, size: Size, value: u64) -> bool
+        requires { value < limit_of size }
+        ensures done { answered result self.new.bytes self.new.stop ≡ small_store self.old.bytes self.old.stop pa size value }
+        ensures refused { result ≡ false → (self.new.bytes ≡ self.old.bytes) × (self.new.stop ≡ self.old.stop) }
+        ensures failures { self.new.failures ≡ self.old.failures }
+    {
+        if Self::is_device(pa, size) {
+            self.stop = Some(Stop::Exit(value as u32));
+            true
+        } else {
+            self.set_number(pa, size, value)
+        }
+    }
+}
+
+impl<const M: usize> Bus for Small<M> {
+    ghost use Rattle.std.specs.Prelude.{Option};
+    ghost use Rattle.v8_mmu.specs.declared.bus.Stop.{Stop};
+    ghost use Rattle.v8_core_tests.specs.Small.{small};
+
+    ghost Device = { Option Stop };
+
+    ghost ram = { λ b. b.bytes };
+
+    ghost device = { λ b. b.stop };
+
+    ghost failed = { λ b. b.failures };
+
+    ghost meaning = { small };
+
+    fn entry(&self, pa: u64) -> Option<u32> {
+        self.word(pa)
+    }
+
+    fn set_entry(&mut self, pa: u64, word: u32) {
+        self.set_word(pa, word);
+    }
+
+    fn read(&mut self, pa: u64, size: Size) -> Result<u64, BusFault> {
+        if self.broken {
+            self.failures = self.failures.saturating_add(1);
+            return Err(BusFault::Port(PortFault::Reader));
+        }
+        match self.answer(pa, size) {
+            Some(value) => Ok(value),
+            None => Err(BusFault::Unanswered),
+        }
+    }
+
+    fn write(&mut self, pa: u64, size: Size, value: u64) -> Result<(), BusFault> {
+        if self.broken {
+            self.failures = self.failures.saturating_add(1);
+            return Err(BusFault::Port(PortFault::Writer));
+        }
+        if self.take(pa, size, value) {
+            Ok(())
+        } else {
+            Err(BusFault::Unanswered)
+        }
+    }
+
+    fn swap(&mut self, pa: u64, size: Size, value: u64) -> Result<u64, BusFault> {
+        if self.broken {
+            self.failures = self.failures.saturating_add(1);
+            return Err(BusFault::Port(PortFault::Memory));
+        }
+        match self.answer(pa, size) {
+            Some(old) => {
+                if self.take(pa, size, value) {
+                    Ok(old)
+                } else {
+                    Err(BusFault::Unanswered)
+                }
+            }
+            None => Err(BusFault::Unanswered),
+        }
+    }
+
+    fn stop(&self) -> Option<Stop> {
+        self.stop
+    }
+
+    fn failures(&self) -> u64 {
+        self.failures
+    }
+}

@@ -1,0 +1,1030 @@
+use crate::small::Small;
+use v8_core::{DataAccess, Event, Machine, Turn};
+use v8_mmu::{MmuRegs, PortFault, Stop};
+use v8_word::{Reg, Size, TrapType};
+
+// One page table entry, at ROOT, maps each address to itself. Code begins at CODE and data at 2000; trap vectors begin at
+// VECTORS, and that of `ta 3` returns after it has put the trap's place into %g2.
+const ROOT: u64 = 0xFFC;
+
+const CODE: u32 = 0x1000;
+
+const VECTORS: u32 = 0x3000;
+
+type Tested = Machine<8, Small<0x4000>>;
+
+/// Writes words from a place on.
+fn put_all(bus: &mut Small<0x4000>, place: u32, words: &[u32]) {
+    let mut at = place;
+    for word in words {
+        bus.put(u64::from(at), *word);
+        at = at.wrapping_add(4);
+    }
+}
+
+/// A machine that comes to these words, on pages of this ACC.
+fn machine(acc: u32, psr: u32, words: &[u32]) -> Tested {
+    let mut bus = Small::new();
+    bus.put(ROOT, (acc % 8) * 4 + 2);
+    put_all(&mut bus, CODE, words);
+    put_all(&mut bus, 0x3830, &[0x84046000, 0x81C48000, 0x81CCA004]);
+    let mut machine = Machine::new(
+        bus,
+        MmuRegs {
+            table: ROOT,
+            context: 0,
+        },
+    );
+    machine.set_pc(CODE);
+    machine.set_npc(CODE + 4);
+    machine.set_tbr(VECTORS);
+    machine.set_psr(psr);
+    machine
+}
+
+/// The word of a global register.
+fn global(machine: &Tested, number: u8) -> u32 {
+    match Reg::new(number) {
+        Some(r) => machine.reg(r),
+        None => 0,
+    }
+}
+
+fn root_entry(machine: &Tested) -> Option<u32> {
+    machine.bus().word_at(ROOT)
+}
+
+/// Words that run some turns from a state, and the state that they leave.
+#[derive(Clone, Copy)]
+struct Program {
+    psr: u32,
+    words: &'static [u32],
+    turns: u32,
+    globals: [u32; 3],
+    pc: u32,
+    psr_after: u32,
+}
+
+const PROGRAMS: [Program; 46] = [
+    // or %g0,5,%g1; add %g1,7,%g2; sub %g2,%g1,%g3
+    Program {
+        psr: 0x20,
+        words: &[0x82102005, 0x84006007, 0x86208001],
+        turns: 3,
+        globals: [0x5, 0xC, 0x7],
+        pc: 0x100C,
+        psr_after: 0x20,
+    },
+    // or %g0,5,%g0; add %g0,1,%g1
+    Program {
+        psr: 0x20,
+        words: &[0x80102005, 0x82002001],
+        turns: 2,
+        globals: [0x1, 0x0, 0x0],
+        pc: 0x1008,
+        psr_after: 0x20,
+    },
+    // sethi 0x3FFFFF,%g1; or %g1,0x3FF,%g2; add %g2,1,%g3
+    Program {
+        psr: 0x20,
+        words: &[0x033FFFFF, 0x841063FF, 0x8600A001],
+        turns: 3,
+        globals: [0xFFFFFC00, 0xFFFFFFFF, 0x0],
+        pc: 0x100C,
+        psr_after: 0x20,
+    },
+    // sethi 0x1FFFFF,%g1; or %g1,0x3FF,%g1; addcc %g1,1,%g2
+    Program {
+        psr: 0x20,
+        words: &[0x031FFFFF, 0x821063FF, 0x84806001],
+        turns: 3,
+        globals: [0x7FFFFFFF, 0x80000000, 0x0],
+        pc: 0x100C,
+        psr_after: 0xA00020,
+    },
+    // subcc %g0,1,%g1; subx %g0,0,%g2; addx %g0,0,%g3
+    Program {
+        psr: 0x20,
+        words: &[0x82A02001, 0x84602000, 0x86402000],
+        turns: 3,
+        globals: [0xFFFFFFFF, 0xFFFFFFFF, 0x1],
+        pc: 0x100C,
+        psr_after: 0x900020,
+    },
+    // or %g0,0xFF,%g1; andn %g1,0xF,%g2; xnor %g1,%g2,%g3
+    Program {
+        psr: 0x20,
+        words: &[0x821020FF, 0x8428600F, 0x86384002],
+        turns: 3,
+        globals: [0xFF, 0xF0, 0xFFFFFFF0],
+        pc: 0x100C,
+        psr_after: 0x20,
+    },
+    // or %g0,0xFF,%g1; orn %g1,0xF,%g2; xorcc %g1,%g1,%g3
+    Program {
+        psr: 0x20,
+        words: &[0x821020FF, 0x8430600F, 0x86984001],
+        turns: 3,
+        globals: [0xFF, 0xFFFFFFFF, 0x0],
+        pc: 0x100C,
+        psr_after: 0x400020,
+    },
+    // or %g0,-16,%g1; sra %g1,2,%g2; srl %g1,28,%g3
+    Program {
+        psr: 0x20,
+        words: &[0x82103FF0, 0x85386002, 0x8730601C],
+        turns: 3,
+        globals: [0xFFFFFFF0, 0xFFFFFFFC, 0xF],
+        pc: 0x100C,
+        psr_after: 0x20,
+    },
+    // or %g0,3,%g1; or %g0,33,%g2; sll %g1,%g2,%g3
+    Program {
+        psr: 0x20,
+        words: &[0x82102003, 0x84102021, 0x87284002],
+        turns: 3,
+        globals: [0x3, 0x21, 0x6],
+        pc: 0x100C,
+        psr_after: 0x20,
+    },
+    // or %g0,-1,%g1; umul %g1,%g1,%g2; rd %y,%g3
+    Program {
+        psr: 0x20,
+        words: &[0x82103FFF, 0x84504001, 0x87400000],
+        turns: 3,
+        globals: [0xFFFFFFFF, 0x1, 0xFFFFFFFE],
+        pc: 0x100C,
+        psr_after: 0x20,
+    },
+    // or %g0,-2,%g1; smulcc %g1,3,%g2; rd %y,%g3
+    Program {
+        psr: 0x20,
+        words: &[0x82103FFE, 0x84D86003, 0x87400000],
+        turns: 3,
+        globals: [0xFFFFFFFE, 0xFFFFFFFA, 0xFFFFFFFF],
+        pc: 0x100C,
+        psr_after: 0x800020,
+    },
+    // wr %g0,1,%y; udiv %g1,2,%g2
+    Program {
+        psr: 0x20,
+        words: &[0x81802001, 0x84706002],
+        turns: 2,
+        globals: [0x0, 0x80000000, 0x0],
+        pc: 0x1008,
+        psr_after: 0x20,
+    },
+    // wr %g0,1,%y; udivcc %g0,1,%g2
+    Program {
+        psr: 0x20,
+        words: &[0x81802001, 0x84F02001],
+        turns: 2,
+        globals: [0x0, 0xFFFFFFFF, 0x0],
+        pc: 0x1008,
+        psr_after: 0xA00020,
+    },
+    // wr %g0,-1,%y; sethi 0x200000,%g1; sdivcc %g1,-1,%g2
+    Program {
+        psr: 0x20,
+        words: &[0x81803FFF, 0x03200000, 0x84F87FFF],
+        turns: 3,
+        globals: [0x80000000, 0x7FFFFFFF, 0x0],
+        pc: 0x100C,
+        psr_after: 0x200020,
+    },
+    // wr %g0,1,%y; or %g0,2,%g1; mulscc %g1,3,%g2; rd %y,%g3
+    Program {
+        psr: 0x20,
+        words: &[0x81802001, 0x82102002, 0x85206003, 0x87400000],
+        turns: 4,
+        globals: [0x2, 0x4, 0x0],
+        pc: 0x1010,
+        psr_after: 0x20,
+    },
+    // or %g0,1,%g1; taddcc %g1,2,%g2
+    Program {
+        psr: 0x20,
+        words: &[0x82102001, 0x85006002],
+        turns: 2,
+        globals: [0x1, 0x3, 0x0],
+        pc: 0x1008,
+        psr_after: 0x200020,
+    },
+    // or %g0,4,%g1; taddcctv %g1,8,%g2; tsubcctv %g1,4,%g3
+    Program {
+        psr: 0x20,
+        words: &[0x82102004, 0x85106008, 0x87186004],
+        turns: 3,
+        globals: [0x4, 0xC, 0x0],
+        pc: 0x100C,
+        psr_after: 0x400020,
+    },
+    // or %g0,0xFF,%g1; wr %g1,0xF,%y; rd %y,%g2
+    Program {
+        psr: 0x20,
+        words: &[0x821020FF, 0x8180600F, 0x85400000],
+        turns: 3,
+        globals: [0xFF, 0xF0, 0x0],
+        pc: 0x100C,
+        psr_after: 0x20,
+    },
+    // ba .12; or %g0,1,%g1; or %g0,2,%g2; or %g0,3,%g3
+    Program {
+        psr: 0x20,
+        words: &[0x10800003, 0x82102001, 0x84102002, 0x86102003],
+        turns: 3,
+        globals: [0x1, 0x0, 0x3],
+        pc: 0x1010,
+        psr_after: 0x20,
+    },
+    // ba,a .12; or %g0,1,%g1; or %g0,2,%g2; or %g0,3,%g3
+    Program {
+        psr: 0x20,
+        words: &[0x30800003, 0x82102001, 0x84102002, 0x86102003],
+        turns: 3,
+        globals: [0x0, 0x0, 0x3],
+        pc: 0x1010,
+        psr_after: 0x20,
+    },
+    // bn,a .12; or %g0,1,%g1; or %g0,2,%g2
+    Program {
+        psr: 0x20,
+        words: &[0x20800003, 0x82102001, 0x84102002],
+        turns: 3,
+        globals: [0x0, 0x2, 0x0],
+        pc: 0x100C,
+        psr_after: 0x20,
+    },
+    // subcc %g0,%g0,%g0; bne,a .12; or %g0,1,%g1; or %g0,2,%g2
+    Program {
+        psr: 0x20,
+        words: &[0x80A00000, 0x32800003, 0x82102001, 0x84102002],
+        turns: 4,
+        globals: [0x0, 0x2, 0x0],
+        pc: 0x1010,
+        psr_after: 0x400020,
+    },
+    // subcc %g0,%g0,%g0; be,a .12; or %g0,1,%g1; or %g0,2,%g2; or %g0,3,%g3
+    Program {
+        psr: 0x20,
+        words: &[0x80A00000, 0x22800003, 0x82102001, 0x84102002, 0x86102003],
+        turns: 4,
+        globals: [0x1, 0x0, 0x3],
+        pc: 0x1014,
+        psr_after: 0x400020,
+    },
+    // or %g0,-1,%g1; subcc %g1,1,%g0; bl .12; or %g0,2,%g2; nop; bgu .12; or %g0,3,%g3
+    Program {
+        psr: 0x20,
+        words: &[
+            0x82103FFF, 0x80A06001, 0x06800003, 0x84102002, 0x01000000, 0x18800003, 0x86102003,
+        ],
+        turns: 6,
+        globals: [0xFFFFFFFF, 0x2, 0x3],
+        pc: 0x1020,
+        psr_after: 0x800020,
+    },
+    // call .12; or %g0,1,%g1; nop; add %o7,0,%g2
+    Program {
+        psr: 0x20,
+        words: &[0x40000003, 0x82102001, 0x01000000, 0x8403E000],
+        turns: 3,
+        globals: [0x1, 0x1000, 0x0],
+        pc: 0x1010,
+        psr_after: 0x20,
+    },
+    // call .8; nop; jmpl %o7+20,%g1; or %g0,1,%g2; nop; or %g0,3,%g3
+    Program {
+        psr: 0x20,
+        words: &[
+            0x40000002, 0x01000000, 0x83C3E014, 0x84102001, 0x01000000, 0x86102003,
+        ],
+        turns: 5,
+        globals: [0x1008, 0x1, 0x3],
+        pc: 0x1018,
+        psr_after: 0x20,
+    },
+    // or %g0,9,%o0; save %o0,1,%g1; add %i0,0,%g2; restore %i0,2,%g3
+    Program {
+        psr: 0x20,
+        words: &[0x90102009, 0x83E22001, 0x84062000, 0x87EE2002],
+        turns: 4,
+        globals: [0xA, 0x9, 0xB],
+        pc: 0x1010,
+        psr_after: 0x20,
+    },
+    // or %g0,9,%o0; save %o0,1,%l0; add %l0,0,%g1; add %o0,0,%g2
+    Program {
+        psr: 0x20,
+        words: &[0x90102009, 0xA1E22001, 0x82042000, 0x84022000],
+        turns: 4,
+        globals: [0xA, 0x0, 0x0],
+        pc: 0x1010,
+        psr_after: 0x27,
+    },
+    // sethi 8,%g1; st %g1,[%g1+4]; ld [%g1+4],%g2
+    Program {
+        psr: 0x20,
+        words: &[0x03000008, 0xC2206004, 0xC4006004],
+        turns: 3,
+        globals: [0x2000, 0x2000, 0x0],
+        pc: 0x100C,
+        psr_after: 0x20,
+    },
+    // sethi 8,%g1; sethi 0x201008,%g3; st %g3,[%g1]; ldsb [%g1],%g2; ldub [%g1+1],%g3
+    Program {
+        psr: 0x20,
+        words: &[0x03000008, 0x07201008, 0xC6204000, 0xC4484000, 0xC6086001],
+        turns: 5,
+        globals: [0x2000, 0xFFFFFF80, 0x40],
+        pc: 0x1014,
+        psr_after: 0x20,
+    },
+    // sethi 8,%g1; sethi 0x201008,%g3; st %g3,[%g1]; ldsh [%g1],%g2; lduh [%g1+2],%g3
+    Program {
+        psr: 0x20,
+        words: &[0x03000008, 0x07201008, 0xC6204000, 0xC4504000, 0xC6106002],
+        turns: 5,
+        globals: [0x2000, 0xFFFF8040, 0x2000],
+        pc: 0x1014,
+        psr_after: 0x20,
+    },
+    // sethi 8,%g1; or %g0,0x1FF,%g2; sth %g2,[%g1+2]; stb %g2,[%g1+1]; ld [%g1],%g3
+    Program {
+        psr: 0x20,
+        words: &[0x03000008, 0x841021FF, 0xC4306002, 0xC4286001, 0xC6004000],
+        turns: 5,
+        globals: [0x2000, 0x1FF, 0xFF01FF],
+        pc: 0x1014,
+        psr_after: 0x20,
+    },
+    // sethi 8,%g1; or %g0,3,%g2; or %g0,4,%g3; std %g2,[%g1+8]; ld [%g1+8],%g3; ld [%g1+12],%g2
+    Program {
+        psr: 0x20,
+        words: &[
+            0x03000008, 0x84102003, 0x86102004, 0xC4386008, 0xC6006008, 0xC400600C,
+        ],
+        turns: 6,
+        globals: [0x2000, 0x4, 0x3],
+        pc: 0x1018,
+        psr_after: 0x20,
+    },
+    // sethi 8,%g1; or %g0,3,%g2; st %g2,[%g1+4]; ldd [%g1],%g2
+    Program {
+        psr: 0x20,
+        words: &[0x03000008, 0x84102003, 0xC4206004, 0xC4184000],
+        turns: 4,
+        globals: [0x2000, 0x0, 0x3],
+        pc: 0x1010,
+        psr_after: 0x20,
+    },
+    // sethi 8,%g2; or %g0,7,%g3; st %g3,[%g2+4]; ldd [%g2],%g0
+    Program {
+        psr: 0x20,
+        words: &[0x05000008, 0x86102007, 0xC620A004, 0xC0188000],
+        turns: 4,
+        globals: [0x7, 0x2000, 0x7],
+        pc: 0x1010,
+        psr_after: 0x20,
+    },
+    // sethi 8,%g1; ldstub [%g1+1],%g2; ld [%g1],%g3
+    Program {
+        psr: 0x20,
+        words: &[0x03000008, 0xC4686001, 0xC6004000],
+        turns: 3,
+        globals: [0x2000, 0x0, 0xFF0000],
+        pc: 0x100C,
+        psr_after: 0x20,
+    },
+    // sethi 8,%g1; or %g0,5,%g2; or %g0,9,%g3; st %g3,[%g1]; swap [%g1],%g2; ld [%g1],%g3
+    Program {
+        psr: 0x20,
+        words: &[
+            0x03000008, 0x84102005, 0x86102009, 0xC6204000, 0xC4784000, 0xC6004000,
+        ],
+        turns: 6,
+        globals: [0x2000, 0x9, 0x5],
+        pc: 0x1018,
+        psr_after: 0x20,
+    },
+    // rd %psr,%g1; rd %wim,%g2; rd %tbr,%g3
+    Program {
+        psr: 0xA0,
+        words: &[0x83480000, 0x85500000, 0x87580000],
+        turns: 3,
+        globals: [0xA0, 0x2, 0x3000],
+        pc: 0x100C,
+        psr_after: 0xA0,
+    },
+    // or %g0,-1,%g1; wr %g1,0,%wim; rd %wim,%g2
+    Program {
+        psr: 0xA0,
+        words: &[0x82103FFF, 0x81906000, 0x85500000],
+        turns: 3,
+        globals: [0xFFFFFFFF, 0xFF, 0x0],
+        pc: 0x100C,
+        psr_after: 0xA0,
+    },
+    // or %g0,-1,%g1; wr %g1,0,%tbr; rd %tbr,%g2
+    Program {
+        psr: 0xA0,
+        words: &[0x82103FFF, 0x81986000, 0x85580000],
+        turns: 3,
+        globals: [0xFFFFFFFF, 0xFFFFF000, 0x0],
+        pc: 0x100C,
+        psr_after: 0xA0,
+    },
+    // or %g0,-25,%g1; wr %g1,0,%psr; rd %psr,%g2
+    Program {
+        psr: 0xA0,
+        words: &[0x82103FE7, 0x81886000, 0x85480000],
+        turns: 3,
+        globals: [0xFFFFFFE7, 0xF00FE7, 0x0],
+        pc: 0x100C,
+        psr_after: 0xF00FE7,
+    },
+    // sethi 8,%g1; sta %g1,[%g1+%g0] 0xB; lda [%g1+%g0] 0xA,%g2; lda [%g1+%g0] 9,%g3
+    Program {
+        psr: 0xA0,
+        words: &[0x03000008, 0xC2A04160, 0xC4804140, 0xC6804120],
+        turns: 4,
+        globals: [0x2000, 0x2000, 0x2000],
+        pc: 0x1010,
+        psr_after: 0xA0,
+    },
+    // stbar; flush %g0; or %g0,1,%g1
+    Program {
+        psr: 0x20,
+        words: &[0x8143C000, 0x81D80000, 0x82102001],
+        turns: 3,
+        globals: [0x1, 0x0, 0x0],
+        pc: 0x100C,
+        psr_after: 0x20,
+    },
+    // te 3; or %g0,1,%g1
+    Program {
+        psr: 0x20,
+        words: &[0x83D02003, 0x82102001],
+        turns: 2,
+        globals: [0x1, 0x0, 0x0],
+        pc: 0x1008,
+        psr_after: 0x20,
+    },
+    // ta 3; or %g0,1,%g1
+    Program {
+        psr: 0x20,
+        words: &[0x91D02003, 0x82102001],
+        turns: 5,
+        globals: [0x1, 0x1000, 0x0],
+        pc: 0x1008,
+        psr_after: 0x20,
+    },
+    // or %g0,0x50,%g1; ta %g1+100
+    Program {
+        psr: 0x20,
+        words: &[0x82102050, 0x91D06064],
+        turns: 2,
+        globals: [0x50, 0x0, 0x0],
+        pc: 0x3B40,
+        psr_after: 0x87,
+    },
+];
+
+/// Words of which the last traps, with the fault status that it leaves.
+#[derive(Clone, Copy)]
+struct Trapping {
+    psr: u32,
+    acc: u32,
+    words: &'static [u32],
+    trap: u8,
+    status: u32,
+}
+
+const TRAPS: [Trapping; 37] = [
+    // sethi 0x20000,%g1; jmpl %g1,%g0; nop
+    Trapping {
+        psr: 0x20,
+        acc: 3,
+        words: &[0x03020000, 0x81C04000, 0x01000000],
+        trap: 0x01,
+        status: 0x56,
+    },
+    // unimp 0
+    Trapping {
+        psr: 0x20,
+        acc: 3,
+        words: &[0x00000000],
+        trap: 0x02,
+        status: 0x0,
+    },
+    // rd %psr,%g1
+    Trapping {
+        psr: 0x20,
+        acc: 3,
+        words: &[0x83480000],
+        trap: 0x03,
+        status: 0x0,
+    },
+    // .word 0x81A00000
+    Trapping {
+        psr: 0x20,
+        acc: 3,
+        words: &[0x81A00000],
+        trap: 0x04,
+        status: 0x0,
+    },
+    // .word 0x81B00000
+    Trapping {
+        psr: 0x20,
+        acc: 3,
+        words: &[0x81B00000],
+        trap: 0x24,
+        status: 0x0,
+    },
+    // save %g0,%g0,%g0
+    Trapping {
+        psr: 0x22,
+        acc: 3,
+        words: &[0x81E00000],
+        trap: 0x05,
+        status: 0x0,
+    },
+    // restore %g0,%g0,%g0
+    Trapping {
+        psr: 0x20,
+        acc: 3,
+        words: &[0x81E80000],
+        trap: 0x06,
+        status: 0x0,
+    },
+    // ld [%g0+2],%g1
+    Trapping {
+        psr: 0x20,
+        acc: 3,
+        words: &[0xC2002002],
+        trap: 0x07,
+        status: 0x0,
+    },
+    // jmpl %g0+2,%g1
+    Trapping {
+        psr: 0x20,
+        acc: 3,
+        words: &[0x83C02002],
+        trap: 0x07,
+        status: 0x0,
+    },
+    // sethi 0x20000,%g1; ld [%g1],%g2
+    Trapping {
+        psr: 0x20,
+        acc: 3,
+        words: &[0x03020000, 0xC4004000],
+        trap: 0x09,
+        status: 0x16,
+    },
+    // or %g0,1,%g1; taddcctv %g1,0,%g2
+    Trapping {
+        psr: 0x20,
+        acc: 3,
+        words: &[0x82102001, 0x85106000],
+        trap: 0x0A,
+        status: 0x0,
+    },
+    // udiv %g1,0,%g2
+    Trapping {
+        psr: 0x20,
+        acc: 3,
+        words: &[0x84706000],
+        trap: 0x2A,
+        status: 0x0,
+    },
+    // ta 5
+    Trapping {
+        psr: 0x20,
+        acc: 3,
+        words: &[0x91D02005],
+        trap: 0x85,
+        status: 0x0,
+    },
+    // ldd [%g0+1],%g1
+    Trapping {
+        psr: 0x20,
+        acc: 3,
+        words: &[0xC2182001],
+        trap: 0x02,
+        status: 0x0,
+    },
+    // std %g1,[%g0+1]
+    Trapping {
+        psr: 0x20,
+        acc: 3,
+        words: &[0xC2382001],
+        trap: 0x02,
+        status: 0x0,
+    },
+    // lda [%g0+%g0] 0xB,%g1
+    Trapping {
+        psr: 0x20,
+        acc: 3,
+        words: &[0xC2800160],
+        trap: 0x03,
+        status: 0x0,
+    },
+    // lda [%g0+1],%g1
+    Trapping {
+        psr: 0x20,
+        acc: 3,
+        words: &[0xC2802001],
+        trap: 0x03,
+        status: 0x0,
+    },
+    // lda [%g0+1],%g1
+    Trapping {
+        psr: 0xA0,
+        acc: 3,
+        words: &[0xC2802001],
+        trap: 0x02,
+        status: 0x0,
+    },
+    // ldda [%g0+%g0] 0xB,%g1
+    Trapping {
+        psr: 0xA0,
+        acc: 3,
+        words: &[0xC2980160],
+        trap: 0x02,
+        status: 0x0,
+    },
+    // or %g0,2,%g1; lda [%g1+%g0] 0x20,%g2
+    Trapping {
+        psr: 0xA0,
+        acc: 3,
+        words: &[0x82102002, 0xC4804400],
+        trap: 0x07,
+        status: 0x0,
+    },
+    // lda [%g0+%g0] 0x20,%g1
+    Trapping {
+        psr: 0xA0,
+        acc: 3,
+        words: &[0xC2800400],
+        trap: 0x09,
+        status: 0x0,
+    },
+    // rett %g0
+    Trapping {
+        psr: 0x20,
+        acc: 3,
+        words: &[0x81C80000],
+        trap: 0x03,
+        status: 0x0,
+    },
+    // rett %g0+2
+    Trapping {
+        psr: 0xA0,
+        acc: 3,
+        words: &[0x81C82002],
+        trap: 0x02,
+        status: 0x0,
+    },
+    // wr %g0,0x88,%psr
+    Trapping {
+        psr: 0x20,
+        acc: 3,
+        words: &[0x81882088],
+        trap: 0x03,
+        status: 0x0,
+    },
+    // wr %g0,0x88,%psr
+    Trapping {
+        psr: 0xA0,
+        acc: 3,
+        words: &[0x81882088],
+        trap: 0x02,
+        status: 0x0,
+    },
+    // lda [%g0+%g0] 0xA,%g1
+    Trapping {
+        psr: 0xA0,
+        acc: 4,
+        words: &[0xC2800140],
+        trap: 0x09,
+        status: 0xA,
+    },
+    // lda [%g0+%g0] 0xB,%g1
+    Trapping {
+        psr: 0xA0,
+        acc: 4,
+        words: &[0xC2800160],
+        trap: 0x09,
+        status: 0x2A,
+    },
+    // sta %g0,[%g0+%g0] 8
+    Trapping {
+        psr: 0xA0,
+        acc: 4,
+        words: &[0xC0A00100],
+        trap: 0x09,
+        status: 0xCA,
+    },
+    // sta %g0,[%g0+%g0] 9
+    Trapping {
+        psr: 0xA0,
+        acc: 4,
+        words: &[0xC0A00120],
+        trap: 0x09,
+        status: 0xEA,
+    },
+    // sta %g0,[%g0+%g0] 0xA
+    Trapping {
+        psr: 0xA0,
+        acc: 4,
+        words: &[0xC0A00140],
+        trap: 0x09,
+        status: 0x8A,
+    },
+    // sta %g0,[%g0+%g0] 0xB
+    Trapping {
+        psr: 0xA0,
+        acc: 4,
+        words: &[0xC0A00160],
+        trap: 0x09,
+        status: 0xAA,
+    },
+    // swapa [%g0+%g0] 0xB,%g1
+    Trapping {
+        psr: 0xA0,
+        acc: 4,
+        words: &[0xC2F80160],
+        trap: 0x09,
+        status: 0xAA,
+    },
+    // lda [%g0+%g0] 8,%g1
+    Trapping {
+        psr: 0xA0,
+        acc: 7,
+        words: &[0xC2800100],
+        trap: 0x09,
+        status: 0x4E,
+    },
+    // lda [%g0+%g0] 0xA,%g1
+    Trapping {
+        psr: 0xA0,
+        acc: 7,
+        words: &[0xC2800140],
+        trap: 0x09,
+        status: 0xE,
+    },
+    // sta %g0,[%g0+%g0] 8
+    Trapping {
+        psr: 0xA0,
+        acc: 7,
+        words: &[0xC0A00100],
+        trap: 0x09,
+        status: 0xCE,
+    },
+    // sta %g0,[%g0+%g0] 0xA
+    Trapping {
+        psr: 0xA0,
+        acc: 7,
+        words: &[0xC0A00140],
+        trap: 0x09,
+        status: 0x8E,
+    },
+    // ldstuba [%g0+%g0] 0xA,%g1
+    Trapping {
+        psr: 0xA0,
+        acc: 7,
+        words: &[0xC2E80140],
+        trap: 0x09,
+        status: 0x8E,
+    },
+];
+
+// PSR and WIM before the word, and the trap that leads to error mode
+const ERRORS: [(u32, u32, u32, u8); 5] = [
+    // unimp 0
+    (0x80, 2, 0x00000000, 0x02),
+    // rett %g0
+    (0x00, 2, 0x81C80000, 0x03),
+    // rett %g0+2
+    (0x80, 2, 0x81C82002, 0x06),
+    // rett %g0+2
+    (0x80, 0, 0x81C82002, 0x07),
+    // ta 5
+    (0x80, 2, 0x91D02005, 0x85),
+];
+
+// An alternate load or store that its pages' ACC admits.
+const ADMITTED: [(u32, u32); 6] = [
+    // lda [%g0+%g0] 8,%g1
+    (4, 0xC2800100),
+    // lda [%g0+%g0] 9,%g1
+    (4, 0xC2800120),
+    (7, 0xC2800120),
+    // lda [%g0+%g0] 0xB,%g1
+    (7, 0xC2800160),
+    // sta %g0,[%g0+%g0] 9
+    (7, 0xC0A00120),
+    // sta %g0,[%g0+%g0] 0xB
+    (7, 0xC0A00160),
+];
+
+#[test]
+fn programs_leave_the_state_of_the_manual(rt: HostRuntime) {
+    for program in &PROGRAMS {
+        let mut machine = machine(3, program.psr, program.words);
+        for _ in 0..program.turns {
+            assert!(rt; machine.step().is_ok());
+        }
+        let expected = program.globals;
+        assert_eq!(rt; global(&machine, 1), expected[0]);
+        assert_eq!(rt; global(&machine, 2), expected[1]);
+        assert_eq!(rt; global(&machine, 3), expected[2]);
+        assert_eq!(rt; machine.pc(), program.pc);
+        assert_eq!(rt; machine.psr(), program.psr_after);
+    }
+}
+
+/// Steps up to the first turn that isn't an instruction that ran.
+fn first_end(machine: &mut Tested) -> Option<Event> {
+    for _ in 0..8 {
+        match machine.step() {
+            Ok(turn) if turn.event == Event::Ran => {}
+            Ok(turn) => return Some(turn.event),
+            Err(_) => return None,
+        }
+    }
+    None
+}
+
+#[test]
+fn traps_are_told_by_priority(rt: HostRuntime) {
+    for case in &TRAPS {
+        let mut machine = machine(case.acc, case.psr, case.words);
+        let event = first_end(&mut machine);
+        assert_eq!(rt; event, Some(Event::Trapped(TrapType::new(case.trap))));
+        assert_eq!(rt; machine.fault_status(), case.status);
+        assert_eq!(rt; machine.pc(), VECTORS + u32::from(case.trap) * 16);
+        assert_eq!(rt; machine.npc(), machine.pc().wrapping_add(4));
+        assert_eq!(rt; machine.psr() & 0xE0, 0x80 + (case.psr & 0x80) / 2);
+        assert_eq!(rt; machine.reg(Reg::L2), machine.reg(Reg::L1).wrapping_add(4));
+    }
+}
+
+#[test]
+fn traps_while_disabled_are_error_mode(rt: HostRuntime) {
+    for (psr, wim, word, trap) in ERRORS {
+        let mut machine = machine(3, psr, &[word]);
+        machine.set_wim(wim);
+        let ended = Some(Event::ErrorMode(TrapType::new(trap)));
+        assert_eq!(rt; first_end(&mut machine), ended);
+        assert_eq!(rt; first_end(&mut machine), ended);
+        assert_eq!(rt; machine.pc(), CODE);
+        assert_eq!(rt; machine.psr(), psr);
+        assert_eq!(rt; machine.tbr(), VECTORS + u32::from(trap) * 16);
+    }
+}
+
+#[test]
+fn spaces_admit_what_their_pages_allow(rt: HostRuntime) {
+    for (acc, word) in ADMITTED {
+        let mut machine = machine(acc, 0xA0, &[word]);
+        match machine.step() {
+            Ok(turn) => {
+                assert_eq!(rt; turn.event, Event::Ran);
+                assert!(rt; turn.access.is_some());
+            }
+            Err(_) => assert!(rt; false),
+        }
+        assert_eq!(rt; machine.fault_status(), 0);
+    }
+}
+
+// loads and stores at 7F8, their sizes, and whether they are of a store kind
+const ACCESSES: [(u32, Size, bool); 12] = [
+    // ldub [%g0+0x7F8],%g2
+    (0xC40827F8, Size::Byte, false),
+    // ldsb [%g0+0x7F8],%g2
+    (0xC44827F8, Size::Byte, false),
+    // lduh [%g0+0x7F8],%g2
+    (0xC41027F8, Size::Half, false),
+    // ldsh [%g0+0x7F8],%g2
+    (0xC45027F8, Size::Half, false),
+    // ld [%g0+0x7F8],%g2
+    (0xC40027F8, Size::Word, false),
+    // ldd [%g0+0x7F8],%g2
+    (0xC41827F8, Size::Double, false),
+    // stb %g2,[%g0+0x7F8]
+    (0xC42827F8, Size::Byte, true),
+    // sth %g2,[%g0+0x7F8]
+    (0xC43027F8, Size::Half, true),
+    // st %g2,[%g0+0x7F8]
+    (0xC42027F8, Size::Word, true),
+    // std %g2,[%g0+0x7F8]
+    (0xC43827F8, Size::Double, true),
+    // ldstub [%g0+0x7F8],%g2
+    (0xC46827F8, Size::Byte, true),
+    // swap [%g0+0x7F8],%g2
+    (0xC47827F8, Size::Word, true),
+];
+
+#[test]
+fn turns_tell_what_moved(rt: HostRuntime) {
+    for (word, size, store) in ACCESSES {
+        let mut machine = machine(3, 0x23, &[word]);
+        let access = DataAccess {
+            va: 0x7F8,
+            pa: 0x7F8,
+            size,
+            store,
+        };
+        let turn = Turn {
+            event: Event::Ran,
+            cwp: 3,
+            user: true,
+            pc: CODE,
+            word: Some(word),
+            access: Some(access),
+        };
+        assert_eq!(rt; machine.step(), Ok(turn));
+    }
+}
+
+#[test]
+fn annulled_turns_fetch_nothing(rt: HostRuntime) {
+    // ba,a .+12; save %sp,-96,%sp; and after a comparison bne,a .+12; st %g0,[%g0+0xFFC]
+    let lists: [[u32; 3]; 2] = [
+        [0x30800003, 0x9DE3BFA0, 0],
+        [0x80A00000, 0x32800003, 0xC0202FFC],
+    ];
+    for words in lists {
+        let mut machine = machine(3, 0x20, &words);
+        assert_eq!(rt; first_end(&mut machine), Some(Event::Annulled));
+        assert_eq!(rt; machine.psr() & 0x1F, 0);
+        // the fetches alone have marked the page
+        assert_eq!(rt; root_entry(&machine), Some(0x2E));
+    }
+}
+
+#[test]
+fn a_port_that_fails_changes_nothing(rt: HostRuntime) {
+    // %g1 = 10000000, and then a load, a store, an exchange of the device's word
+    let cases = [
+        (0xC4004000, PortFault::Reader),
+        (0xC4204000, PortFault::Writer),
+        (0xC4784000, PortFault::Memory),
+    ];
+    for (word, fault) in cases {
+        let mut machine = machine(3, 0x20, &[0x03040000, word]);
+        assert!(rt; machine.step().is_ok());
+        machine.bus_mut().broken = true;
+        assert_eq!(rt; machine.step(), Err(fault));
+        assert_eq!(rt; machine.pc(), CODE + 4);
+        assert_eq!(rt; root_entry(&machine), Some(0x2E));
+        machine.bus_mut().broken = false;
+        assert!(rt; machine.step().is_ok());
+        assert_eq!(rt; machine.pc(), CODE + 8);
+    }
+}
+
+#[test]
+fn an_exit_ends_the_machine(rt: HostRuntime) -> Result<(), PortFault> {
+    // st %g1,[%g1] at the device
+    let mut machine = machine(3, 0x20, &[0x03040000, 0xC2204000]);
+    assert_eq!(rt; machine.step()?.event, Event::Ran);
+    let ended = Event::Stopped(Stop::Exit(0x10000000));
+    let turn = machine.step()?;
+    assert_eq!(rt; turn.event, ended);
+    assert_eq!(rt; turn.pc, CODE + 4);
+    assert!(rt; turn.access.is_some());
+    assert_eq!(rt; machine.pc(), CODE + 8);
+    assert_eq!(rt; root_entry(&machine), Some(0x6E));
+    let again = machine.step()?;
+    assert_eq!(rt; again.event, ended);
+    assert_eq!(rt; again.word, None);
+    assert!(rt; again.access.is_none());
+    assert_eq!(rt; machine.pc(), CODE + 8);
+    Ok(())
+}
+
+#[test]
+fn state_registers_are_set_and_read(rt: HostRuntime) {
+    let mut machine = machine(3, 0x20, &[]);
+    assert!(rt; !machine.set_psr(0xFF));
+    assert_eq!(rt; machine.psr(), 0x20);
+    machine.set_y(5);
+    machine.set_wim(0x1FF);
+    machine.set_tbr(0xABCD_EFFF);
+    machine.set_reg(Reg::O7, 9);
+    assert_eq!(rt; machine.y(), 5);
+    assert_eq!(rt; machine.wim(), 0xFF);
+    assert_eq!(rt; machine.tbr(), 0xABCD_EFF0);
+    machine.boot();
+    assert_eq!(rt; machine.pc(), 0x0004_0000);
+    assert_eq!(rt; machine.npc(), 0x0004_0004);
+    assert_eq!(rt; machine.psr(), 0x20);
+    assert_eq!(rt; machine.wim(), 2);
+    assert_eq!(rt; machine.tbr(), 0xF000_0000);
+    assert_eq!(rt; machine.reg(Reg::SP), 0x000F_FFC0);
+    assert_eq!(rt; machine.reg(Reg::O7), 9);
+    assert_eq!(rt; machine.y(), 5);
+}

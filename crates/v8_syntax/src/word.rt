@@ -1,0 +1,205 @@
+// What each token of a statement is.
+ghost use Rattle.std.specs.Prelude.{◌≡◌, ℕ, ◌+◌, ◌-◌, ◌*◌, ◌<◌, ◌≤◌, List, Option, MatchOption, [], ◌∷◌, slice_index, drop};
+ghost use Rattle.std.specs.Str.{bytes_eq};
+ghost use Rattle.std.specs.List.{find};
+ghost use Rattle.v8_syntax.specs.Mnemonics.{name_of};
+ghost use Rattle.v8_syntax.specs.Words.{bytes_between, is_decimal, register_numbered, grouped, two_letters, three_letters, register_named, special_named, percent_word, name_kind, word_of, words_of, named};
+
+use crate::mnemonic::{MNEMONICS, Mnemonic, name_of};
+use crate::native::Special;
+use sbx_text::{Kind, Token};
+use v8_word::Reg;
+
+/// `a` annuls a branch, `.` is the place of the instruction, another name is a symbol.
+#[derive(Clone, Copy)]
+pub enum NameKind {
+    Annul,
+    Place,
+    Plain,
+}
+
+/// A token by what it is. A name has its bytes' place in the line; a sign is its byte.
+#[derive(Clone, Copy)]
+pub enum Word {
+    Register(Reg),
+    Special(Special),
+    Name(NameKind, usize, usize),
+    Number(u64),
+    Sign(u8),
+    Unknown,
+}
+
+/// The bytes of the line from `start` up to `stop`, or none where the line has no such bytes.
+pub fn bytes_between(line: &[u8], start: usize, stop: usize) -> &[u8]
+    ensures { result.now ≡ bytes_between line.now start stop }
+{
+    if start <= stop && stop <= line.len() {
+        &line[start..stop]
+    } else {
+        &[]
+    }
+}
+
+fn same(left: &[u8], right: &[u8]) -> bool
+    ensures { result ≡ bytes_eq left.now right.now }
+{
+    left == right
+}
+
+fn is_decimal(byte: u8) -> bool
+    ensures { result ≡ is_decimal byte }
+{
+    byte >= b'0' && byte <= b'9'
+}
+
+fn grouped(group: u8, digit: u8) -> Option<Reg>
+    ensures { result ≡ grouped group digit }
+{
+    if digit < b'0' || digit > b'7' {
+        return None;
+    }
+    match group {
+        b'g' => Reg::new(digit - b'0'),
+        b'o' => Reg::new(8 + (digit - b'0')),
+        b'l' => Reg::new(16 + (digit - b'0')),
+        b'i' => Reg::new(24 + (digit - b'0')),
+        _ => None,
+    }
+}
+
+fn two_letters(first: u8, second: u8) -> Option<Reg>
+    ensures { result ≡ two_letters first second }
+{
+    if first == b's' && second == b'p' {
+        Reg::new(14)
+    } else if first == b'f' && second == b'p' {
+        Reg::new(30)
+    } else if first == b'r' && is_decimal(second) {
+        Reg::new(second - b'0')
+    } else {
+        grouped(first, second)
+    }
+}
+
+fn three_letters(first: u8, second: u8, third: u8) -> Option<Reg>
+    ensures { result ≡ three_letters first second third }
+{
+    if first == b'r' && is_decimal(second) && is_decimal(third) && second > b'0' {
+        Reg::new(10 * (second - b'0') + (third - b'0'))
+    } else {
+        None
+    }
+}
+
+fn register_named(name: &[u8]) -> Option<Reg>
+    ensures { result ≡ register_named name.now }
+{
+    if name.len() == 2 {
+        two_letters(name[0], name[1])
+    } else if name.len() == 3 {
+        three_letters(name[0], name[1], name[2])
+    } else {
+        None
+    }
+}
+
+fn special_named(name: &[u8]) -> Option<Special>
+    ensures { result ≡ special_named name.now }
+{
+    if same(name, b"y") {
+        Some(Special::Y)
+    } else if same(name, b"psr") {
+        Some(Special::Psr)
+    } else if same(name, b"wim") {
+        Some(Special::Wim)
+    } else if same(name, b"tbr") {
+        Some(Special::Tbr)
+    } else {
+        None
+    }
+}
+
+fn percent_word(name: &[u8]) -> Word
+    ensures { result ≡ percent_word name.now }
+{
+    match register_named(name) {
+        Some(register) => Word::Register(register),
+        None => match special_named(name) {
+            Some(special) => Word::Special(special),
+            None => Word::Unknown,
+        },
+    }
+}
+
+fn name_kind(name: &[u8]) -> NameKind
+    ensures { result ≡ name_kind name.now }
+{
+    if same(name, b"a") {
+        NameKind::Annul
+    } else if same(name, b".") {
+        NameKind::Place
+    } else {
+        NameKind::Plain
+    }
+}
+
+fn sign_byte(bytes: &[u8]) -> u8
+    ensures { result ≡ slice_index bytes.now 0 }
+{
+    match bytes.first() {
+        Some(byte) => *byte,
+        None => 0,
+    }
+}
+
+fn after_first(bytes: &[u8]) -> &[u8]
+    ensures { result.now ≡ drop 1 bytes.now }
+{
+    match bytes.split_first() {
+        Some((_, rest)) => rest,
+        None => bytes,
+    }
+}
+
+/// What a token is.
+#[tactic(auto, unfolding(crate::specs::Words::word_of))]
+fn word_of(line: &[u8], token: &Token) -> Word
+    ensures { result ≡ word_of line.now token.now }
+{
+    let Token { kind, start, stop } = *token;
+    match kind {
+        Kind::Name => Word::Name(name_kind(bytes_between(line, start, stop)), start, stop),
+        Kind::Percent => percent_word(after_first(bytes_between(line, start, stop))),
+        Kind::Number(number) => Word::Number(number),
+        Kind::Sign => Word::Sign(sign_byte(bytes_between(line, start, stop))),
+    }
+}
+
+/// The first word, and the tokens after it.
+pub fn front<'t>(line: &[u8], tokens: &'t [Token]) -> Option<(Word, &'t [Token])>
+    ensures { MatchOption result (words_of line.now tokens.now ≡ []) (λ x. words_of line.now tokens.now ≡ x.0 ∷ words_of line.now x.1.now) }
+{
+    match tokens.split_first() {
+        Some((first, rest)) => Some((word_of(line, first), rest)),
+        None => None,
+    }
+}
+
+/// The first of some mnemonics that has the name.
+fn first_named(mnemonics: &[Mnemonic], name: &[u8]) -> Option<Mnemonic>
+    ensures { result ≡ find (λ m. bytes_eq (name_of m) name.now) mnemonics.now }
+{
+    for mnemonic in mnemonics {
+        if same(name_of(*mnemonic).as_bytes(), name) {
+            return Some(*mnemonic);
+        }
+    }
+    None
+}
+
+/// The mnemonic of a name.
+pub fn named(name: &[u8]) -> Option<Mnemonic>
+    ensures { result ≡ named name.now }
+{
+    first_named(&MNEMONICS, name)
+}
