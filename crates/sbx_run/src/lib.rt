@@ -3,6 +3,8 @@
 
 mod machine;
 mod runner;
+#[cfg(test)]
+mod tests;
 
 pub use runner::{Finished, RunFault, run_accepted};
 pub use sbx_verify::{Accepted, Cause, Refusal, budget, verify};
