@@ -1,15 +1,18 @@
 -- A job that is refused did not deserve to be done.
-use Rattle.std.proofs.Common.{◌≡◌, ℕ, List, Option, None, Some, IfSome, Result, Ok, Err, arith, sym, ◌∙◌, rules}
+use Rattle.std.proofs.Common.{◌≡◌, subst, ℕ, List, ◌++◌, Option, None, Some, IfSome, Result, Ok, Err, arith, sym, ◌∙◌, rules}
+use Rattle.std.specs.Io.KnownBytes.{Appends, Keeps}
 use Rattle.sbx_image.specs.declared.fault.ImageFault.{ImageFault}
 use Rattle.sbx_image.specs.declared.parts.Parts.{Parts}
 use Rattle.sbx_image.specs.Reading.{reading}
 use Rattle.sbx_verify.specs.Rules.{Checked, IsLeastFault}
 use Rattle.sbx_command.specs.declared.jobs.Job.{Job}
-use Rattle.sbx_command.specs.declared.jobs.Job.TheVariants.{Verify, List as Listing}
+use Rattle.sbx_command.specs.declared.jobs.Job.TheVariants.{Verify, Run, List as Listing}
 use Rattle.sbx_command.specs.declared.stops.Stop.{Stop}
 use Rattle.sbx_command.specs.declared.stops.Stop.TheVariants.{Image, Refused, File, Input, Output, Memory}
 use Rattle.sbx_command.specs.Stops.{IsTrueOf, IsTrueOfImage, status_of}
-use Rattle.sbx_command.specs.Verdicts.{Deserves, IsAccepted, IsImage, IsTold}
+use Rattle.sbx_run.specs.declared.runner.Finished.{Finished}
+use Rattle.sbx_run.specs.Answer.{IsAnswer}
+use Rattle.sbx_command.specs.Verdicts.{Ran, status_of_word, Deserves, IsAccepted, IsImage, IsTold}
 
 pub faulty_is_no_image : (bytes : List ℕ) (fault : ImageFault) → reading bytes ≡ Err fault → IsImage bytes → ⊥
 faulty_is_no_image bytes fault faulty image =
@@ -42,9 +45,27 @@ rule_stop Memory bytes two told accepted = absurd (omega arith)
 
 pub told_is_refused : (job : Job) (stop : Stop) (bytes : List ℕ) → status_of stop ≡ 2 → IsTold job stop bytes → Deserves job bytes → ⊥
 told_is_refused (Verify image) stop bytes two told deserved = rule_stop stop bytes two told deserved
+told_is_refused (Run image) stop bytes two told deserved = rule_stop stop bytes two told deserved
 told_is_refused (Listing image) stop bytes two told deserved = image_stop stop bytes two told deserved
 
 pub known_is_refused : (known : Option (List ℕ)) (job : Job) (stop : Stop) → status_of stop ≡ 2
     → IfSome known (IsTold job stop) → IfSome known (λ bytes. Deserves job bytes → ⊥)
 known_is_refused None job stop two told = tt
 known_is_refused (Some bytes) job stop two told = told_is_refused job stop bytes two told
+
+-- a flush keeps what a write appended
+pub appends_kept : (a b c : Option (List ℕ)) (bs : List ℕ) → Appends a b bs → Keeps b c → Appends a c bs
+appends_kept None b c bs p q = tt
+appends_kept (Some x) None c bs p q = absurd p
+appends_kept (Some x) (Some y) None bs p q = absurd q
+appends_kept (Some x) (Some y) (Some z) bs p q = q ∙ p
+
+-- a run of the known bytes of a file on the known bytes of an input
+pub ran_on : (file input old new : Option (List ℕ)) (parts : Parts) (taken : List ℕ) (finished : Finished) (status : ℕ)
+    → IfSome file (λ bytes. (reading bytes ≡ Ok parts) × Checked parts) → IfSome input (λ all. taken ≡ all)
+    → IsAnswer parts 8 taken finished → Appends old new finished.output.items → status ≡ status_of_word finished.status
+    → Ran file input old new status
+ran_on None input old new parts taken finished status read same answer grown told = tt
+ran_on (Some bytes) None old new parts taken finished status read same answer grown told = tt
+ran_on (Some bytes) (Some all) old new parts taken finished status read same answer grown told =
+    (parts, finished, read.0, subst (λ (input : List ℕ). IsAnswer parts 8 input finished) same answer, grown, told)

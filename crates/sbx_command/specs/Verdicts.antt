@@ -1,10 +1,13 @@
 -- What an exit status says of the bytes of the file that a job reads.
-use Rattle.std.specs.Prelude.{◌≡◌, ℕ, List, Ok}
+use Rattle.std.specs.Prelude.{◌≡◌, ℕ, List, Ok, Option, IfSome, ◌==◌, if◌then◌else◌}
+use Rattle.std.specs.Io.KnownBytes.{Appends}
+use Rattle.sbx_run.specs.declared.runner.Finished.{Finished}
+use Rattle.sbx_run.specs.Answer.{IsAnswer}
 use Rattle.sbx_image.specs.declared.parts.Parts.{Parts}
 use Rattle.sbx_image.specs.Reading.{reading}
 use Rattle.sbx_verify.specs.Rules.{Checked}
 use Rattle.sbx_command.specs.declared.jobs.Job.{Job}
-use Rattle.sbx_command.specs.declared.jobs.Job.TheVariants.{Verify, List as Listing}
+use Rattle.sbx_command.specs.declared.jobs.Job.TheVariants.{Verify, Run, List as Listing}
 use Rattle.sbx_command.specs.declared.stops.Stop.{Stop}
 use Rattle.sbx_command.specs.Stops.{IsTrueOf, IsTrueOfImage}
 
@@ -19,9 +22,31 @@ IsAccepted bytes = (parts : Parts) × (reading bytes ≡ Ok parts) × Checked pa
 -- what a job needs to be done
 abbrev pub Deserves : Job → List ℕ → Type 0
 Deserves (Verify image) bytes = IsAccepted bytes
+Deserves (Run image) bytes = IsAccepted bytes
 Deserves (Listing image) bytes = IsImage bytes
 
 -- what a stop tells of the bytes that a job reads
 abbrev pub IsTold : Job → Stop → List ℕ → Type 0
 IsTold (Verify image) stop bytes = IsTrueOf stop bytes
+IsTold (Run image) stop bytes = IsTrueOf stop bytes
 IsTold (Listing image) stop bytes = IsTrueOfImage stop bytes
+
+-- 0 where the exit word is 0, else 1
+abbrev pub status_of_word : ℕ → ℕ
+status_of_word word = if word == 0 then 0 else 1
+
+-- The output grew by what the image of the bytes puts out on the input, on 8 windows, and the status is that of its exit word.
+abbrev pub RanOn : List ℕ → List ℕ → Option (List ℕ) → Option (List ℕ) → ℕ → Type 0
+RanOn bytes input old new status =
+    (parts : Parts) × (finished : Finished) × (reading bytes ≡ Ok parts) × IsAnswer parts 8 input finished
+    × Appends old new finished.output.items × (status ≡ status_of_word finished.status)
+
+-- the same where the bytes of the file and of the input are known
+abbrev pub Ran : Option (List ℕ) → Option (List ℕ) → Option (List ℕ) → Option (List ℕ) → ℕ → Type 0
+Ran file input old new status = IfSome file (λ bytes. IfSome input (λ all. RanOn bytes all old new status))
+
+-- what a job that is done has put out
+abbrev pub Gave : Job → Option (List ℕ) → Option (List ℕ) → Option (List ℕ) → Option (List ℕ) → ℕ → Type 0
+Gave (Verify image) file input old new status = Unit {0}
+Gave (Run image) file input old new status = Ran file input old new status
+Gave (Listing image) file input old new status = Unit {0}

@@ -1,10 +1,11 @@
 //! A command from its job to its exit status.
 ghost use Rattle.std.specs.Prelude.{◌≡◌, ◌<◌, IfErr, IfOk, IfSome};
 ghost use Rattle.sbx_command.specs.Stops.{status_of};
-ghost use Rattle.sbx_command.specs.Verdicts.{Deserves, IsTold};
+ghost use Rattle.sbx_command.specs.Verdicts.{Deserves, Gave, IsTold};
 
 use crate::jobs::Job;
 use crate::listing::list_file;
+use crate::running::run_file;
 use crate::stops::Stop;
 use crate::verifying::verify_file;
 use std::alloc::Global;
@@ -20,29 +21,28 @@ fn perform<F: Read, I: Read, O: Write>(
 ) -> Result<u8, Stop>
     ensures range { IfOk result (λ status. status < 2) }
     ensures done { IfOk result (λ status. IfSome (F.remaining file.old) (Deserves job.now)) }
+    ensures ran { IfOk result (Gave job.now (F.remaining file.old) (I.remaining input.old)
+        (O.contents out.old) (O.contents out.new)) }
     ensures stop { IfErr result (λ stop. IfSome (F.remaining file.old) (IsTold job.now stop)) }
     ensures untouched { IfErr result (λ stop. status_of stop ≡ 2
         → (input.new ≡ input.old) × (out.new ≡ out.old)) }
 {
-    let status = match *job {
+    match *job {
         Job::Verify { .. } => {
             verify_file(alloc, file, out)?;
-            0
+            Ok(0)
         }
+        Job::Run { .. } => run_file(alloc, file, input, out),
         Job::List { .. } => {
             list_file(alloc, file, out)?;
-            0
+            Ok(0)
         }
-    };
-    match out.flush() {
-        Ok(()) => Ok(status),
-        Err(_) => Err(Stop::Output),
     }
 }
 
-#[tactic(auto, using(crate::proofs::Verdicts::known_is_refused))]
 /// Does a job and gives its exit status; what the system opened for it is passed in: the file that the job reads,
 /// standard input, where its result goes, and standard error.
+#[tactic(auto, using(crate::proofs::Verdicts::known_is_refused))]
 pub fn command<F: Read, I: Read, O: Write, E: Write>(
     alloc: Global,
     job: &Job<'_>,
@@ -56,6 +56,10 @@ pub fn command<F: Read, I: Read, O: Write, E: Write>(
     // A job is done only with bytes that deserve it, and refused only with bytes that don't.
     ensures done { result < 2 → IfSome (F.remaining file.old) (Deserves job.now) }
     ensures refused { result ≡ 2 → IfSome (F.remaining file.old) (λ bytes. Deserves job.now bytes → ⊥) }
+
+    // A run puts out what its image does on the input, and has the status of its exit word.
+    ensures ran { result < 2 → Gave job.now (F.remaining file.old) (I.remaining input.old)
+        (O.contents out.old) (O.contents out.new) result }
 
     // A refusal takes no input and puts nothing out; a job that is done says nothing on standard error.
     ensures untouched { result ≡ 2 → (input.new ≡ input.old) × (out.new ≡ out.old) }

@@ -8,6 +8,8 @@ ghost use Rattle.std.specs.Str.Parse.{IsNumeral, digits_value};
 pub enum Job<'a> {
     /// Verifies the image file.
     Verify { image: &'a str },
+    /// Verifies the image file and runs it.
+    Run { image: &'a str },
     /// Prints the code of the image file.
     List { image: &'a str },
 }

@@ -6,6 +6,7 @@ mod images;
 mod jobs;
 mod listing;
 mod reading;
+mod running;
 mod stops;
 mod verifying;
 

@@ -28,7 +28,10 @@ fn list_words<O: Write>(words: &[u32], out: &mut O) -> Result<(), Stop>
         }
         address = address.wrapping_add(4);
     }
-    Ok(())
+    match out.flush() {
+        Ok(()) => Ok(()),
+        Err(_) => Err(Stop::Output),
+    }
 }
 
 /// Lists the code of the image of a file.

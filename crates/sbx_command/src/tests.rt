@@ -83,6 +83,8 @@ const HELLO: [u8; 86] = [
 
 const VERIFY: Job<'static> = Job::Verify { image: "a.img" };
 
+const RUN: Job<'static> = Job::Run { image: "a.img" };
+
 const LIST: Job<'static> = Job::List { image: "a.img" };
 
 const LISTING: &[u8] = b"00040000 90102048 or %g0,72,%o0
@@ -202,7 +204,7 @@ fn refuses_what_is_bad(rt: HostRuntime) {
     ];
     for (place, bytes, line) in table {
         let image = changed(place, bytes);
-        for job in [VERIFY, LIST] {
+        for job in [VERIFY, RUN, LIST] {
             // a case whose growth was refused is run once more
             let case = refused(job, &image, line);
             assert!(rt;
@@ -237,18 +239,20 @@ fn refuses_what_breaks_a_rule(rt: HostRuntime) {
     ];
     for (place, bytes, line) in table {
         let image = changed(place, bytes);
-        let case = refused(VERIFY, &image, line);
-        assert!(rt;
-            is_answered(alloc, &case) || is_answered(alloc, &case),
-            "at {case:?}"
-        );
+        for job in [VERIFY, RUN] {
+            let case = refused(job, &image, line);
+            assert!(rt;
+                is_answered(alloc, &case) || is_answered(alloc, &case),
+                "at {case:?}"
+            );
+        }
     }
 }
 
 #[test]
 fn stops_at_a_fault(rt: HostRuntime) {
     let alloc = rt.alloc();
-    let table: [(Job<'_>, [usize; 3], u8, &[u8], &[u8]); 10] = [
+    let table: [(Job<'_>, [usize; 3], u8, &[u8], &[u8]); 17] = [
         (LIST, [0, 0, 0], 0, LISTING, b""),
         (LIST, [1, 0, 0], 4, b"", b"file\n"),
         (LIST, [86, 0, 0], 4, b"", b"file\n"),
@@ -259,6 +263,13 @@ fn stops_at_a_fault(rt: HostRuntime) {
         (VERIFY, [87, 0, 0], 4, b"", b"file\n"),
         (VERIFY, [0, 0, 1], 4, b"", b"output\n"),
         (VERIFY, [0, 0, 2], 4, b"accepted\n", b"output\n"),
+        (RUN, [0, 0, 0], 0, b"Hi", b""),
+        (RUN, [87, 1, 1], 4, b"", b"file\n"),
+        (RUN, [0, 1, 1], 4, b"", b"input\n"),
+        (RUN, [0, 4, 0], 4, b"", b"input\n"),
+        (RUN, [0, 5, 0], 0, b"Hi", b""),
+        (RUN, [0, 0, 1], 4, b"", b"output\n"),
+        (RUN, [0, 0, 2], 4, b"Hi", b"output\n"),
     ];
     for (job, fails, status, out, err) in table {
         let case = Case {
@@ -274,4 +285,17 @@ fn stops_at_a_fault(rt: HostRuntime) {
             "at {case:?}"
         );
     }
+    let one = changed(36, &[0x90, 0x10, 0x20, 0x01]);
+    let case = Case {
+        job: RUN,
+        file: &one,
+        fails: [0, 0, 0],
+        status: 1,
+        out: b"Hi",
+        err: b"",
+    };
+    assert!(rt;
+        is_answered(alloc, &case) || is_answered(alloc, &case),
+        "exit word 1"
+    );
 }

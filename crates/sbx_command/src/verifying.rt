@@ -1,5 +1,6 @@
 //! The command `verify`.
 ghost use Rattle.std.specs.Prelude.{◌≡◌, IfErr, IfOk, IfSome, Ok, OnOk};
+ghost use Rattle.std.specs.Io.KnownBytes.{Appends};
 ghost use Rattle.sbx_image.specs.Reading.{reading};
 ghost use Rattle.sbx_verify.specs.Rules.{Checked};
 ghost use Rattle.sbx_command.specs.Stops.{IsTrueOf, status_of};
@@ -25,11 +26,16 @@ pub fn accepted_in<F: Read>(alloc: Global, file: &mut F) -> Result<Accepted, Sto
     }
 }
 
-/// Writes all bytes of a result.
-pub fn write_all<O: Write>(out: &mut O, bytes: &[u8]) -> Result<(), Stop>
-    ensures { IfErr result (λ stop. stop ≡ Stop.Output) }
+/// Writes all bytes of a result, through to the end.
+#[tactic(auto, using(crate::proofs::Verdicts::appends_kept))]
+pub fn write_through<O: Write>(out: &mut O, bytes: &[u8]) -> Result<(), Stop>
+    ensures bytes { OnOk result (Appends (O.contents out.old) (O.contents out.new) bytes.now) }
+    ensures stop { IfErr result (λ stop. stop ≡ Stop.Output) }
 {
-    match out.write_all(bytes) {
+    if out.write_all(bytes).is_err() {
+        return Err(Stop::Output);
+    }
+    match out.flush() {
         Ok(()) => Ok(()),
         Err(_) => Err(Stop::Output),
     }
@@ -42,5 +48,5 @@ pub fn verify_file<F: Read, O: Write>(alloc: Global, file: &mut F, out: &mut O) 
     ensures untouched { IfErr result (λ stop. status_of stop ≡ 2 → out.new ≡ out.old) }
 {
     let _accepted = accepted_in(alloc, file)?;
-    write_all(out, b"accepted\n")
+    write_through(out, b"accepted\n")
 }

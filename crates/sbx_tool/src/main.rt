@@ -53,7 +53,9 @@ fn words_of(rt: &HostRuntime) -> io::Result<Vec<String>> {
 fn perform(rt: &HostRuntime, words: &[String]) -> Result<u8, Stop> {
     match read_words(rt.alloc(), words) {
         Ok(job) => match job {
-            Job::Verify { image } | Job::List { image } => on_streams(rt, &job, image),
+            Job::Verify { image } | Job::Run { image } | Job::List { image } => {
+                on_streams(rt, &job, image)
+            }
         },
         Err(Usage::Text(text)) => {
             let _ = eprint!(rt; "{text}");

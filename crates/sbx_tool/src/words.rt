@@ -43,6 +43,9 @@ fn sandbox<'a>(alloc: Global) -> Result<Command<'a>, AllocError> {
     let verify = Command::new(alloc, "verify")
         .about("Verifies an image")
         .arg(path(alloc, "IMG"))?;
+    let run = Command::new(alloc, "run")
+        .about("Verifies an image and runs it")
+        .arg(path(alloc, "IMG"))?;
     let list = Command::new(alloc, "list")
         .about("Prints the code of an image")
         .arg(path(alloc, "IMG"))?;
@@ -52,6 +55,7 @@ fn sandbox<'a>(alloc: Global) -> Result<Command<'a>, AllocError> {
         .no_binary_name(true)
         .subcommand_required(true)
         .subcommand(verify)?
+        .subcommand(run)?
         .subcommand(list)
 }
 
@@ -61,6 +65,9 @@ fn job_of<'a>(name: &str, found: &ArgMatches<'a>) -> Option<Job<'a>>
 {
     match name {
         "verify" => Some(Job::Verify {
+            image: found.get_str("IMG")?,
+        }),
+        "run" => Some(Job::Run {
             image: found.get_str("IMG")?,
         }),
         "list" => Some(Job::List {

@@ -4,6 +4,8 @@ use std::alloc::Global;
 
 const VERIFY: Job<'static> = Job::Verify { image: "a.img" };
 
+const RUN: Job<'static> = Job::Run { image: "a.img" };
+
 const LIST: Job<'static> = Job::List { image: "a.img" };
 
 /// Whether the words of a line are read as the job, or as words that ask for nothing.
@@ -21,6 +23,9 @@ fn is_read(alloc: Global, line: &str, job: Option<Job<'_>>) -> bool {
 #[test]
 fn reads_the_words(rt: HostRuntime) {
     let table = [
+        ("run a.img", Some(RUN)),
+        ("run", None),
+        ("run --windows 8 a.img", None),
         ("verify a.img", Some(VERIFY)),
         ("verify", None),
         ("verify --limit 8 a.img", None),

@@ -1,0 +1,57 @@
+//! The command `run`.
+ghost use Rattle.std.specs.Prelude.{◌≡◌, ◌≢◌, ◌<◌, IfErr, IfOk, IfSome};
+ghost use Rattle.sbx_command.specs.Stops.{IsTrueOf, status_of};
+ghost use Rattle.sbx_command.specs.Verdicts.{IsAccepted, Ran, status_of_word};
+
+use crate::reading::{MOST, ReadFault, read_whole};
+use crate::stops::Stop;
+use crate::verifying::{accepted_in, write_through};
+use sbx_run::{RunFault, run_accepted};
+use std::alloc::Global;
+use std::io::{Read, Write};
+
+/// All of standard input.
+pub fn input_of<I: Read>(alloc: Global, input: &mut I) -> Result<Vec<u8>, Stop>
+    ensures whole { IfOk result (λ bytes. IfSome (I.remaining input.old) (λ all. bytes.items ≡ all)) }
+    ensures stop { IfErr result (λ stop. status_of stop ≢ 2) }
+{
+    match read_whole(alloc, input, MOST) {
+        Ok(bytes) => Ok(bytes),
+        Err(ReadFault::Memory) => Err(Stop::Memory),
+        Err(ReadFault::Reader | ReadFault::TooLong) => Err(Stop::Input),
+    }
+}
+
+/// The status of a run with an exit word.
+fn status_of_word(word: u32) -> u8
+    ensures { result ≡ status_of_word word }
+{
+    if word == 0 { 0 } else { 1 }
+}
+
+/// Verifies the image of a file and runs it on the input, on 8 windows. The status is 0, or 1 where the exit word is
+/// another.
+#[tactic(auto, using(crate::proofs::Verdicts::ran_on))]
+pub fn run_file<F: Read, I: Read, O: Write>(
+    alloc: Global,
+    file: &mut F,
+    input: &mut I,
+    out: &mut O,
+) -> Result<u8, Stop>
+    ensures range { IfOk result (λ status. status < 2) }
+    ensures accepted { IfOk result (λ _. IfSome (F.remaining file.old) IsAccepted) }
+    ensures ran { IfOk result (λ status. Ran (F.remaining file.old) (I.remaining input.old)
+        (O.contents out.old) (O.contents out.new) status) }
+    ensures stop { IfErr result (λ stop. IfSome (F.remaining file.old) (IsTrueOf stop)) }
+    ensures untouched { IfErr result (λ stop. status_of stop ≡ 2
+        → (input.new ≡ input.old) × (out.new ≡ out.old)) }
+{
+    let accepted = accepted_in(alloc, file)?;
+    let bytes = input_of(alloc, input)?;
+    let finished = match run_accepted::<8>(alloc, &accepted, bytes.as_slice()) {
+        Ok(finished) => finished,
+        Err(RunFault::Memory) => return Err(Stop::Memory),
+    };
+    write_through(out, finished.output.as_slice())?;
+    Ok(status_of_word(finished.status))
+}
