@@ -1,0 +1,177 @@
+ghost use Rattle.std.specs.Prelude.{◌≡◌, ℕ, ◌+◌, ◌<◌, ◌≤◌};
+
+use super::*;
+use sbx_image::{Image, parse};
+use std::alloc::Global;
+use std::test::Fail;
+use v8_core::Event;
+use v8_mmu::PortFault;
+use v8_word::TrapType;
+
+/// A port without input that keeps what is put, and fails at its first call if it is told to.
+#[derive(Drop)]
+struct Sink {
+    kept: Vec<u8>,
+    fails: bool,
+    failures: u64,
+}
+
+impl Sink {
+    fn fail(&mut self, fault: PortFault) -> PortFault
+        ensures fault { result ≡ fault }
+        ensures kept { self.new.kept ≡ self.old.kept }
+        ensures count { self.old.failures ≤ self.new.failures }
+        ensures rose { self.old.failures < 18446744073709551615 → self.old.failures < self.new.failures }
+    {
+        if self.failures < u64::MAX {
+            self.failures += 1;
+        }
+        fault
+    }
+}
+
+impl Port for Sink {
+    ghost use Rattle.std.specs.Prelude.{[]};
+
+    ghost input = { λ s. [] };
+
+    ghost output = { λ s. s.kept.items };
+
+    ghost failed = { λ s. s.failures };
+
+    fn get(&mut self) -> Result<Option<u8>, PortFault> {
+        Ok(None)
+    }
+
+    fn put(&mut self, byte: u8) -> Result<(), PortFault> {
+        if self.fails {
+            self.fails = false;
+            return Err(self.fail(PortFault::Writer));
+        }
+        match self.kept.push(byte) {
+            Ok(()) => Ok(()),
+            Err(_refused) => Err(self.fail(PortFault::Memory)),
+        }
+    }
+
+    fn failures(&self) -> u64 {
+        self.failures
+    }
+}
+
+/// An image of raw words: one leaf function of one block.
+fn raw_image(alloc: Global, words: &[u32]) -> Result<Image, Fail> {
+    let mut bytes = Vec::new(alloc);
+    bytes.extend_from_slice(b"SBX8\x00\x01\x00\x07")?;
+    bytes.extend_from_slice(&((words.len() % 256) as u32).to_be_bytes())?;
+    bytes.extend_from_slice(&[0, 0, 0, 0, 0, 1, 0, 1])?;
+    for word in words {
+        bytes.extend_from_slice(&word.to_be_bytes())?;
+    }
+    bytes.extend_from_slice(&[0, 0, 0, 0, 0, 4, 0, 0, 0, 0, 0, 0, 0, 0, 0, 0])?;
+    bytes.extend_from_slice(&[0, 0, 0, 0, 0, 0, 0, 0, 0, 1])?;
+    bytes.extend_from_slice(&[0, 4, 0, 0, 0, 0, 0, 0, 0, 0, 0, 0, 0, 0, 0, 0])?;
+    Ok(parse(alloc, &bytes)?)
+}
+
+fn board(alloc: Global, fails: bool) -> Result<Board<4, Sink>, Fail> {
+    let kept = Vec::new(alloc);
+    Ok(Board::new(
+        alloc,
+        Sink {
+            kept,
+            fails,
+            failures: 0,
+        },
+    )?)
+}
+
+/// `mov 72,%o0; ta 2; mov 105,%o0; ta 2; mov 0,%o0; ta 0`
+const GREETING: [u32; 6] = [
+    0x9010_2048,
+    0x91D0_2002,
+    0x9010_2069,
+    0x91D0_2002,
+    0x9010_2000,
+    0x91D0_2000,
+];
+
+/// Word lists with their ends, turns, overflows and fault status at four windows.
+#[test]
+fn raw_words_end_as_worked_out(rt: HostRuntime) -> Result<(), Fail> {
+    let alloc = rt.alloc();
+    let mut plain = board(alloc, false)?;
+    let trapped = Ending::Trapped(TrapType::new(0x09));
+    let error = Ending::ErrorMode(TrapType::new(0x09));
+    for (words, ending, turns, overflows, status) in [
+        (&[0x033C_0000, 0xC400_4000][..], trapped, 4, 0, 0x30E),
+        (&[0x0300_0100, 0xC020_4000][..], trapped, 4, 0, 0x38A),
+        (&[0xC400_0000][..], trapped, 3, 0, 0x206),
+        (
+            &[0xC218_2001][..],
+            Ending::Trapped(TrapType::new(0x02)),
+            3,
+            0,
+            0,
+        ),
+        (
+            &[0x1D3C_0040, 0x1080_0000, 0x9DE3_A000][..],
+            error,
+            19,
+            1,
+            0x3B6,
+        ),
+        (&[0x1080_0000, 0x0100_0000][..], Ending::Limit, 100, 0, 0),
+        (&GREETING[..], Ending::Exit(0), 16, 0, 0),
+    ] {
+        plain.load(&raw_image(alloc, words)?);
+        let told = plain.run(100);
+        let wanted = Outcome {
+            ending,
+            turns,
+            overflows,
+            underflows: 0,
+        };
+        assert_eq!(rt; told, Ok(wanted), "{words:?}");
+        assert_eq!(rt; plain.fault_status(), status, "{words:?}");
+    }
+    assert_eq!(rt; plain.port().kept.as_slice(), b"Hi".as_slice());
+    let used = PageUse {
+        referenced: [1, 0, 0],
+        modified: [0, 0, 0],
+    };
+    assert_eq!(rt; plain.page_use(), used);
+    Ok(())
+}
+
+/// Turns one by one: a trap is told in the turn that met it; a board without an image ends in two turns; a port that fails leaves
+/// the turn undone.
+#[test]
+fn turns_are_told_one_by_one(rt: HostRuntime) -> Result<(), Fail> {
+    let alloc = rt.alloc();
+    let mut bare = board(alloc, false)?;
+    let first = bare.step()?;
+    assert_eq!(rt; first.event, Event::Trapped(TrapType::new(0x01)));
+    assert_eq!(rt; bare.fault_status(), 0x46);
+    let second = bare.step()?;
+    assert_eq!(rt; second.event, Event::ErrorMode(TrapType::new(0x01)));
+    assert_eq!(rt; bare.fault_status(), 0x66);
+    let told = bare.run(100)?;
+    assert_eq!(rt; told.turns, 2);
+    bare.load(&raw_image(alloc, &[0x033C_0000, 0xC400_4000])?);
+    let ran = bare.step()?;
+    assert_eq!(rt; ran.event, Event::Ran);
+    let refused = bare.step()?;
+    assert_eq!(rt; refused.event, Event::Trapped(TrapType::new(0x09)));
+    assert_eq!(rt; bare.fault_status(), 0x30E);
+
+    let mut failing = board(alloc, true)?;
+    failing.load(&raw_image(alloc, &GREETING)?);
+    assert_eq!(rt; failing.run(100), Err(PortFault::Writer));
+    let before = (failing.psr(), failing.wim(), failing.page_use());
+    assert_eq!(rt; failing.entry(0x1_0000), Some(0x9010_2048));
+    let told = failing.run(100)?;
+    assert_eq!(rt; (told.ending, told.turns), (Ending::Exit(0), 16));
+    assert_eq!(rt; (before.0, before.1), (0x83, 2));
+    Ok(())
+}
