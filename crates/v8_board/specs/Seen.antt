@@ -24,6 +24,15 @@ pub record Seen (n : ℕ) : Type 0 where
   pub state : State n
   pub failed : ℕ
 
+-- with a port that has this input left, was given this output and has failed so often
+abbrev pub with_port : {n : ℕ} → Seen n → List ℕ → List ℕ → ℕ → Seen n
+with_port s i o f =
+    let device = record s.state.world.memory.device { input = i; output = o } in
+    record {
+      state = record s.state { world = record s.state.world { memory = record s.state.world.memory { device = device } } };
+      failed = f;
+    }
+
 -- ---- ends
 
 abbrev pub error_ending : Option ℕ → Option Ending

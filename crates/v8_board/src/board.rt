@@ -1,10 +1,12 @@
 ghost use Rattle.std.specs.Prelude.{◌≡◌, ℕ, ◌+◌, ◌-◌, ◌*◌, ◌%◌, ◌^◌, ◌<◌, ◌≤◌, IfOk, OnErr, IsSome, Option, Some, None, List};
+ghost use Rattle.std.specs.Borrow.{Lends, sem};
 ghost use Rattle.v8_mmu.specs.Answers.{Rose};
 ghost use Rattle.v8_mmu.specs.Ram.{entry_of};
 ghost use Rattle.v8_mmu.specs.Walked.{root_of};
 ghost use Rattle.v8_state.specs.Registers.{psr_of};
 ghost use Rattle.v8_windows.specs.Windows.{reg_of};
 ghost use Rattle.v8_layout.specs.Laws.{IsMapped};
+ghost use Rattle.v8_layout.specs.Layout.{IsLoaded};
 
 use crate::outcome::{Counts, Ending, Outcome};
 use crate::page_use::{PageUse, page_use_of};
@@ -49,7 +51,8 @@ impl<const N: usize, P: Port> Model for Board<N, P> {
 }
 
 impl<const N: usize, P: Port> Board<N, P> {
-    ghost use Rattle.v8_board.specs.Seen.{ending_of, turned};
+    ghost use Rattle.v8_board.specs.Seen.{ending_of, turned, with_port};
+    ghost use Rattle.v8_board.specs.contracts.board.Board.{the_row};
     ghost use Rattle.v8_board.specs.Runs.{IsRun, Turns, ending_or_limit, outcome_of};
     ghost use Rattle.v8_board.specs.Start.{IsNew, IsStart, pages_of};
     ghost use Rattle.v8_board.specs.Marks.{page_use_of};
@@ -81,6 +84,7 @@ impl<const N: usize, P: Port> Board<N, P> {
     /// Y and the stack's bytes stay as they were.
     pub fn load(&mut self, image: &Image)
         ensures start { IsStart N image.now self.old.state self.new.state }
+        ensures loaded { IsLoaded N (pages_of image.now) image.now.words self.new.state.world.memory.ram }
         ensures map { IsMapped (pages_of image.now) self.new.state.world.memory.ram }
         ensures root { root_of self.new.state.mmu ≡ 0x2000 }
         ensures failed { self.new.failed ≡ self.old.failed }
@@ -92,7 +96,7 @@ impl<const N: usize, P: Port> Board<N, P> {
 
     /// How the machine has ended, if it has.
     #[tactic(auto, unfolding(crate::specs::Seen::ending_of))]
-    fn ending(&self) -> Option<Ending>
+    pub fn ending(&self) -> Option<Ending>
         ensures { result ≡ ending_of N self.now.state.world }
     {
         match self.machine.bus().stop() {
@@ -111,6 +115,7 @@ impl<const N: usize, P: Port> Board<N, P> {
         requires { ending_of N self.old.state.world ≡ None }
         ensures turn { IfOk result (λ turn. turned N self.old.state ≡ (turn, self.new.state)) }
         ensures state { OnErr result (self.new.state ≡ self.old.state) }
+        ensures count { self.old.failed ≤ self.new.failed }
         ensures cause { OnErr result (Rose self.old.failed self.new.failed) }
     {
         match self.machine.step() {
@@ -128,6 +133,7 @@ impl<const N: usize, P: Port> Board<N, P> {
         requires { IsSome (ending_of N self.old.state.world) }
         ensures turn { IfOk result (λ turn. turned N self.old.state ≡ (turn, self.new.state)) }
         ensures state { OnErr result (self.new.state ≡ self.old.state) }
+        ensures count { self.old.failed ≤ self.new.failed }
         ensures cause { OnErr result (Rose self.old.failed self.new.failed) }
     {
         self.machine.step()
@@ -138,6 +144,7 @@ impl<const N: usize, P: Port> Board<N, P> {
     pub fn step(&mut self) -> Result<Turn, PortFault>
         ensures turn { IfOk result (λ turn. turned N self.old.state ≡ (turn, self.new.state)) }
         ensures state { OnErr result (self.new.state ≡ self.old.state) }
+        ensures count { self.old.failed ≤ self.new.failed }
         ensures cause { OnErr result (Rose self.old.failed self.new.failed) }
     {
         match self.ending() {
@@ -146,9 +153,9 @@ impl<const N: usize, P: Port> Board<N, P> {
         }
     }
 
-    /// What is told of a run that stops here.
+    /// What is told of a run that stops here: how it has ended, or that it has not, and the counts.
     #[tactic(auto, unfolding(crate::specs::Runs::outcome_of))]
-    fn outcome(&self) -> Outcome
+    pub fn outcome(&self) -> Outcome
         ensures { result ≡ outcome_of N self.now.state }
     {
         let counts = self.counts;
@@ -165,11 +172,13 @@ impl<const N: usize, P: Port> Board<N, P> {
     }
 
     /// Runs to an end, but at most so many turns. After an end it tells that end again. On a fault of the port the board stands
-    /// after the last whole turn, and may go on from there.
+    /// after the last whole turn, and may go on from there; the port's count of failures rose.
     pub fn run(&mut self, limit: u64) -> Result<Outcome, PortFault>
         ensures run { IfOk result (λ told. IsRun N limit self.old.state self.new.state) }
         ensures told { IfOk result (λ told. told ≡ outcome_of N self.new.state) }
         ensures stands { OnErr result (Turns N self.old.state self.new.state) }
+        ensures count { self.old.failed ≤ self.new.failed }
+        ensures cause { OnErr result (Rose self.old.failed self.new.failed) }
     {
         for done in 0..limit {
             let None = self.ending() else {
@@ -232,5 +241,15 @@ impl<const N: usize, P: Port> Board<N, P> {
         ensures failed { P.failed result.now ≡ self.now.failed }
     {
         self.machine.bus().port()
+    }
+
+    /// The port, to be written to. The board then goes on with the port as it was left; the rest of the board stays.
+    pub fn port_mut(&mut self) -> &mut P
+        ensures* writes_back { sem 𝓛 (Lends (the_row N.row P.row P.Port) P.row self.entry result (λ w. with_port self.old (P.input w) (P.output w) (P.failed w))) }
+        ensures input { P.input result.now ≡ self.old.state.world.memory.device.input }
+        ensures output { P.output result.now ≡ self.old.state.world.memory.device.output }
+        ensures failed { P.failed result.now ≡ self.old.failed }
+    {
+        self.machine.bus_mut().port_mut()
     }
 }

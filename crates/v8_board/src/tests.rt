@@ -4,9 +4,9 @@ use super::*;
 use sbx_image::{Image, parse};
 use std::alloc::Global;
 use std::test::Fail;
-use v8_core::Event;
-use v8_mmu::PortFault;
-use v8_word::TrapType;
+use v8_core::{DataAccess, Event};
+use v8_mmu::{PortFault, Size};
+use v8_word::{Reg, TrapType};
 
 /// A port without input that keeps what is put, and fails at its first call if it is told to.
 #[derive(Drop)]
@@ -115,6 +115,13 @@ fn raw_words_end_as_worked_out(rt: HostRuntime) -> Result<(), Fail> {
             0,
         ),
         (
+            &[0x81C8_0000][..],
+            Ending::Trapped(TrapType::new(0x03)),
+            3,
+            0,
+            0,
+        ),
+        (
             &[0x1D3C_0040, 0x1080_0000, 0x9DE3_A000][..],
             error,
             19,
@@ -173,5 +180,109 @@ fn turns_are_told_one_by_one(rt: HostRuntime) -> Result<(), Fail> {
     let told = failing.run(100)?;
     assert_eq!(rt; (told.ending, told.turns), (Ending::Exit(0), 16));
     assert_eq!(rt; (before.0, before.1), (0x83, 2));
+    Ok(())
+}
+
+/// Loads that are refused: every turn before runs, and the trap is told in its own turn.
+#[test]
+fn refused_accesses_trap_in_their_turn(rt: HostRuntime) -> Result<(), Fail> {
+    let alloc = rt.alloc();
+    let mut plain = board(alloc, false)?;
+    for (words, before, status) in [
+        (&[0x033C_0000, 0xC400_4000][..], 1, 0x30E),
+        (&[0x0300_0100, 0xC020_4000][..], 1, 0x38A),
+        (&[0xC400_0000][..], 0, 0x206),
+    ] {
+        plain.load(&raw_image(alloc, words)?);
+        for _ in 0..before {
+            let ran = plain.step()?;
+            assert_eq!(rt; ran.event, Event::Ran, "{words:?}");
+        }
+        let refused = plain.step()?;
+        let told = (refused.event, refused.access);
+        assert_eq!(rt;
+            told,
+            (Event::Trapped(TrapType::new(0x09)), None),
+            "{words:?}"
+        );
+        assert_eq!(rt; plain.fault_status(), status, "{words:?}");
+    }
+    Ok(())
+}
+
+/// `ba,a` over a SAVE, and `bne,a` not taken over a store: the slot is one turn that changes neither the window nor memory.
+#[test]
+fn annulled_slots_are_turns_without_effect(rt: HostRuntime) -> Result<(), Fail> {
+    let alloc = rt.alloc();
+    let mut plain = board(alloc, false)?;
+    for (words, before) in [
+        (&[0x3080_0002, 0x9DE3_BFA0, 0x0100_0000][..], 1),
+        (&[0x80A0_0000, 0x3280_0002, 0xDC23_A000, 0x0100_0000][..], 2),
+    ] {
+        plain.load(&raw_image(alloc, words)?);
+        for _ in 0..before {
+            let ran = plain.step()?;
+            assert_eq!(rt; ran.event, Event::Ran, "{words:?}");
+        }
+        let psr = plain.psr();
+        let slot = plain.step()?;
+        let told = (slot.event, slot.word, slot.access);
+        assert_eq!(rt; told, (Event::Annulled, None, None), "{words:?}");
+        assert_eq!(rt; (plain.psr(), psr & 31), (psr, 0), "{words:?}");
+        assert_eq!(rt; plain.entry(0x9_FFC0), Some(0), "{words:?}");
+        assert_eq!(rt; plain.page_use().modified, [0, 0, 0], "{words:?}");
+        let after = plain.step()?;
+        assert_eq!(rt;
+            (after.event, after.word),
+            (Event::Ran, Some(0x0100_0000)),
+            "{words:?}"
+        );
+    }
+    Ok(())
+}
+
+/// The registers of the current window.
+fn registers(alloc: Global, board: &Board<4, Sink>) -> Result<Vec<u32>, Fail> {
+    let mut words = Vec::new(alloc);
+    for number in 0..32 {
+        if let Some(register) = Reg::new(number) {
+            words.push(board.reg(register))?;
+        }
+    }
+    Ok(words)
+}
+
+/// A store to the device whose port fails leaves everything as it was; the same store completes once the port works.
+#[test]
+fn failed_store_is_done_again(rt: HostRuntime) -> Result<(), Fail> {
+    let alloc = rt.alloc();
+    let mut failing = board(alloc, false)?;
+    failing.load(&raw_image(alloc, &GREETING)?);
+    for _ in 0..3 {
+        let _told = failing.step()?;
+    }
+    let words = registers(alloc, &failing)?;
+    let before = (failing.psr(), failing.wim(), failing.page_use());
+    assert_eq!(rt; failing.entry(0x2D40), Some(0x1000_001E));
+    failing.port_mut().fails = true;
+    assert_eq!(rt; failing.step(), Err(PortFault::Writer));
+    let again = registers(alloc, &failing)?;
+    assert_eq!(rt; again.as_slice(), words.as_slice());
+    let after = (failing.psr(), failing.wim(), failing.page_use());
+    assert_eq!(rt; after, before);
+    assert_eq!(rt; failing.entry(0x2D40), Some(0x1000_001E));
+    assert_eq!(rt; failing.port().kept.len(), 0);
+    let stored = failing.step()?;
+    assert_eq!(rt; (stored.event, stored.pc), (Event::Ran, 0xF000_0824));
+    let moved = DataAccess {
+        va: 0xF001_0004,
+        pa: 0x1_0000_0004,
+        size: Size::Word,
+        store: true,
+    };
+    assert_eq!(rt; stored.access, Some(moved));
+    assert_eq!(rt; failing.entry(0x2D40), Some(0x1000_007E));
+    assert_eq!(rt; failing.port().kept.as_slice(), b"H".as_slice());
+    assert_eq!(rt; failing.ending(), None);
     Ok(())
 }

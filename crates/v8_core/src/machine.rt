@@ -50,7 +50,7 @@ impl<const N: usize, B: Bus> Machine<N, B> {
 
     /// One turn (chapters 5 to 7). A machine that has stopped or is in error mode tells that again, without a word or an
     /// access, and changes nothing. On a fault of the bus's port nothing has changed either, page bits included, and the port's
-    /// count of failures rose.
+    /// count of failures rose; it never falls.
     #[tactic(auto, unfolding(crate::specs::Steps::next))]
     pub fn step(&mut self) -> Result<Turn, PortFault>
         ensures step { IfOk result (λ turn. next B.meaning N self.old.mmu
@@ -60,6 +60,7 @@ impl<const N: usize, B: Bus> Machine<N, B> {
         ensures cpu { OnErr result (self.new.cpu ≡ self.old.cpu) }
         ensures ram { OnErr result (B.ram self.new.bus ≡ B.ram self.old.bus) }
         ensures device { OnErr result (B.device self.new.bus ≡ B.device self.old.bus) }
+        ensures count { B.failed self.old.bus ≤ B.failed self.new.bus }
         ensures cause { OnErr result (Rose (B.failed self.old.bus) (B.failed self.new.bus)) }
     {
         if let Some(stop) = self.bus.stop() {

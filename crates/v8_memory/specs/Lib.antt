@@ -1,3 +1,4 @@
 pub mod Input
 pub mod Board
 pub mod Placing
+pub mod Lending

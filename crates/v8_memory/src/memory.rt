@@ -1,4 +1,5 @@
 ghost use Rattle.std.specs.Prelude.{◌≡◌, ℕ, ◌+◌, ◌*◌, ◌%◌, ◌-◌, ◌^◌, ◌<◌, ◌≤◌, [], length, IfOk, OnOk, OnErr, None, false, Option};
+ghost use Rattle.std.specs.Borrow.{sem};
 ghost use Rattle.v8_mmu.specs.Answers.{OnPort, OnUnanswered, Rose};
 ghost use Rattle.v8_memory.specs.Placing.{HasWords, HasBytesOf};
 ghost use Rattle.v8_mmu.specs.Ram.{entry_of};
@@ -28,6 +29,8 @@ pub struct Memory<P: Port> {
 }
 
 impl<P: Port> Memory<P> {
+    ghost use Rattle.v8_memory.specs.Lending.{lends_port};
+
     /// RAM of zeros and a device that has neither stopped nor met the end of its input. A refusal of memory drops the port.
     pub fn new(alloc: Global, port: P) -> Result<Self, AllocError>
         ensures ram { IfOk result (λ m. IsBlank m.ram) }
@@ -94,6 +97,14 @@ impl<P: Port> Memory<P> {
         ensures { result.now ≡ self.now.port }
     {
         &self.port
+    }
+
+    /// The port, to be written to. The memory then goes on with the port as it was left; the rest of it stays.
+    pub fn port_mut(&mut self) -> &mut P
+        ensures* writes_back { sem 𝓛 (lends_port P.row self.entry result) }
+        ensures value { result.now ≡ self.old.port }
+    {
+        &mut self.port
     }
 
     /// The word of the first register.

@@ -1,7 +1,12 @@
-use Rattle.v8_board.proofs.Placed.{placed_maps}
+use Rattle.v8_board.proofs.Placed.{placed_loaded, placed_maps}
 use Rattle.v8_board.proofs.board.Board.load.Goals as goal
 
 pub returns-clause-map : goal.returns-clause-map
 returns-clause-map g c =
     let maps = placed_maps g.row.N c.args.image.now _ _ c.place.ensures.ram in
     rw c.boot.ensures.bus maps
+
+pub returns-clause-loaded : goal.returns-clause-loaded
+returns-clause-loaded g c =
+    let loaded = placed_loaded g.row.N c.args.image.now _ _ c.place.ensures.ram in
+    rw c.boot.ensures.bus loaded

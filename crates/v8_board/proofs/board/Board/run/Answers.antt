@@ -3,15 +3,17 @@ use Rattle.v8_board.proofs.Running.{no_turns, one_turn_more, ended_run, whole_ru
 use Rattle.v8_board.proofs.board.Board.run.Goals as goal
 
 pub loop-done-init : goal.loop-done-init
-loop-done-init g c = no_turns _ _
+loop-done-init g c = (no_turns _ _, omega arith)
 
 pub loop-done-preserved : goal.loop-done-preserved
-loop-done-preserved g c =
-    one_turn_more g.row.N c.loop-done.done c.args.self.now.state c.loop-done.self.state c.turn.new.self.state c.in-Ok._turn c.loop-done.invariant (sym c.ending.ensures ∙ c.in-None.is) c.in-Ok.ensures.turn
+loop-done-preserved g c = (
+  one_turn_more g.row.N c.loop-done.done c.args.self.now.state c.loop-done.self.state c.turn.new.self.state c.in-Ok._turn c.loop-done.invariant.0 (sym c.ending.ensures ∙ c.in-None.is) c.in-Ok.ensures.turn,
+  omega (arith, c.loop-done.invariant.1, c.turn.ensures.count),
+)
 
 pub returns-in_default-clause-run : goal.returns-in_default-clause-run
 returns-in_default-clause-run g c =
-    ended_run g.row.N c.args.limit c.loop-done.done c.args.self.now.state c.loop-done.self.state c.loop-done.invariant (omega arith) (λ none. c.in_default.not-None (c.ending.ensures ∙ none))
+    ended_run g.row.N c.args.limit c.loop-done.done c.args.self.now.state c.loop-done.self.state c.loop-done.invariant.0 (omega arith) (λ none. c.in_default.not-None (c.ending.ensures ∙ none))
 
 pub returns-clause-run : goal.returns-clause-run
-returns-clause-run g c = whole_run g.row.N c.args.limit c.loop-done.done c.args.self.now.state c.loop-done.self.state c.loop-done.invariant (omega arith)
+returns-clause-run g c = whole_run g.row.N c.args.limit c.loop-done.done c.args.self.now.state c.loop-done.self.state c.loop-done.invariant.0 (omega arith)
