@@ -1,0 +1,69 @@
+use sbx_image::{Block, Function, Image, ImageFault, Items, Kind, Parts, Services};
+use std::alloc::{AllocError, Global};
+
+/// `add %o1,%o2,%o1; sll %o1,3,%o3; xor %o1,%o3,%o1; addcc %o2,-1,%o2; bne .-16; nop; ba .-24; nop`
+pub const ARITHMETIC: [u32; 8] = [
+    0x9202_400A,
+    0x972A_6003,
+    0x921A_400B,
+    0x9482_BFFF,
+    0x12BF_FFFC,
+    0x0100_0000,
+    0x10BF_FFFA,
+    0x0100_0000,
+];
+
+/// `sethi 512,%o0; ld [%o0],%o1; add %o1,1,%o1; st %o1,[%o0]; addcc %o2,-1,%o2; bne .-16; nop; ba .-24; nop`
+pub const MEMORY: [u32; 9] = [
+    0x1100_0200,
+    0xD202_2000,
+    0x9202_6001,
+    0xD222_2000,
+    0x9482_BFFF,
+    0x12BF_FFFC,
+    0x0100_0000,
+    0x10BF_FFFA,
+    0x0100_0000,
+];
+
+/// The parts of an image of these words, as one leaf function of one block, with eight bytes of data.
+fn parts(alloc: Global, words: &[u32]) -> Result<Parts, AllocError> {
+    let mut code = Vec::new(alloc);
+    code.extend_from_slice(words)?;
+    let mut blocks = Vec::new(alloc);
+    blocks.push(Block {
+        address: 0x4_0000,
+        fuel: 0,
+        cells: Items::new(Vec::new(alloc)),
+        terms: Items::new(Vec::new(alloc)),
+    })?;
+    let mut functions = Vec::new(alloc);
+    functions.push(Function {
+        kind: Kind::Leaf,
+        params: Items::new(Vec::new(alloc)),
+        results: Items::new(Vec::new(alloc)),
+        entry: 0x4_0000,
+        frame: 0,
+        stack_room: 0,
+        budget: 0,
+        blocks: Items::new(blocks),
+    })?;
+    Ok(Parts {
+        services: Services::EXIT,
+        words: Items::new(code),
+        bytes: Items::new(vec![in alloc; 0; 8]?),
+        stack_pages: 1,
+        functions: Items::new(functions),
+    })
+}
+
+/// An image of these words.
+pub fn image(alloc: Global, words: &[u32]) -> Result<Image, ImageFault> {
+    let Ok(parts) = parts(alloc, words) else {
+        return Err(ImageFault::Memory);
+    };
+    match Image::from_parts(parts) {
+        Ok(image) => Ok(image),
+        Err((_parts, fault)) => Err(fault),
+    }
+}
