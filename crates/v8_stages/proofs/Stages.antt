@@ -1,0 +1,169 @@
+-- The processor inside a handler as one function of what changes there. `stage n c rows w globals row current mask pc npc`:
+--   c         the control registers at the trap, with the trap's own changes (`caught`)
+--   rows      the words of all windows, but for window w, whose 16 words are `row`; w is the window that the trap entered
+--   globals   the globals
+--   current, mask, pc, npc
+-- Reading: read_own (current = w, registers 8 to 23), read_own_ins (24 to 31 there), read_other (current ≠ w, 8 to 23),
+--   read_other_ins (24 to 31, the window above ≠ w), read_trap_ins (24 to 31, the window above = w), read_global.
+-- Writing: write_own, write_own_ins, write_other, write_other_ins.
+-- The state after an instruction: local_computed, global_computed, local_written, pair_written, pair_written_ins.
+use Rattle.std.proofs.Common.{◌≡◌, ◌≢◌, ℕ, ◌+◌, ◌-◌, ◌%◌, ◌<◌, ◌≤◌, true, false, List, [], length, get_or, None, refl, sym, ap, ◌∙◌, arith}
+use Rattle.std.specs.Prelude.{slice_index, slice_set}
+use Rattle.std.proofs.lemmas.Bool.Decides.{nat_tests}
+use Rattle.std.proofs.lemmas.List.{get_or-set_same, get_or-set_other, set-set, set_comm}
+use Rattle.v8_alu.specs.Outcomes.{out}
+use Rattle.v8_meaning.specs.Operands.{following}
+use Rattle.v8_windows.specs.Windows.{Windows, reg_of, with_reg, above}
+use Rattle.v8_state.specs.declared.state.Control.{Control}
+use Rattle.v8_state.specs.declared.state.Cpu.{Cpu}
+use Rattle.v8_state.specs.Effects.{advanced, computed, written, written_pair, odd_of}
+
+-- windows where window w has the words of `row`
+abbrev pub inside : List (List ℕ) → ℕ → List ℕ → List ℕ → ℕ → ℕ → Windows
+inside rows w globals row current mask = record { globals = globals; words = slice_set rows w row; current = current; mask = mask }
+
+-- in a handler: supervisor mode, traps disabled
+abbrev pub handling : Control → ℕ → ℕ → Control
+handling c pc npc = record c { pc = pc; npc = npc; annul = false; error = None; s = true; et = false }
+
+abbrev pub stage : (n : ℕ) → Control → List (List ℕ) → ℕ → List ℕ → List ℕ → ℕ → ℕ → ℕ → ℕ → Cpu n
+stage n c rows w globals row current mask pc npc = record { regs = inside rows w globals row current mask; control = handling c pc npc }
+
+-- after RETT: the window above, the mode before the trap, traps enabled
+abbrev pub finished : (n : ℕ) → Control → List (List ℕ) → ℕ → List ℕ → List ℕ → ℕ → ℕ → ℕ → Cpu n
+finished n c rows w globals row mask pc npc = record {
+  regs = inside rows w globals row (above n w) mask;
+  control = record (handling c pc npc) { et = true; s = c.ps };
+}
+
+-- ---- reading
+
+pub read_global : (n : ℕ) (rows : List (List ℕ)) (w : ℕ) (globals row : List ℕ) (current mask : ℕ) → reg_of n (inside rows w globals row current mask) 1 ≡ slice_index globals 1
+unfolding reg_of
+read_global n rows w globals row current mask = refl
+
+pub read_own : (n : ℕ) (rows : List (List ℕ)) (w : ℕ) (globals row : List ℕ) (mask r : ℕ) → w < length rows → 8 ≤ r → r < 24 → reg_of n (inside rows w globals row w mask) r ≡ slice_index row (r - 8)
+unfolding reg_of
+read_own n rows w globals row mask r there low high =
+    let same : get_or (slice_set rows w row) w [] ≡ row = get_or-set_same rows w row [] there in
+    grind (arith, nat_tests, same)
+
+pub read_own_ins : (n : ℕ) (rows : List (List ℕ)) (w : ℕ) (globals row : List ℕ) (mask r : ℕ) → above n w ≢ w → 24 ≤ r → r < 32 → reg_of n (inside rows w globals row w mask) r ≡ slice_index (get_or rows (above n w) []) (r - 24)
+unfolding reg_of
+read_own_ins n rows w globals row mask r other low high =
+    let same : get_or (slice_set rows w row) (above n w) [] ≡ get_or rows (above n w) [] = get_or-set_other rows w (above n w) row [] other in
+    let t : slice_index (get_or (slice_set rows w row) (above n w) []) (r - 24) ≡ slice_index (get_or rows (above n w) []) (r - 24) = ap (λ (xs : List ℕ). slice_index xs (r - 24)) same in
+    grind (arith, nat_tests, t)
+
+pub read_other : (n : ℕ) (rows : List (List ℕ)) (w : ℕ) (globals row : List ℕ) (u mask r : ℕ) → u ≢ w → 8 ≤ r → r < 24 → reg_of n (inside rows w globals row u mask) r ≡ slice_index (get_or rows u []) (r - 8)
+unfolding reg_of
+read_other n rows w globals row u mask r other low high =
+    let same : get_or (slice_set rows w row) u [] ≡ get_or rows u [] = get_or-set_other rows w u row [] other in
+    let t : slice_index (get_or (slice_set rows w row) u []) (r - 8) ≡ slice_index (get_or rows u []) (r - 8) = ap (λ (xs : List ℕ). slice_index xs (r - 8)) same in
+    grind (arith, nat_tests, t)
+
+pub read_other_ins : (n : ℕ) (rows : List (List ℕ)) (w : ℕ) (globals row : List ℕ) (u mask r : ℕ) → above n u ≢ w → 24 ≤ r → r < 32 → reg_of n (inside rows w globals row u mask) r ≡ slice_index (get_or rows (above n u) []) (r - 24)
+unfolding reg_of
+read_other_ins n rows w globals row u mask r other low high =
+    let same : get_or (slice_set rows w row) (above n u) [] ≡ get_or rows (above n u) [] = get_or-set_other rows w (above n u) row [] other in
+    let t : slice_index (get_or (slice_set rows w row) (above n u) []) (r - 24) ≡ slice_index (get_or rows (above n u) []) (r - 24) = ap (λ (xs : List ℕ). slice_index xs (r - 24)) same in
+    grind (arith, nat_tests, t)
+
+pub read_trap_ins : (n : ℕ) (rows : List (List ℕ)) (w : ℕ) (globals row : List ℕ) (u mask r : ℕ) → w < length rows → above n u ≡ w → 24 ≤ r → r < 32 → reg_of n (inside rows w globals row u mask) r ≡ slice_index row (r - 24)
+unfolding reg_of
+read_trap_ins n rows w globals row u mask r there is low high =
+    let same : get_or (slice_set rows w row) (above n u) [] ≡ row = ap (λ x. get_or (slice_set rows w row) x []) is ∙ get_or-set_same rows w row [] there in
+    let t : slice_index (get_or (slice_set rows w row) (above n u) []) (r - 24) ≡ slice_index row (r - 24) = ap (λ (xs : List ℕ). slice_index xs (r - 24)) same in
+    grind (arith, nat_tests, t)
+
+-- ---- writing
+
+-- word k of window v is x
+abbrev pub with_cell : List (List ℕ) → ℕ → ℕ → ℕ → List (List ℕ)
+with_cell rows v k x = slice_set rows v (slice_set (get_or rows v []) k x)
+
+-- a register of window v, where the trap's window is another
+cell_beside : (rows : List (List ℕ)) (w : ℕ) (row : List ℕ) (v k x : ℕ) → v ≢ w → with_cell (slice_set rows w row) v k x ≡ slice_set (with_cell rows v k x) w row
+cell_beside rows w row v k x other =
+    ap (λ (xs : List ℕ). slice_set (slice_set rows w row) v (slice_set xs k x)) (get_or-set_other rows w v row [] other)
+    ∙ set_comm rows w v row (slice_set (get_or rows v []) k x) (λ e. other (sym e))
+
+cell_in_it : (rows : List (List ℕ)) (w : ℕ) (row : List ℕ) (k x : ℕ) → w < length rows → with_cell (slice_set rows w row) w k x ≡ slice_set rows w (slice_set row k x)
+cell_in_it rows w row k x there =
+    ap (λ (xs : List ℕ). slice_set (slice_set rows w row) w (slice_set xs k x)) (get_or-set_same rows w row [] there)
+    ∙ set-set rows w row (slice_set row k x)
+
+abbrev re_worded : Windows → List (List ℕ) → Windows
+re_worded v words = record v { words = words }
+
+pub write_own : (n : ℕ) (rows : List (List ℕ)) (w : ℕ) (globals row : List ℕ) (mask r x : ℕ) → w < length rows → 8 ≤ r → r < 24 → with_reg n (inside rows w globals row w mask) r x ≡ inside rows w globals (slice_set row (r - 8) x) w mask
+unfolding with_reg
+write_own n rows w globals row mask r x there low high =
+    let t : re_worded (inside rows w globals row w mask) (with_cell (slice_set rows w row) w (r - 8) x) ≡ inside rows w globals (slice_set row (r - 8) x) w mask = ap (re_worded (inside rows w globals row w mask)) (cell_in_it rows w row (r - 8) x there) in
+    grind (arith, nat_tests, t)
+
+pub write_own_ins : (n : ℕ) (rows : List (List ℕ)) (w : ℕ) (globals row : List ℕ) (mask r x : ℕ) → above n w ≢ w → 24 ≤ r → r < 32 → with_reg n (inside rows w globals row w mask) r x ≡ inside (with_cell rows (above n w) (r - 24) x) w globals row w mask
+unfolding with_reg
+write_own_ins n rows w globals row mask r x other low high =
+    let t : re_worded (inside rows w globals row w mask) (with_cell (slice_set rows w row) (above n w) (r - 24) x) ≡ inside (with_cell rows (above n w) (r - 24) x) w globals row w mask = ap (re_worded (inside rows w globals row w mask)) (cell_beside rows w row (above n w) (r - 24) x other) in
+    grind (arith, nat_tests, t)
+
+pub write_other : (n : ℕ) (rows : List (List ℕ)) (w : ℕ) (globals row : List ℕ) (u mask r x : ℕ) → u ≢ w → 8 ≤ r → r < 24 → with_reg n (inside rows w globals row u mask) r x ≡ inside (with_cell rows u (r - 8) x) w globals row u mask
+unfolding with_reg
+write_other n rows w globals row u mask r x other low high =
+    let t : re_worded (inside rows w globals row u mask) (with_cell (slice_set rows w row) u (r - 8) x) ≡ inside (with_cell rows u (r - 8) x) w globals row u mask = ap (re_worded (inside rows w globals row u mask)) (cell_beside rows w row u (r - 8) x other) in
+    grind (arith, nat_tests, t)
+
+pub write_other_ins : (n : ℕ) (rows : List (List ℕ)) (w : ℕ) (globals row : List ℕ) (u mask r x : ℕ) → above n u ≢ w → 24 ≤ r → r < 32 → with_reg n (inside rows w globals row u mask) r x ≡ inside (with_cell rows (above n u) (r - 24) x) w globals row u mask
+unfolding with_reg
+write_other_ins n rows w globals row u mask r x other low high =
+    let t : re_worded (inside rows w globals row u mask) (with_cell (slice_set rows w row) (above n u) (r - 24) x) ≡ inside (with_cell rows (above n u) (r - 24) x) w globals row u mask = ap (re_worded (inside rows w globals row u mask)) (cell_beside rows w row (above n u) (r - 24) x other) in
+    grind (arith, nat_tests, t)
+
+-- ---- the state after a write
+
+abbrev with_regs : (n : ℕ) → Control → Windows → Cpu n
+with_regs n c v = record { regs = v; control = c }
+
+-- a local of the trap's window
+pub local_written : (n : ℕ) (c : Control) (rows : List (List ℕ)) (w : ℕ) (globals row : List ℕ) (mask pc npc rd x : ℕ) → w < length rows → 16 ≤ rd → rd < 24 →
+    written n (stage n c rows w globals row w mask pc npc) rd x ≡ stage n c rows w globals (slice_set row (rd - 8) x) w mask npc (following npc)
+unfolding written advanced
+local_written n c rows w globals row mask pc npc rd x there low high = ap (with_regs n (handling c npc (following npc))) (write_own n rows w globals row mask rd x there (omega arith) high)
+
+pub local_computed : (n : ℕ) (c : Control) (rows : List (List ℕ)) (w : ℕ) (globals row : List ℕ) (mask pc npc rd x : ℕ) → w < length rows → 16 ≤ rd → rd < 24 →
+    computed n (stage n c rows w globals row w mask pc npc) rd (out x c.icc c.y) ≡ stage n c rows w globals (slice_set row (rd - 8) x) w mask npc (following npc)
+unfolding computed advanced
+local_computed n c rows w globals row mask pc npc rd x there low high = ap (with_regs n (handling c npc (following npc))) (write_own n rows w globals row mask rd x there (omega arith) high)
+
+-- the first global
+pub global_computed : (n : ℕ) (c : Control) (rows : List (List ℕ)) (w : ℕ) (globals row : List ℕ) (current mask pc npc x : ℕ) →
+    computed n (stage n c rows w globals row current mask pc npc) 1 (out x c.icc c.y) ≡ stage n c rows w (slice_set globals 1 x) row current mask npc (following npc)
+unfolding computed advanced with_reg
+global_computed n c rows w globals row current mask pc npc x = refl
+
+-- two locals of another window u
+pub pair_written : (n : ℕ) (c : Control) (rows : List (List ℕ)) (w : ℕ) (globals row : List ℕ) (u mask pc npc rd x y : ℕ) → u ≢ w → 16 ≤ rd → rd < 24 → rd % 2 ≡ 0 →
+    written_pair n (stage n c rows w globals row u mask pc npc) rd x y ≡ stage n c (with_cell (with_cell rows u (rd - 8) x) u (rd - 7) y) w globals row u mask npc (following npc)
+unfolding written_pair advanced
+pair_written n c rows w globals row u mask pc npc rd x y other low high even =
+    let odd : odd_of rd ≡ rd + 1 = omega arith in
+    let place : rd + 1 - 8 ≡ rd - 7 = omega arith in
+    let to = with_regs n (handling c npc (following npc)) in
+    ap (λ v. to (with_reg n v (odd_of rd) y)) (write_other n rows w globals row u mask rd x other (omega arith) high)
+    ∙ ap (λ q. to (with_reg n (inside (with_cell rows u (rd - 8) x) w globals row u mask) q y)) odd
+    ∙ ap to (write_other n (with_cell rows u (rd - 8) x) w globals row u mask (rd + 1) y other (omega arith) (omega arith))
+    ∙ ap (λ k. stage n c (with_cell (with_cell rows u (rd - 8) x) u k y) w globals row u mask npc (following npc)) place
+
+-- two ins of another window u
+pub pair_written_ins : (n : ℕ) (c : Control) (rows : List (List ℕ)) (w : ℕ) (globals row : List ℕ) (u mask pc npc rd x y : ℕ) → above n u ≢ w → 24 ≤ rd → rd < 32 → rd % 2 ≡ 0 →
+    written_pair n (stage n c rows w globals row u mask pc npc) rd x y ≡ stage n c (with_cell (with_cell rows (above n u) (rd - 24) x) (above n u) (rd - 23) y) w globals row u mask npc (following npc)
+unfolding written_pair advanced
+pair_written_ins n c rows w globals row u mask pc npc rd x y other low high even =
+    let odd : odd_of rd ≡ rd + 1 = omega arith in
+    let place : rd + 1 - 24 ≡ rd - 23 = omega arith in
+    let to = with_regs n (handling c npc (following npc)) in
+    ap (λ v. to (with_reg n v (odd_of rd) y)) (write_other_ins n rows w globals row u mask rd x other low high)
+    ∙ ap (λ q. to (with_reg n (inside (with_cell rows (above n u) (rd - 24) x) w globals row u mask) q y)) odd
+    ∙ ap to (write_other_ins n (with_cell rows (above n u) (rd - 24) x) w globals row u mask (rd + 1) y other (omega arith) (omega arith))
+    ∙ ap (λ k. stage n c (with_cell (with_cell rows (above n u) (rd - 24) x) (above n u) k y) w globals row u mask npc (following npc)) place
