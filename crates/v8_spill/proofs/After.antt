@@ -1,0 +1,100 @@
+-- The registers after the overflow handler.
+use Rattle.std.proofs.Common.{◌≡◌, ◌≢◌, ℕ, ◌^◌, ◌<◌, ◌≤◌, Bool, true, false, List, [], length, get_or, None, refl, sym, ap, ◌∙◌, subst, arith}
+use Rattle.std.specs.Prelude.{slice_index, slice_set, ◌==◌, nat_lt}
+use Rattle.std.proofs.lemmas.Bool.Decides.{nat_tests}
+use Rattle.std.proofs.lemmas.List.{get_or-set_same, get_or-set_other, length-set}
+use Rattle.v8_windows.specs.Windows.{IsFile, AreGlobals, below}
+use Rattle.v8_state.specs.declared.state.Cpu.{Cpu}
+use Rattle.v8_stages.proofs.Upto.{each_window}
+use Rattle.v8_stages.proofs.Windows.{above_below, below_within, mask_word}
+use Rattle.v8_stages.proofs.Stages.{finished}
+use Rattle.v8_stages.proofs.Entered.{caught, first_row, first_row_pcs, first_row_kept, finished_control}
+use Rattle.v8_spill.specs.Laws.{Spills}
+use Rattle.v8_spill.proofs.Rows.{row_5, globals_7, row_5_long, row_5_low, row_5_fits, first_row_fits, globals_back}
+
+less : (a b : ℕ) → nat_lt a b ≡ true → a < b
+less a b e = grind (arith, nat_tests)
+
+mask_within : (n w : ℕ) → 4 ≤ n → n ≤ 32 → w < n → 2 ^ w < 2 ^ n
+mask_within n w few many within = less (2 ^ w) (2 ^ n) (each_window (λ k x. nat_lt (2 ^ x) (2 ^ k)) refl n w few many within)
+
+-- a fact about each window's words, where one window's are new
+row_by : (rows : List (List ℕ)) (w : ℕ) (row : List ℕ) (v : ℕ) (P : List ℕ → Type 0) → w < length rows → P row → P (get_or rows v []) → P (get_or (slice_set rows w row) v [])
+row_by rows w row v P there here elsewhere = by_window (v == w) refl
+  where
+    by_window : (t : Bool) → (v == w) ≡ t → P (get_or (slice_set rows w row) v [])
+    by_window true e =
+        let same : w ≡ v = grind (arith, nat_tests) in
+        subst (λ i. P (get_or (slice_set rows w row) i [])) same (subst P (sym (get_or-set_same rows w row [] there)) here)
+    by_window false e =
+        let other : v ≢ w = grind (arith, nat_tests) in
+        subst P (sym (get_or-set_other rows w v row [] other)) elsewhere
+
+-- a word that neither the trap nor the handler changes
+kept_word : (rows : List (List ℕ)) (w : ℕ) (row : List ℕ) (v j : ℕ) → w < length rows → (v ≡ w → j < 8) → (j < 8 → slice_index row j ≡ slice_index (get_or rows w []) j) →
+    slice_index (get_or (slice_set rows w row) v []) j ≡ slice_index (get_or rows v []) j
+kept_word rows w row v j there low same = by_window (v == w) refl
+  where
+    by_window : (t : Bool) → (v == w) ≡ t → slice_index (get_or (slice_set rows w row) v []) j ≡ slice_index (get_or rows v []) j
+    by_window true e =
+        let is : v ≡ w = grind (arith, nat_tests) in
+        ap (λ x. slice_index (get_or (slice_set rows w row) x []) j) is
+        ∙ ap (λ (xs : List ℕ). slice_index xs j) (get_or-set_same rows w row [] there)
+        ∙ same (low is) ∙ ap (λ x. slice_index (get_or rows x []) j) (sym is)
+    by_window false e =
+        let other : v ≢ w = grind (arith, nat_tests) in
+        ap (λ (xs : List ℕ). slice_index xs j) (get_or-set_other rows w v row [] other)
+
+-- the words of the trap's window after the handler
+abbrev pub last_row : (n : ℕ) → Cpu n → List ℕ
+last_row n cpu = row_5 n cpu.regs.globals (first_row n cpu) (2 ^ below n cpu.regs.current)
+
+pub last_row_low : (n : ℕ) (cpu : Cpu n) (j : ℕ) → j < 8 → slice_index (last_row n cpu) j ≡ slice_index (get_or cpu.regs.words (below n cpu.regs.current) []) j
+last_row_low n cpu j low = row_5_low n cpu.regs.globals (first_row n cpu) (2 ^ below n cpu.regs.current) j (omega arith) ∙ first_row_kept n cpu j (λ e. omega arith) (λ e. omega arith)
+
+pub last_row_fits : (n : ℕ) (cpu : Cpu n) → IsFile n cpu.regs → cpu.control.pc < 2 ^ 32 → cpu.control.npc < 2 ^ 32 → (i : ℕ) → slice_index (last_row n cpu) i < 2 ^ 32
+last_row_fits n cpu file a b i =
+    let few = file.few in
+    let many = file.many in
+    let w = below n cpu.regs.current in
+    let within : w < n = below_within n cpu.regs.current few many file.current in
+    let old_row = get_or cpu.regs.words w [] in
+    let sixteen = file.rows.each w within in
+    row_5_fits n cpu.regs.globals (first_row n cpu) (2 ^ w) (first_row_pcs n cpu sixteen).2 (mask_word w (omega arith)) (file.globals.fit 1)
+    (first_row_fits old_row cpu.control.pc cpu.control.npc sixteen a b (file.rows.fit w)) i
+
+pub spills : (n : ℕ) (cpu : Cpu n) → IsFile n cpu.regs → cpu.control.pc < 2 ^ 32 → cpu.control.npc < 2 ^ 32 → cpu.control.annul ≡ false → cpu.control.error ≡ None → cpu.control.et ≡ true →
+    Spills n cpu (finished n (caught cpu.control 5) cpu.regs.words (below n cpu.regs.current) (globals_7 n cpu.regs.globals (first_row n cpu) (2 ^ below n cpu.regs.current)) (last_row n cpu)
+    (2 ^ below n (below n cpu.regs.current)) cpu.control.pc cpu.control.npc)
+spills n cpu file pc_word npc_word straight sane enabled =
+    let few = file.few in
+    let many = file.many in
+    let w = below n cpu.regs.current in
+    let rows = cpu.regs.words in
+    let within : w < n = below_within n cpu.regs.current few many file.current in
+    let counted = file.rows.count in
+    let there : w < length rows = omega arith in
+    let sixteen = file.rows.each w within in
+    let long = (first_row_pcs n cpu sixteen).2 in
+    let row = last_row n cpu in
+    let back = above_below n cpu.regs.current few many file.current in
+    let same_globals = globals_back n cpu.regs.globals (first_row n cpu) (2 ^ w) long in
+    record {
+      mask = refl;
+      current = back;
+      globals = same_globals;
+      kept = λ v j low. kept_word rows w row v j there low (last_row_low n cpu j);
+      file = record {
+        few = few;
+        many = many;
+        current = subst (λ x. x < n) (sym back) file.current;
+        mask = mask_within n (below n w) few many (below_within n w few many within);
+        globals = subst AreGlobals (sym same_globals) file.globals;
+        rows = record {
+          count = length-set rows w row ∙ counted;
+          each = λ v less. row_by rows w row v (λ xs. length xs ≡ 16) there (row_5_long n cpu.regs.globals (first_row n cpu) (2 ^ w) long) (file.rows.each v less);
+          fit = λ v k. row_by rows w row v (λ xs. slice_index xs k < 2 ^ 32) there (last_row_fits n cpu file pc_word npc_word k) (file.rows.fit v k);
+        };
+      };
+      control = finished_control cpu.control 5 cpu.control.pc cpu.control.npc refl refl straight sane enabled;
+    }

@@ -1,0 +1,7 @@
+pub mod Asks
+pub mod Rows
+pub mod Stores
+pub mod Overflow
+pub mod Board
+pub mod After
+pub mod Law
