@@ -1,0 +1,7 @@
+pub mod Cells
+pub mod Rows
+pub mod Asks
+pub mod Board
+pub mod Handler
+pub mod Attempt
+pub mod Law
