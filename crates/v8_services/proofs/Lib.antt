@@ -1,0 +1,4 @@
+pub mod Places
+pub mod Frames
+pub mod Vector
+pub mod Served
