@@ -1,0 +1,5 @@
+pub mod Digits
+pub mod Written
+pub mod Lines
+pub mod Runs
+pub mod Unheard

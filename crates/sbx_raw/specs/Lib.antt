@@ -1,0 +1,5 @@
+pub mod Ports
+pub mod Outputs
+pub mod Runs
+pub mod Text
+pub mod Traces

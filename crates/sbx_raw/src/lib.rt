@@ -1,0 +1,17 @@
+//! Raw runs: images that nobody has verified, on a board, and their traces.
+#![tactic(auto)]
+
+mod fault;
+mod line;
+mod port;
+mod raw;
+mod tracing;
+
+pub use fault::RunFault;
+pub use port::SlicePort;
+pub use raw::{Raw, run_raw};
+pub use tracing::trace;
+pub use v8_board::{Ending, Outcome, PageUse};
+
+#[cfg(test)]
+mod tests;
