@@ -1,2 +1,9 @@
-pub mod Reached
-pub mod Shown
+pub mod Fields
+pub mod Written
+pub mod Plain
+pub mod Shows
+pub mod Chains
+pub mod Steps
+pub mod Start
+pub mod Finish
+pub mod Answered

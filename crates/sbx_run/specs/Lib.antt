@@ -1,2 +1,3 @@
-pub mod Shows
+pub mod Ports
+pub mod Boards
 pub mod Answer

@@ -92,13 +92,16 @@ fn runs_accepted_images(rt: HostRuntime) -> Result<(), Fail> {
         };
         let finished = match run_accepted::<8>(rt.alloc(), &accepted, input) {
             Ok(finished) => finished,
-            Err(_) => panic!(rt; "memory"),
+            Err(fault) => panic!(rt; "{fault:?}"),
         };
         assert_eq!(rt; finished.status, status);
         assert_eq!(rt; finished.output.as_slice(), output);
         assert_eq!(rt; finished.turns, turns);
         assert_eq!(rt; finished.overflows, 0);
         assert_eq!(rt; finished.underflows, 0);
+        // The one page of code, which is fetched from and never written.
+        assert_eq!(rt; finished.pages.referenced, [1, 0, 0]);
+        assert_eq!(rt; finished.pages.modified, [0, 0, 0]);
         assert_eq!(rt; budget(accepted.image()), 100);
         assert_eq!(rt; accepted.into_image().words(), words);
     }

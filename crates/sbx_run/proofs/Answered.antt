@@ -1,0 +1,123 @@
+-- What a board run of an accepted image answers.
+use Rattle.std.proofs.Common.{◌≡◌, ℕ, ◌+◌, ◌^◌, ◌<◌, ◌≤◌, Bool, true, false, List, [], ◌∷◌, Option, Some, None, refl, sym, ap, ◌∙◌, subst, inl, arith}
+use Rattle.std.specs.Prelude.{if◌then◌else◌}
+use Rattle.v8_meaning.specs.declared.operation.Operation.{Operation}
+use Rattle.v8_meaning.specs.declared.operation.Operation.TheVariants.{Restore, Save}
+use Rattle.v8_board.specs.declared.outcome.Ending.{Ending}
+use Rattle.v8_board.specs.declared.outcome.Ending.TheVariants.{Exit}
+use Rattle.v8_board.specs.declared.outcome.Outcome.{Outcome}
+use Rattle.sbx_image.specs.declared.parts.Parts.{Parts}
+use Rattle.sbx_flat.specs.Runs.{AreBytes, Behaves, FlatSafe, Place, budget, weight, weight_at, weight_of, weight_of_word}
+use Rattle.sbx_flat.specs.Traffic.{Traffic, after_operation, after_place, after_word, no_traffic, traffic_from}
+use Rattle.sbx_flat.specs.Turns.{asked, word_at}
+use Rattle.sbx_verify.specs.Rules.{IsAccepted, is_accepted}
+use Rattle.sbx_verify.specs.declared.cause.Cause.TheVariants.{V2}
+use Rattle.sbx_run.specs.declared.boards.BoardRun.{BoardRun}
+use Rattle.sbx_run.specs.declared.runner.Finished.{Finished}
+use Rattle.sbx_run.specs.Answer.{IsAnswer}
+use Rattle.sbx_run.specs.Boards.{IsRunOf}
+use Rattle.sbx_run.proofs.Finish.{Told, told}
+use Rattle.sbx_run.proofs.Steps.{AreAccepted, located}
+
+-- ---- accepted code neither saves nor restores: its window traffic is its weight
+
+abbrev with_turns : Traffic → ℕ → Traffic
+with_turns t w = record t { turns = t.turns + w }
+
+quiet_operation : (n : ℕ) (op : Operation) (t : Traffic) → is_accepted op ≡ true → after_operation n op t ≡ with_turns t (weight_of op)
+unfolding is_accepted
+quiet_operation n (Save f) t h = absurd (cc)
+quiet_operation n (Restore f) t h = absurd (cc)
+quiet_operation n _ t h = refl
+
+quiet_word : (n : ℕ) (o : Option ℕ) (t : Traffic) → ((word : ℕ) → o ≡ Some word → is_accepted (asked word) ≡ true) → after_word n o t ≡ with_turns t (weight_of_word o)
+quiet_word n None t h = refl
+quiet_word n (Some word) t h = quiet_operation n (asked word) t (h word refl)
+
+quiet_or : (b : Bool) (w : ℕ) (t u : Traffic) → u ≡ with_turns t w → (if b then with_turns t 1 else u) ≡ with_turns t (if b then 1 else w)
+quiet_or true w t u e = refl
+quiet_or false w t u e = e
+
+fetched_accepted : (words : List ℕ) (address word : ℕ) → AreAccepted words → word_at words address ≡ Some word → is_accepted (asked word) ≡ true
+fetched_accepted words address word all e =
+    let l = located words address word e in
+    subst (λ w. is_accepted (asked w) ≡ true) l.is (all l.index l.within)
+
+quiet_place : (parts : Parts) (n : ℕ) (place : Place) (t : Traffic) → AreAccepted parts.words → after_place parts n place t ≡ with_turns t (weight_at parts place)
+unfolding after_place weight_at
+quiet_place parts n place t all =
+    let o = word_at parts.words place.pc in
+    quiet_or place.annulled (weight_of_word o) t (after_word n o t) (quiet_word n o t (λ word e. fetched_accepted parts.words place.pc word all e))
+
+more_turns : (t : Traffic) (a b : ℕ) → with_turns (with_turns t a) b ≡ with_turns t (a + b)
+more_turns t a b = let e : t.turns + a + b ≡ t.turns + (a + b) = omega arith in ap (λ x. record t { turns = x }) e
+
+quiet_path : (parts : Parts) (n : ℕ) (path : List Place) (t : Traffic) → AreAccepted parts.words → traffic_from parts n path t ≡ with_turns t (weight parts path)
+quiet_path parts n [] t all = let e : t.turns ≡ t.turns + 0 = omega arith in ap (λ x. record t { turns = x }) e
+quiet_path parts n (p ∷ path) t all =
+    ap (traffic_from parts n path) (quiet_place parts n p t all)
+    ∙ quiet_path parts n path (with_turns t (weight_at parts p)) all
+    ∙ more_turns t (weight_at parts p) (weight parts path)
+
+-- ---- in an accepted image each word is accepted
+
+right_way : (b : Bool) → (b ≡ false → ⊥) → b ≡ true
+right_way true h = refl
+right_way false h = absurd (h refl)
+
+all_accepted : (parts : Parts) → IsAccepted parts → AreAccepted parts.words
+all_accepted parts a i within = right_way _ (λ h. a.checked i V2 (within, inl h))
+
+-- ---- the answer
+
+exits_same : (o p : Outcome) (s t a b c : ℕ) → o ≡ p → p ≡ record { ending = Exit t; turns = a; overflows = b; underflows = c } → o.ending ≡ Exit s → s ≡ t
+exits_same o p s t a b c e f g = cc
+
+module _ (parts : Parts) (n : ℕ) (input : List ℕ) (few : 4 ≤ n) (many : n ≤ 32) (safe : FlatSafe parts) (accepted : IsAccepted parts) (bytes : AreBytes input) (bound : budget parts < 2 ^ 64) (board : BoardRun) (run : IsRunOf n parts input (budget parts) board) where
+  all : AreAccepted parts.words
+  all = all_accepted parts accepted
+
+  abbrev told_so : Told n parts input run.last
+  told_so = told n parts input run.begun.made run.start run.last few many safe bytes accepted.few all bound run.begun.new run.begun.loaded run.run
+
+  abbrev outcome : Outcome
+  outcome = record { ending = Exit told_so.status; turns = weight parts told_so.path; overflows = 0; underflows = 0 }
+
+  is_outcome : board.outcome ≡ outcome
+  is_outcome = run.outcome ∙ told_so.outcome
+
+  -- the run exits
+  pub exits : (e : Ending) → board.outcome.ending ≡ e → ((status : ℕ) → e ≡ Exit status → ⊥) → ⊥
+  exits e is other = other told_so.status (sym is ∙ ap (λ (o : Outcome). o.ending) is_outcome)
+
+  pub answered : (f : Finished) → board.outcome.ending ≡ Exit f.status → f.output.items ≡ board.output.items → f.turns ≡ board.outcome.turns → f.overflows ≡ board.outcome.overflows → f.underflows ≡ board.outcome.underflows → f.pages ≡ board.pages → IsAnswer parts n input f
+  answered f exit output turns overflows underflows pages =
+      let s = safe input bytes in
+      let t = told_so in
+      let a = s.3.one_answer t.path t.state t.status t.run t.exit in
+      let status : f.status ≡ t.status = exits_same board.outcome outcome f.status t.status (weight parts t.path) 0 0 is_outcome refl exit in
+      let same_output : s.0 ≡ f.output.items = sym a.0 ∙ sym t.output ∙ sym run.output ∙ sym output in
+      let same_status : s.1 ≡ f.status = sym a.1 ∙ sym status in
+      let top = s.3.within_budget t.path t.state t.run in
+      let quiet = quiet_path parts n t.path no_traffic all in
+      let so_many : f.turns ≡ weight parts t.path = turns ∙ ap (λ (o : Outcome). o.turns) is_outcome in
+      let weighs : weight parts t.path ≡ 0 + weight parts t.path = omega arith in
+      record {
+        path = t.path;
+        behaves = subst (λ p. Behaves parts input f.output.items f.status p) (sym a.2) (subst (λ w. Behaves parts input f.output.items w s.2) same_status (subst (λ o. Behaves parts input o s.1 s.2) same_output s.3));
+        turns = so_many ∙ weighs ∙ sym (ap (λ (t : Traffic). t.turns) quiet);
+        overflows = overflows ∙ ap (λ (o : Outcome). o.overflows) is_outcome ∙ sym (ap (λ (t : Traffic). t.overflows) quiet);
+        underflows = underflows ∙ ap (λ (o : Outcome). o.underflows) is_outcome ∙ sym (ap (λ (t : Traffic). t.underflows) quiet);
+        within = omega arith;
+        board_run = record {
+          start = run.start;
+          last = run.last;
+          begun = run.begun;
+          run = run.run;
+          told = sym run.outcome ∙ ap (λ (e : Ending). record board.outcome { ending = e }) exit ∙ ap (λ k. record { ending = Exit f.status; turns = k; overflows = board.outcome.overflows; underflows = board.outcome.underflows }) (sym turns)
+              ∙ ap (λ k. record { ending = Exit f.status; turns = f.turns; overflows = k; underflows = board.outcome.underflows }) (sym overflows)
+              ∙ ap (λ k. record { ending = Exit f.status; turns = f.turns; overflows = f.overflows; underflows = k }) (sym underflows);
+          output = output ∙ run.output;
+          pages = pages ∙ run.pages;
+        };
+      }
