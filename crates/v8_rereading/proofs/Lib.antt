@@ -1,0 +1,11 @@
+mod Bytes
+mod Hearing
+mod Pieces
+mod Reading
+mod Spoken
+mod Layouts
+mod Controls
+mod Ranges
+mod Whole
+mod Lengths
+mod Bare

@@ -1,0 +1,6 @@
+//! The text of each instruction reads back as that instruction.
+#![tactic(auto)]
+
+pub mod laws;
+#[cfg(test)]
+mod tests;
