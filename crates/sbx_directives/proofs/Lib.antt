@@ -1,0 +1,4 @@
+pub mod Labels
+pub mod Groups
+pub mod Counts
+pub mod Appending

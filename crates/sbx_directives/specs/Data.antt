@@ -1,0 +1,88 @@
+-- The values of a data directive as bytes.
+use Rattle.std.specs.Prelude.{◌≡◌, ◌≢◌, ℕ, ◌-◌, Bool, false, not, if◌then◌else◌, ℤ, pos, negsuc, ◌+ℤ◌, neg_ℤ, List, [], ◌++◌, drop, Option, Some, None, Result, Ok, Err, MatchResult}
+use Rattle.std.specs.List.{flat_map, list_any, list_all}
+use Rattle.std.specs.Int.{w8, w16, w32, to_be_bytes}
+use Rattle.std.specs.Option.{is_some, is_none}
+use Rattle.sbx_text.specs.declared.Token.{Token}
+use Rattle.sbx_directives.specs.declared.directive.Name.{Name}
+use Rattle.sbx_directives.specs.declared.directive.Width.{Width}
+use Rattle.sbx_directives.specs.declared.directive.Width.TheVariants as widths
+use Rattle.sbx_directives.specs.declared.fault.DataFault.{DataFault}
+use Rattle.sbx_directives.specs.declared.fault.DataFault.TheVariants.{UnknownSymbol, Malformed, Memory}
+use Rattle.sbx_directives.specs.declared.operand.Operand.{Operand}
+use Rattle.sbx_directives.specs.declared.operand.Operand.TheVariants as operands
+use Rattle.sbx_directives.specs.Lines.{text_of}
+use Rattle.sbx_directives.specs.Operands.{operands_of, is_between}
+use Rattle.sbx_directives.specs.Directives.{value_count}
+
+abbrev pub bytes_of_width : Width → ℕ
+bytes_of_width widths.Byte = 1
+bytes_of_width widths.Half = 2
+bytes_of_width widths.Word = 4
+
+-- n bits hold -2^(n-1) to 2^n - 1
+abbrev pub fits : Width → ℤ → Bool
+fits widths.Byte z = is_between (negsuc 127) (pos 255) z
+fits widths.Half z = is_between (negsuc 32767) (pos 65535) z
+fits widths.Word z = is_between (negsuc 2147483647) (pos 4294967295) z
+
+-- a number as n bits, a negative one plus 2^n
+abbrev pub of_bits : ℕ → ℤ → ℕ
+of_bits room (pos n) = n
+of_bits room (negsuc n) = room - 1 - n
+
+-- the most significant byte first
+abbrev pub spelled : Width → ℤ → List ℕ
+spelled widths.Byte z = to_be_bytes w8 (of_bits 256 z)
+spelled widths.Half z = to_be_bytes w16 (of_bits 65536 z)
+spelled widths.Word z = to_be_bytes w32 (of_bits 4294967296 z)
+
+abbrev pub moved : Option ℕ → ℤ → Option ℤ
+moved (Some v) z = Some (pos v +ℤ z)
+moved None z = None
+
+abbrev pub fits_some : Width → Option ℤ → Bool
+fits_some width (Some z) = fits width z
+fits_some width None = false
+
+abbrev pub spelled_some : Width → Option ℤ → List ℕ
+spelled_some width (Some z) = spelled width z
+spelled_some width None = []
+
+-- what the symbols are worth, and the line
+module _ (values : List ℕ → Option ℕ) (line : List ℕ) where
+  -- a whole number, none where its symbol is unknown
+  abbrev pub value_of : Operand → Option ℤ
+  value_of (operands.Number n) = Some (pos n)
+  value_of (operands.Minus n) = Some (neg_ℤ (pos n))
+  value_of (operands.Register r) = None
+  value_of (operands.Name x) = moved (values (text_of line x)) (pos 0)
+  value_of (operands.Counted x n) = None
+  value_of (operands.Sum x n) = moved (values (text_of line x)) (pos n)
+  value_of (operands.Difference x n) = moved (values (text_of line x)) (neg_ℤ (pos n))
+  value_of operands.Other = None
+
+  abbrev pub is_known : Operand → Bool
+  is_known o = is_some (value_of o)
+
+  abbrev pub is_fit : Width → Operand → Bool
+  is_fit width o = fits_some width (value_of o)
+
+  abbrev pub bytes_of : Width → Operand → List ℕ
+  bytes_of width o = spelled_some width (value_of o)
+
+  -- an unknown symbol anywhere is told before a value that does not fit
+  unfoldable pub listed : Width → List Operand → Result (List ℕ) DataFault
+  listed width os =
+      if is_none (value_count os) then Err Malformed
+      else (if not (list_all is_known os) then Err UnknownSymbol
+      else (if not (list_all (is_fit width) os) then Err Malformed
+      else Ok (flat_map (bytes_of width) os)))
+
+  -- The bytes of the values behind the name of a data directive.
+  abbrev pub data_of : Width → List Token → Result (List ℕ) DataFault
+  data_of width tokens = listed width (operands_of line (drop 1 tokens))
+
+-- what a call gives is this, but want of memory may stand in the place of any answer
+abbrev pub Gives : Result (Unit {0}) DataFault → List ℕ → List ℕ → Result (List ℕ) DataFault → Type 0
+Gives result old new meant = MatchResult result (λ _. (bytes : List ℕ) × (meant ≡ Ok bytes) × (new ≡ old ++ bytes)) (λ e. (e ≢ Memory → meant ≡ Err e) × (new ≡ old))

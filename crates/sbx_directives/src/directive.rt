@@ -1,0 +1,90 @@
+// What a line asks for behind its labels.
+use sbx_image::{Cell, Kind, Range, Services, Term};
+
+/// A name in a line: the bytes from `start` up to `stop`.
+#[derive(Clone, Copy, PartialEq, Eq, Debug)]
+pub struct Name {
+    pub start: usize,
+    pub stop: usize,
+}
+
+/// How many bytes each value of a data directive takes: 1, 2 or 4.
+#[derive(Clone, Copy, PartialEq, Eq, Debug)]
+pub enum Width {
+    Byte,
+    Half,
+    Word,
+}
+
+/// The name that a directive or an annotation begins with: its own in lower case behind a dot.
+#[derive(Clone, Copy, PartialEq, Eq, Debug)]
+pub enum Keyword {
+    Text,
+    Data,
+    Services,
+    Stack,
+    Function,
+    Param,
+    Result,
+    Block,
+    Cell,
+    Fuel,
+    Term,
+    Word,
+    Half,
+    Byte,
+    Skip,
+    Align,
+}
+
+/// A directive or an annotation, its numbers within their bounds.
+#[derive(Clone, Copy, PartialEq, Eq, Debug)]
+pub enum Directive {
+    /// What follows goes to the code.
+    Text,
+    /// What follows goes to the data.
+    Data,
+    /// The set of services that are named.
+    Services(Services),
+    /// Pages of stack, 1 to 16.
+    Stack(u16),
+    Function {
+        name: Name,
+        kind: Kind,
+        /// Bytes, at most 4,096.
+        frame: u32,
+        /// Bytes, at most 65,536.
+        stack_room: u32,
+        /// Turns, below 2^40.
+        budget: u64,
+    },
+    /// `lo` at most `hi`, the alignment at most 3.
+    Param(Range),
+    /// As a parameter.
+    Result(Range),
+    Block(Name),
+    /// The location 1 to 31 or 32 to 1,039, the range as of a parameter.
+    Cell(Cell),
+    /// Turns, below 2^40 in magnitude.
+    Fuel(i64),
+    /// The location as in a cell, the coefficient not 0.
+    Term(Term),
+    /// So many values of that width, at least one.
+    Values(Width, usize),
+    /// So many zeros, of whatever number.
+    Skip(u64),
+    /// Zeros up to a multiple of 2, 4 or 8.
+    Align(u32),
+}
+
+/// What stands behind the labels of a line.
+#[derive(Clone, Copy, PartialEq, Eq, Debug)]
+pub enum Statement {
+    /// No token.
+    Nothing,
+    Directive(Directive),
+    /// A directive's name, but its operands have another shape, or a number passes its bound.
+    Malformed(Keyword),
+    /// Anything else: an instruction, or what is neither.
+    Instruction,
+}

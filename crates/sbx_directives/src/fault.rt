@@ -1,0 +1,30 @@
+// Why the values of a data directive have no bytes.
+ghost use Rattle.std.specs.Prelude.{◌≡◌};
+ghost use Rattle.sbx_directives.specs.declared.fault.DataFault.TheVariants.{Memory};
+
+use std::alloc::{AllocError, AllocFailed};
+
+/// Why the values of a data directive have no bytes. An unknown symbol is told before a value that does not fit.
+#[derive(Clone, Copy, PartialEq, Eq, Debug)]
+pub enum DataFault {
+    UnknownSymbol,
+    /// The list is none of expressions, or a value does not fit the width.
+    Malformed,
+    Memory,
+}
+
+impl From<AllocError> for DataFault {
+    ghost from_gives = { λ _ e. e ≡ Memory };
+
+    fn from(_e: AllocError) -> DataFault {
+        DataFault::Memory
+    }
+}
+
+impl<T: Drop> From<AllocFailed<T>> for DataFault {
+    ghost from_gives = { λ _ e. e ≡ Memory };
+
+    fn from(_e: AllocFailed<T>) -> DataFault {
+        DataFault::Memory
+    }
+}

@@ -1,0 +1,160 @@
+// Numbers, ranges and locations among the operands of a directive.
+ghost use Rattle.std.specs.Prelude.{◌≡◌, ◌≤◌, ◌+◌, ℕ, pos, negsuc, ◌≤ℤ◌, IfSome};
+ghost use Rattle.sbx_directives.specs.Operands.{integer, is_between, integer_in, natural, natural_in, range_of, coefficient, plain_name, slot, location};
+
+use crate::directive::Name;
+use crate::keyword::is_same;
+use crate::operand::Operand;
+use crate::word::text_of;
+use sbx_image::Range;
+
+fn integer(operand: Operand) -> Option<i128>
+    ensures { result ≡ integer operand }
+{
+    match operand {
+        Operand::Number(number) => Some(i128::from(number)),
+        Operand::Minus(number) => Some(-i128::from(number)),
+        Operand::Register(_)
+        | Operand::Name(_)
+        | Operand::Counted(..)
+        | Operand::Sum(..)
+        | Operand::Difference(..)
+        | Operand::Other => None,
+    }
+}
+
+/// A number from `low` to `high`.
+#[tactic(auto, unfolding(crate::specs::Operands::integer_in))]
+pub fn integer_in(low: i64, high: i64, operand: Operand) -> Option<i64>
+    ensures value { result ≡ integer_in low high operand }
+    ensures least { IfSome result (λ z. low ≤ℤ z) }
+    ensures greatest { IfSome result (λ z. z ≤ℤ high) }
+{
+    let number = integer(operand)?;
+    if i128::from(low) <= number && number <= i128::from(high) {
+        Some(number as i64)
+    } else {
+        None
+    }
+}
+
+fn natural(operand: Operand) -> Option<u64>
+    ensures { result ≡ natural operand }
+{
+    match operand {
+        Operand::Number(number) => Some(number),
+        Operand::Minus(number) => { if number == 0 { Some(0) } else { None } }
+        Operand::Register(_)
+        | Operand::Name(_)
+        | Operand::Counted(..)
+        | Operand::Sum(..)
+        | Operand::Difference(..)
+        | Operand::Other => None,
+    }
+}
+
+/// A number that is not negative, from `low` to `high`.
+#[tactic(auto, unfolding(crate::specs::Operands::natural_in))]
+pub fn natural_in(low: u64, high: u64, operand: Operand) -> Option<u64>
+    ensures value { result ≡ natural_in low high operand }
+    ensures greatest { IfSome result (λ n. n ≤ high) }
+{
+    let number = natural(operand)?;
+    if low <= number && number <= high {
+        Some(number)
+    } else {
+        None
+    }
+}
+
+/// A number of 32 bits, signed.
+pub fn signed_word(operand: Operand) -> Option<i32>
+    ensures { result ≡ integer_in (negsuc 2147483647) (pos 2147483647) operand }
+{
+    let number = integer_in(-0x8000_0000, 0x7fff_ffff, operand)?;
+    Some(number as i32)
+}
+
+/// `LO,HI,AL`, `LO` at most `HI`.
+#[tactic(auto, unfolding(crate::specs::Operands::range_of))]
+pub fn range_of(low: Operand, high: Operand, alignment: Operand) -> Option<Range>
+    ensures { result ≡ range_of low high alignment }
+{
+    let lo = signed_word(low)?;
+    let hi = signed_word(high)?;
+    let alignment = natural_in(0, 3, alignment)? as u8;
+    if lo <= hi {
+        Some(Range { lo, hi, alignment })
+    } else {
+        None
+    }
+}
+
+/// Any number of 32 bits but 0, signed.
+pub fn coefficient(operand: Operand) -> Option<i32>
+    ensures { result ≡ coefficient operand }
+{
+    let number = signed_word(operand)?;
+    if number < 0 || 0 < number {
+        Some(number)
+    } else {
+        None
+    }
+}
+
+/// A name alone.
+pub fn plain_name(operand: Operand) -> Option<Name>
+    ensures { result ≡ plain_name operand }
+{
+    match operand {
+        Operand::Name(name) => Some(name),
+        Operand::Number(_)
+        | Operand::Minus(_)
+        | Operand::Register(_)
+        | Operand::Counted(..)
+        | Operand::Sum(..)
+        | Operand::Difference(..)
+        | Operand::Other => None,
+    }
+}
+
+/// The location of the frame word `slot k`.
+fn slot(name: &[u8], number: u64) -> Option<u16>
+    ensures { result ≡ slot name.now number }
+{
+    if is_same(name, b"slot") && number <= 1007 {
+        Some(32 + number as u16)
+    } else {
+        None
+    }
+}
+
+/// A register but %g0, or a frame word.
+#[tactic(auto, unfolding(crate::specs::Operands::location))]
+pub fn location(line: &[u8], operand: Operand) -> Option<u16>
+    ensures { result ≡ location line.now operand }
+{
+    match operand {
+        Operand::Register(register) => {
+            let number = register.number();
+            if number == 0 {
+                None
+            } else {
+                Some(u16::from(number))
+            }
+        }
+        Operand::Counted(name, number) => slot(text_of(line, name), number),
+        Operand::Difference(name, number) => {
+            if number == 0 {
+                slot(text_of(line, name), number)
+            } else {
+                None
+            }
+        }
+        Operand::Number(_)
+        | Operand::Minus(_)
+        | Operand::Name(_)
+        | Operand::Sum(..)
+        | Operand::Other => None,
+    }
+}

@@ -1,0 +1,232 @@
+// The values of a data directive as bytes.
+ghost use Rattle.std.specs.Prelude.{◌≡◌, ◌++◌, ℕ, List, Option, pos, negsuc, ◌≤ℤ◌, length, take, OnOk, OnErr, true};
+ghost use Rattle.std.specs.List.{flat_map, list_all};
+ghost use Rattle.std.specs.Int.{w8, w16, w32, to_be_bytes};
+ghost use Rattle.sbx_directives.specs.Lines.{text_of};
+ghost use Rattle.sbx_directives.specs.Operands.{behind};
+ghost use Rattle.sbx_directives.specs.Data.{bytes_of_width, fits, of_bits, spelled, moved, value_of, is_known, is_fit, bytes_of, listed, data_of, Gives};
+
+use crate::directive::{Name, Width};
+use crate::fault::DataFault;
+use crate::operand::{Operand, next_operand, operands};
+use crate::statement::value_count;
+use crate::word::text_of;
+use sbx_text::Token;
+use std::alloc::AllocError;
+use v8_syntax::Symbols;
+
+/// How many bytes a value takes.
+pub fn byte_len(width: Width) -> usize
+    ensures { result ≡ bytes_of_width width }
+{
+    match width {
+        Width::Byte => 1,
+        Width::Half => 2,
+        Width::Word => 4,
+    }
+}
+
+fn fits(width: Width, value: i128) -> bool
+    ensures { result ≡ fits width value }
+{
+    match width {
+        Width::Byte => -0x80 <= value && value <= 0xff,
+        Width::Half => -0x8000 <= value && value <= 0xffff,
+        Width::Word => -0x8000_0000 <= value && value <= 0xffff_ffff,
+    }
+}
+
+fn moved(symbol: Option<u32>, by: i128) -> Option<i128>
+    requires low { negsuc 18446744073709551615 ≤ℤ by }
+    requires high { by ≤ℤ pos 18446744073709551615 }
+    ensures { result ≡ moved symbol by }
+{
+    match symbol {
+        Some(word) => Some(i128::from(word) + by),
+        None => None,
+    }
+}
+
+fn symbol_of<S: Symbols>(symbols: &S, line: &[u8], name: Name) -> Option<u32>
+    ensures { result ≡ S.values symbols.now (text_of line.now name) }
+{
+    symbols.value(text_of(line, name))
+}
+
+/// The whole number that an operand is, if it is an expression and its symbol is known.
+fn value_of<S: Symbols>(symbols: &S, line: &[u8], operand: Operand) -> Option<i128>
+    ensures { result ≡ value_of (S.values symbols.now) line.now operand }
+{
+    match operand {
+        Operand::Number(number) => Some(i128::from(number)),
+        Operand::Minus(number) => Some(-i128::from(number)),
+        Operand::Name(name) => moved(symbol_of(symbols, line, name), 0),
+        Operand::Sum(name, number) => moved(symbol_of(symbols, line, name), i128::from(number)),
+        Operand::Difference(name, number) => {
+            moved(symbol_of(symbols, line, name), -i128::from(number))
+        }
+        Operand::Register(_) | Operand::Counted(..) | Operand::Other => None,
+    }
+}
+
+fn is_known<S: Symbols>(symbols: &S, line: &[u8], operand: Operand) -> bool
+    ensures { result ≡ is_known (S.values symbols.now) line.now operand }
+{
+    value_of(symbols, line, operand).is_some()
+}
+
+fn is_fit<S: Symbols>(symbols: &S, line: &[u8], width: Width, operand: Operand) -> bool
+    ensures { result ≡ is_fit (S.values symbols.now) line.now width operand }
+{
+    match value_of(symbols, line, operand) {
+        Some(value) => fits(width, value),
+        None => false,
+    }
+}
+
+fn are_known<S: Symbols>(symbols: &S, line: &[u8], tokens: &[Token]) -> bool
+    ensures { result ≡ list_all (is_known (S.values symbols.now) line.now) (behind line.now tokens.now) }
+{
+    let mut rest = tokens;
+    while let Some((operand, after)) = next_operand(line, rest) {
+        if !is_known(symbols, line, operand) {
+            return false;
+        }
+        rest = after;
+    }
+    true
+}
+
+fn are_fit<S: Symbols>(symbols: &S, line: &[u8], width: Width, tokens: &[Token]) -> bool
+    ensures { result ≡ list_all (is_fit (S.values symbols.now) line.now width) (behind line.now tokens.now) }
+{
+    let mut rest = tokens;
+    while let Some((operand, after)) = next_operand(line, rest) {
+        if !is_fit(symbols, line, width, operand) {
+            return false;
+        }
+        rest = after;
+    }
+    true
+}
+
+fn byte_of(value: i128) -> u8
+    requires low { negsuc 127 ≤ℤ value }
+    requires high { value ≤ℤ pos 255 }
+    ensures { result ≡ of_bits 256 value }
+{
+    if value >= 0 {
+        value as u8
+    } else {
+        (value + 0x100) as u8
+    }
+}
+
+fn half_of(value: i128) -> u16
+    requires low { negsuc 32767 ≤ℤ value }
+    requires high { value ≤ℤ pos 65535 }
+    ensures { result ≡ of_bits 65536 value }
+{
+    if value >= 0 {
+        value as u16
+    } else {
+        (value + 0x1_0000) as u16
+    }
+}
+
+fn word_of(value: i128) -> u32
+    requires low { negsuc 2147483647 ≤ℤ value }
+    requires high { value ≤ℤ pos 4294967295 }
+    ensures { result ≡ of_bits 4294967296 value }
+{
+    if value >= 0 {
+        value as u32
+    } else {
+        (value + 0x1_0000_0000) as u32
+    }
+}
+
+fn push_spelled(width: Width, value: i128, out: &mut Vec<u8>) -> Result<(), AllocError>
+    requires { fits width value ≡ true }
+    ensures done { OnOk result (out.new.items ≡ out.old.items ++ spelled width value) }
+    ensures kept { OnErr result (out.new.items ≡ out.old.items) }
+{
+    match width {
+        Width::Byte => out.extend_from_slice(&byte_of(value).to_be_bytes()),
+        Width::Half => out.extend_from_slice(&half_of(value).to_be_bytes()),
+        Width::Word => out.extend_from_slice(&word_of(value).to_be_bytes()),
+    }
+}
+
+/// Appends the bytes of a value that fits.
+fn push_value<S: Symbols>(
+    width: Width,
+    symbols: &S,
+    line: &[u8],
+    operand: Operand,
+    out: &mut Vec<u8>,
+) -> Result<(), AllocError>
+    requires { is_fit (S.values symbols.now) line.now width operand ≡ true }
+    ensures done { OnOk result (out.new.items ≡ out.old.items ++ bytes_of (S.values symbols.now) line.now width operand) }
+    ensures kept { OnErr result (out.new.items ≡ out.old.items) }
+{
+    match value_of(symbols, line, operand) {
+        Some(value) => push_spelled(width, value, out),
+        None => Ok(()),
+    }
+}
+
+/// Appends the bytes of the values behind a first token, where all fit. After a fault some of them are there.
+fn push_all<S: Symbols>(
+    width: Width,
+    symbols: &S,
+    line: &[u8],
+    tokens: &[Token],
+    out: &mut Vec<u8>,
+) -> Result<(), AllocError>
+    requires { list_all (is_fit (S.values symbols.now) line.now width) (behind line.now tokens.now) ≡ true }
+    ensures done { OnOk result (out.new.items ≡ out.old.items ++ flat_map (bytes_of (S.values symbols.now) line.now width) (behind line.now tokens.now)) }
+    ensures kept { OnErr result (take (length out.old.items) out.new.items ≡ out.old.items) }
+{
+    let mut rest = tokens;
+    while let Some((operand, after)) = next_operand(line, rest) {
+        push_value(width, symbols, line, operand, out)?;
+        rest = after;
+    }
+    Ok(())
+}
+
+/// Appends the values of a data directive, the most significant byte of each first. `tokens` begin with the directive's name.
+///
+/// # Errors
+/// `Malformed` where they are no list of expressions; else `UnknownSymbol`; else `Malformed` where a value does not fit. `Memory`
+/// may come in the place of any answer. After an error `out` is as before.
+#[tactic(auto, unfolding(crate::specs::Data::listed))]
+pub fn push_values<S: Symbols>(
+    width: Width,
+    symbols: &S,
+    line: &[u8],
+    tokens: &[Token],
+    out: &mut Vec<u8>,
+) -> Result<(), DataFault>
+    ensures { Gives result out.old.items out.new.items (data_of (S.values symbols.now) line.now width tokens.now) }
+{
+    let values = operands(tokens);
+    if value_count(line, values).is_none() {
+        return Err(DataFault::Malformed);
+    }
+    if !are_known(symbols, line, values) {
+        return Err(DataFault::UnknownSymbol);
+    }
+    if !are_fit(symbols, line, width, values) {
+        return Err(DataFault::Malformed);
+    }
+    let before = out.len();
+    match push_all(width, symbols, line, values, out) {
+        Ok(()) => Ok(()),
+        Err(AllocError) => {
+            out.truncate(before);
+            Err(DataFault::Memory)
+        }
+    }
+}
