@@ -1,0 +1,5 @@
+mod Splits
+mod Steps
+mod Tables
+mod Names
+mod Copies

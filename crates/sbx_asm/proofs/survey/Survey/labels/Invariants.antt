@@ -1,0 +1,7 @@
+use Rattle.std.proofs.Common.{◌≡◌, ◌-◌}
+use Rattle.std.specs.List.{fold}
+use Rattle.sbx_asm.specs.Labels.{labels_of, add_here, label_names}
+use Rattle.sbx_asm.proofs.survey.Survey.labels.Given as goal
+
+abbrev pub invariant-loop : goal.invariant-loop
+invariant-loop l = fold (add_here l.number) (labels_of l.self) (label_names l.line (l.count - l.counter) l.rest) ≡ fold (add_here l.number) (labels_of l.fn.self) (label_names l.line l.count l.fn.tokens)

@@ -1,0 +1,296 @@
+-- The image of a source: the fold over the lines, with the addresses of all labels known.
+use Rattle.std.specs.Prelude.{ℕ, ◌+◌, ◌*◌, ◌==◌, Bool, true, false, not, ◌&&◌, nat_lt, nat_le, ℤ, pos, List, [], ◌∷◌, ◌++◌, length, map, drop, replicate, Option, Some, None, Result, Ok, Err}
+use Rattle.std.specs.Option.{is_some, unwrap_or}
+use Rattle.sbx_text.specs.declared.Token.{Token}
+use Rattle.sbx_text.specs.declared.fault.TextFault.{TextFault}
+use Rattle.sbx_text.specs.Tokens.{tokens_of}
+use Rattle.v8_formats.specs.declared.instr.Instr.{Instr}
+use Rattle.v8_formats.specs.Spelling.{spelling}
+use Rattle.v8_syntax.specs.declared.fault.SyntaxFault.{SyntaxFault}
+use Rattle.v8_syntax.specs.declared.fault.SyntaxFault.TheVariants.{UnknownSymbol}
+use Rattle.v8_syntax.specs.Statements.{source_meaning, statement_length}
+use Rattle.sbx_image.specs.declared.parts.Range.{Range}
+use Rattle.sbx_image.specs.declared.parts.Cell.{Cell}
+use Rattle.sbx_image.specs.declared.parts.Term.{Term}
+use Rattle.sbx_image.specs.declared.parts.Kind.{Kind}
+use Rattle.sbx_image.specs.declared.parts.Block.{Block}
+use Rattle.sbx_image.specs.declared.parts.Function.{Function}
+use Rattle.sbx_image.specs.declared.services.Services.{Services}
+use Rattle.sbx_directives.specs.declared.directive.Width.{Width}
+use Rattle.sbx_directives.specs.declared.directive.Keyword.{Keyword}
+use Rattle.sbx_directives.specs.declared.directive.Keyword.TheVariants as keywords
+use Rattle.sbx_directives.specs.declared.directive.Directive.{Directive}
+use Rattle.sbx_directives.specs.declared.directive.Directive.TheVariants as directives
+use Rattle.sbx_directives.specs.declared.directive.Statement.{Statement}
+use Rattle.sbx_directives.specs.declared.directive.Statement.TheVariants as statements
+use Rattle.sbx_directives.specs.declared.fault.DataFault.{DataFault}
+use Rattle.sbx_directives.specs.declared.fault.DataFault.TheVariants as data_faults
+use Rattle.sbx_directives.specs.Lines.{label_count}
+use Rattle.sbx_directives.specs.Directives.{statement_of}
+use Rattle.sbx_directives.specs.Data.{data_of, bytes_of_width}
+use Rattle.sbx_asm.specs.declared.fault.AsmFault.{AsmFault}
+use Rattle.sbx_asm.specs.declared.fault.Cause.{Cause}
+use Rattle.sbx_asm.specs.declared.fault.Cause.TheVariants as causes
+use Rattle.sbx_asm.specs.declared.place.Section.{Section}
+use Rattle.sbx_asm.specs.declared.place.Section.TheVariants as sections
+use Rattle.sbx_asm.specs.declared.opening.Head.{Head}
+use Rattle.sbx_asm.specs.declared.opening.OpenBlock.{OpenBlock}
+use Rattle.sbx_asm.specs.declared.opening.OpenFunction.{OpenFunction}
+use Rattle.sbx_asm.specs.declared.draft.Draft.{Draft}
+use Rattle.sbx_asm.specs.Faults.{told, at}
+use Rattle.sbx_asm.specs.Places.{start, code_end, data_end, has_room, with_code, padding, place_after}
+use Rattle.sbx_asm.specs.Labels.{Values}
+
+-- ---- faults
+
+abbrev pub noted_at : ℕ → Cause → Draft → Draft
+noted_at line cause d = record d { fault = told d.fault (at line cause) }
+
+abbrev pub noted : Cause → Draft → Draft
+noted cause d = noted_at d.line cause d
+
+abbrev pub noted_where : Bool → Cause → Draft → Draft
+noted_where true cause d = noted cause d
+noted_where false cause d = d
+
+-- ---- the open function and its open block
+
+abbrev pub block_of : OpenBlock → Block
+block_of b = record { address = b.address; fuel = unwrap_or b.fuel (pos 0); cells = b.cells; terms = b.terms }
+
+abbrev pub function_of : Head → OpenFunction → Function
+function_of h f =
+    record { kind = h.kind; params = f.params; results = f.results; entry = h.entry; frame = h.frame; stack_room = h.stack_room; budget = h.budget; blocks = f.blocks }
+
+abbrev pub no_function : OpenFunction
+no_function = record { head = None; params = []; results = []; blocks = [] }
+
+abbrev pub no_block : OpenBlock
+no_block = record { line = 0; address = 0; fuel = None; begun = false; cells = []; terms = []; last_cell = 0; last_term = 0 }
+
+-- a block without an instruction is told where it begins
+abbrev pub told_empty : Bool → OpenBlock → Draft → Draft
+told_empty true b d = d
+told_empty false b d = noted_at b.line causes.Directive d
+
+abbrev pub with_block : Draft → Draft
+with_block d =
+    record d { function = record d.function { blocks = d.function.blocks ++ block_of d.block ∷ [] }; block = record d.block { cells = []; terms = [] } }
+
+unfoldable pub close_block : Draft → Draft
+close_block d = with_block (told_empty d.block.begun d.block d)
+
+abbrev pub with_function : Head → Draft → Draft
+with_function h d =
+    record d { functions = d.functions ++ function_of h d.function ∷ []; function = no_function }
+
+abbrev pub close_headed : Option Head → Draft → Draft
+close_headed (Some h) d = with_function h (close_block d)
+close_headed None d = d
+
+unfoldable pub close_function : Draft → Draft
+close_function d = close_headed d.function.head d
+
+-- at most 4,096 blocks in all
+abbrev pub counted : Bool → Draft → Draft
+counted true d = record d { block_count = d.block_count + 1 }
+counted false d = noted causes.Limit d
+
+abbrev pub fresh_block : Draft → Draft
+fresh_block d = record d { block = record d.block { line = d.line; address = d.place.next_word; fuel = None; begun = false; last_cell = 0; last_term = 0 } }
+
+unfoldable pub open_block : Draft → Draft
+open_block d = fresh_block (counted (nat_lt d.block_count 4096) d)
+
+-- ---- functions and blocks
+
+abbrev pub headed : Kind → ℕ → ℕ → ℕ → Draft → Draft
+headed kind frame room budget d =
+    record d { function = record d.function { head = Some (record { kind = kind; frame = frame; stack_room = room; budget = budget; entry = d.place.next_word }) } }
+
+-- a function ends the one before it, and begins its first block
+unfoldable pub begin_function : Kind → ℕ → ℕ → ℕ → Draft → Draft
+begin_function kind frame room budget d =
+    let e : Draft = close_function d in
+    open_block (headed kind frame room budget (noted_where (nat_le 256 (length e.functions)) causes.Limit e))
+
+abbrev pub begin_block_of : Option Head → Draft → Draft
+begin_block_of (Some h) d = open_block (close_block d)
+begin_block_of None d = noted causes.Annotation d
+
+unfoldable pub begin_block : Draft → Draft
+begin_block d = begin_block_of d.function.head d
+
+-- a bad operand still ends what stands before it
+abbrev pub malformed : Keyword → Draft → Draft
+malformed keywords.Function d = noted causes.Directive (close_function d)
+malformed keywords.Block d = noted causes.Directive (begin_block d)
+malformed keywords.Text d = noted causes.Directive d
+malformed keywords.Data d = noted causes.Directive d
+malformed keywords.Services d = noted causes.Directive d
+malformed keywords.Stack d = noted causes.Directive d
+malformed keywords.Param d = noted causes.Directive d
+malformed keywords.Result d = noted causes.Directive d
+malformed keywords.Cell d = noted causes.Directive d
+malformed keywords.Fuel d = noted causes.Directive d
+malformed keywords.Term d = noted causes.Directive d
+malformed keywords.Word d = noted causes.Directive d
+malformed keywords.Half d = noted causes.Directive d
+malformed keywords.Byte d = noted causes.Directive d
+malformed keywords.Skip d = noted causes.Directive d
+malformed keywords.Align d = noted causes.Directive d
+
+-- ---- annotations
+
+-- between a function's line and its first instruction or second block
+abbrev pub takes_ranges : OpenFunction → OpenBlock → Bool
+takes_ranges f b = is_some f.head && length f.blocks == 0 && not b.begun
+
+-- between a block's line and its first instruction
+abbrev pub takes_annotations : OpenFunction → OpenBlock → Bool
+takes_annotations f b = is_some f.head && not b.begun
+
+abbrev pub param_if : Bool → Range → Draft → Draft
+param_if true r d = noted_where (nat_le 6 (length d.function.params)) causes.Limit (record d { function = record d.function { params = d.function.params ++ r ∷ [] } })
+param_if false r d = noted causes.Annotation d
+
+unfoldable pub add_param : Range → Draft → Draft
+add_param r d = param_if (takes_ranges d.function d.block) r d
+
+abbrev pub result_if : Bool → Range → Draft → Draft
+result_if true r d = noted_where (nat_le 6 (length d.function.results)) causes.Limit (record d { function = record d.function { results = d.function.results ++ r ∷ [] } })
+result_if false r d = noted causes.Annotation d
+
+unfoldable pub add_result : Range → Draft → Draft
+add_result r d = result_if (takes_ranges d.function d.block) r d
+
+-- locations ascend, and a block has at most 64 cells and 8 terms
+abbrev pub cell_if : Bool → Cell → Draft → Draft
+cell_if true c d =
+    noted_where (nat_le c.location d.block.last_cell) causes.Directive (noted_where (nat_le 64 (length d.block.cells)) causes.Limit
+    (record d { block = record d.block { cells = d.block.cells ++ c ∷ []; last_cell = c.location } }))
+cell_if false c d = noted causes.Annotation d
+
+unfoldable pub add_cell : Cell → Draft → Draft
+add_cell c d = cell_if (takes_annotations d.function d.block) c d
+
+abbrev pub term_if : Bool → Term → Draft → Draft
+term_if true t d =
+    noted_where (nat_le t.location d.block.last_term) causes.Directive (noted_where (nat_le 8 (length d.block.terms)) causes.Limit
+    (record d { block = record d.block { terms = d.block.terms ++ t ∷ []; last_term = t.location } }))
+term_if false t d = noted causes.Annotation d
+
+unfoldable pub add_term : Term → Draft → Draft
+add_term t d = term_if (takes_annotations d.function d.block) t d
+
+abbrev pub fuel_if : Bool → ℤ → Draft → Draft
+fuel_if true z d = record d { block = record d.block { fuel = Some z } }
+fuel_if false z d = noted causes.Annotation d
+
+abbrev pub fuel_by : Option ℤ → ℤ → Draft → Draft
+fuel_by (Some y) z d = noted causes.Directive d
+fuel_by None z d = fuel_if (takes_annotations d.function d.block) z d
+
+-- at most one in a block
+unfoldable pub add_fuel : ℤ → Draft → Draft
+add_fuel z d = fuel_by d.block.fuel z d
+
+-- ---- directives
+
+abbrev pub services_by : Option Services → Services → Draft → Draft
+services_by (Some y) x d = noted causes.Directive d
+services_by None x d = record d { services = Some x }
+
+unfoldable pub add_services : Services → Draft → Draft
+add_services x d = services_by d.services x d
+
+abbrev pub stack_by : Option ℕ → ℕ → Draft → Draft
+stack_by (Some y) n d = noted causes.Directive d
+stack_by None n d = record d { stack = Some n }
+
+unfoldable pub add_stack : ℕ → Draft → Draft
+add_stack n d = stack_by d.stack n d
+
+-- data stand in the data section, within its limit
+abbrev pub is_code : Section → Bool
+is_code sections.Code = true
+is_code sections.Data = false
+
+abbrev pub data_checked : ℕ → Draft → Draft
+data_checked n d = noted_where (not (has_room data_end d.place.next_byte n)) causes.Limit (noted_where (is_code d.place.section) causes.Directive d)
+
+abbrev pub with_data : Result (List ℕ) DataFault → Draft → Draft
+with_data (Ok bytes) d = record d { bytes = d.bytes ++ bytes }
+with_data (Err data_faults.UnknownSymbol) d = noted (causes.Syntax UnknownSymbol) d
+with_data (Err data_faults.Malformed) d = noted causes.Directive d
+with_data (Err data_faults.Memory) d = d
+
+abbrev pub with_zeros : Bool → ℕ → Draft → Draft
+with_zeros true n d = record d { bytes = d.bytes ++ replicate n 0 }
+with_zeros false n d = d
+
+unfoldable pub add_values : Width → ℕ → Result (List ℕ) DataFault → Draft → Draft
+add_values width n bytes d = with_data bytes (data_checked (bytes_of_width width * n) d)
+
+unfoldable pub add_zeros : ℕ → Draft → Draft
+add_zeros n d = with_zeros (has_room data_end d.place.next_byte n) n (data_checked n d)
+
+-- an instruction stands in the code, in a function, within the limit
+abbrev pub instruction_checked : List ℕ → List Token → Draft → Draft
+instruction_checked line ts d =
+    noted_where (not (has_room code_end d.place.next_word (4 * statement_length line ts))) causes.Limit
+    (noted_where (not (is_code d.place.section && is_some d.function.head)) causes.Directive d)
+
+abbrev pub begun : Draft → Draft
+begun d = record d { block = record d.block { begun = true } }
+
+abbrev pub with_words : Result (List Instr) SyntaxFault → Draft → Draft
+with_words (Ok is) d = record d { words = d.words ++ map spelling is }
+with_words (Err f) d = noted (causes.Syntax f) d
+
+-- the labels' values, the line and its tokens behind the labels
+module _ (values : Values) (line : List ℕ) (ts : List Token) where
+  abbrev pub directive_does : Directive → Draft → Draft
+  directive_does directives.Text d = d
+  directive_does directives.Data d = d
+  directive_does (directives.Services x) d = add_services x d
+  directive_does (directives.Stack n) d = add_stack n d
+  directive_does (directives.Function name kind frame room budget) d = begin_function kind frame room budget d
+  directive_does (directives.Param r) d = add_param r d
+  directive_does (directives.Result r) d = add_result r d
+  directive_does (directives.Block name) d = begin_block d
+  directive_does (directives.Cell c) d = add_cell c d
+  directive_does (directives.Fuel z) d = add_fuel z d
+  directive_does (directives.Term t) d = add_term t d
+  directive_does (directives.Values w n) d = add_values w n (data_of values line w ts) d
+  directive_does (directives.Skip n) d = add_zeros n d
+  directive_does (directives.Align n) d = add_zeros (padding n d.place.next_byte) d
+
+  unfoldable pub instruction_does : Draft → Draft
+  instruction_does d = begun (with_words (source_meaning values d.place.next_word line ts) (instruction_checked line ts d))
+
+  unfoldable pub statement_does : Statement → Draft → Draft
+  statement_does statements.Nothing d = d
+  statement_does (statements.Directive x) d = directive_does x d
+  statement_does (statements.Malformed k) d = malformed k d
+  statement_does statements.Instruction d = instruction_does d
+
+  unfoldable pub behind_labels : Draft → Draft
+  behind_labels d = record (statement_does (statement_of line ts) d) { place = place_after line ts (statement_of line ts) d.place }
+
+-- a line without tokens counts as an instruction, one word long
+abbrev pub draft_tokens : Values → List ℕ → Draft → Result (List Token) TextFault → Draft
+draft_tokens values line d (Err f) = record d { fault = told d.fault (at d.line (causes.Text f)); block = record d.block { begun = true }; place = with_code 4 d.place }
+draft_tokens values line d (Ok ts) = behind_labels values line (drop (2 * label_count line ts) ts) d
+
+-- at most 1,000,000 lines
+unfoldable pub numbered_line : ℕ → Draft → Draft
+numbered_line number d = noted_where (nat_lt 1000000 number) causes.Limit (record d { line = number })
+
+unfoldable pub draft_line : Values → Draft → ℕ × List ℕ → Draft
+draft_line values d x = draft_tokens values x.1 (numbered_line x.0 d) (tokens_of x.1)
+
+-- before the first line, with the fault that is told already
+abbrev pub empty_draft : Option AsmFault → Draft
+empty_draft fault =
+    record { line = 0; fault = fault; place = start; words = []; bytes = []; services = None; stack = None; functions = []; block_count = 0; function = no_function; block = no_block }

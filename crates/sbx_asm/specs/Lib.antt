@@ -1,0 +1,6 @@
+pub mod Faults
+pub mod Lines
+pub mod Places
+pub mod Labels
+pub mod Drafts
+pub mod Meaning

@@ -1,0 +1,101 @@
+//! Why a source has no image.
+ghost use Rattle.std.specs.Prelude.{◌≡◌};
+ghost use Rattle.sbx_asm.specs.Faults.{rank, is_earlier, told};
+
+use sbx_text::TextFault;
+use std::fmt::{self, Error, Formatter, Write};
+use v8_syntax::SyntaxFault;
+
+/// What is wrong at a line. Shown as `X1` to `X4`, `S1` to `S5`, or `A1` to `A5`, the last five in this order.
+#[derive(Clone, Copy, Debug, PartialEq, Eq)]
+pub enum Cause {
+    /// The line has no tokens.
+    Text(TextFault),
+    /// A statement means nothing, or an expression names an unknown symbol.
+    Syntax(SyntaxFault),
+    /// A label stands at two places.
+    DuplicateLabel,
+    /// The shape or a value of a directive, or a directive or an instruction where none belongs.
+    Directive,
+    /// A limit is passed.
+    Limit,
+    /// An annotation out of place.
+    Annotation,
+    /// Memory was refused.
+    Memory,
+}
+
+/// A cause, and the line where it is told, from 1; 0 for want of memory.
+#[derive(Clone, Copy, Debug, PartialEq, Eq)]
+pub struct AsmFault {
+    pub line: usize,
+    pub cause: Cause,
+}
+
+impl AsmFault {
+    /// Want of memory.
+    pub const MEMORY: AsmFault = AsmFault {
+        line: 0,
+        cause: Cause::Memory,
+    };
+}
+
+impl fmt::Display for Cause {
+    fn fmt<W: Write>(&self, f: &mut Formatter<W>) -> Result<(), Error> {
+        match *self {
+            Cause::Text(fault) => write!(f, "{fault}"),
+            Cause::Syntax(fault) => write!(f, "{fault}"),
+            Cause::DuplicateLabel => f.write_str("A1"),
+            Cause::Directive => f.write_str("A2"),
+            Cause::Limit => f.write_str("A3"),
+            Cause::Annotation => f.write_str("A4"),
+            Cause::Memory => f.write_str("A5"),
+        }
+    }
+}
+
+impl fmt::Display for AsmFault {
+    fn fmt<W: Write>(&self, f: &mut Formatter<W>) -> Result<(), Error> {
+        let line = self.line;
+        let cause = self.cause;
+        write!(f, "line {line}: {cause}")
+    }
+}
+
+/// The order of causes on one line.
+fn rank(cause: Cause) -> u8
+    ensures { result ≡ rank cause }
+{
+    match cause {
+        Cause::Text(_) => 0,
+        Cause::Syntax(_) => 1,
+        Cause::DuplicateLabel => 2,
+        Cause::Directive => 3,
+        Cause::Limit => 4,
+        Cause::Annotation => 5,
+        Cause::Memory => 6,
+    }
+}
+
+fn is_earlier(first: AsmFault, second: AsmFault) -> bool
+    ensures { result ≡ is_earlier first second }
+{
+    first.line < second.line
+        || (first.line == second.line && rank(first.cause) < rank(second.cause))
+}
+
+/// Which of two faults is told, where the first may be none.
+pub fn told(first: Option<AsmFault>, second: AsmFault) -> Option<AsmFault>
+    ensures { result ≡ told first second }
+{
+    match first {
+        Some(fault) => {
+            if is_earlier(second, fault) {
+                Some(second)
+            } else {
+                Some(fault)
+            }
+        }
+        None => Some(second),
+    }
+}

@@ -1,0 +1,59 @@
+//! The image of a draft.
+ghost use Rattle.std.specs.Prelude.{◌≡◌, ◌++◌, IfOk, replicate, ◌%◌, ◌-◌, length};
+ghost use Rattle.sbx_image.specs.Rules.{parts_keep};
+ghost use Rattle.sbx_asm.specs.Meaning.{filled, parts_in, kept, image_in, Gives};
+
+use crate::draft::Draft;
+use crate::fault::{AsmFault, Cause};
+use crate::growing::Growing;
+use sbx_image::{Image, Parts, Services};
+use std::alloc::AllocError;
+
+/// Zeros up to a multiple of 8.
+fn fill(bytes: &mut Growing<u8>) -> Result<(), AllocError>
+    ensures { IfOk result (λ _. bytes.new ≡ filled bytes.old) }
+{
+    let count = (8 - bytes.len() % 8) % 8;
+    bytes.push_copies(count, 0)
+}
+
+#[tactic(auto, unfolding(crate::specs::Meaning::parts_in))]
+fn parts_of(draft: Draft) -> Result<Parts, AllocError>
+    ensures { IfOk result (λ parts. parts ≡ parts_in draft) }
+{
+    let mut draft = draft;
+    fill(&mut draft.bytes)?;
+    Ok(Parts {
+        services: draft.services.unwrap_or(Services(0)),
+        words: draft.words.into_items(),
+        bytes: draft.bytes.into_items(),
+        stack_pages: draft.stack.unwrap_or(1),
+        functions: draft.functions.into_items(),
+    })
+}
+
+/// The image of parts; else a fault at the line after the last.
+fn image_of(after: usize, parts: Parts) -> Result<Image, AsmFault>
+    ensures { result ≡ kept after parts (parts_keep parts) }
+{
+    match Image::from_parts(parts) {
+        Ok(image) => Ok(image),
+        Err(_) => Err(AsmFault {
+            line: after,
+            cause: Cause::Directive,
+        }),
+    }
+}
+
+/// The image of all lines, or the fault that is told; `after` is the line after the last.
+pub fn finish(after: usize, draft: Draft) -> Result<Image, AsmFault>
+    ensures { Gives result (image_in after draft) }
+{
+    if let Some(fault) = draft.fault {
+        return Err(fault);
+    }
+    match parts_of(draft) {
+        Ok(parts) => image_of(after, parts),
+        Err(AllocError) => Err(AsmFault::MEMORY),
+    }
+}

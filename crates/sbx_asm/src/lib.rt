@@ -1,0 +1,22 @@
+//! The assembler: a source becomes an image, or its first fault is told.
+#![tactic(auto)]
+
+mod assembling;
+mod draft;
+mod fault;
+mod finish;
+mod growing;
+mod lines;
+mod opening;
+mod place;
+mod reading;
+mod scope;
+mod statements;
+mod survey;
+mod table;
+
+pub use assembling::assemble;
+pub use fault::{AsmFault, Cause};
+
+#[cfg(test)]
+mod tests;

@@ -1,0 +1,229 @@
+//! What each line does to the draft.
+ghost use Rattle.std.specs.Prelude.{◌≡◌, ◌*◌, ◌++◌, IfOk, Ok, Err, MatchResult, List, map, length};
+ghost use Rattle.v8_formats.specs.Spelling.{spelling};
+ghost use Rattle.v8_syntax.specs.Statements.{source_meaning};
+ghost use Rattle.sbx_directives.specs.Data.{data_of};
+ghost use Rattle.sbx_asm.specs.Labels.{worth};
+ghost use Rattle.sbx_asm.specs.Drafts.{is_code, data_checked, with_zeros, add_values, add_zeros, directive_does, instruction_checked, begun, with_words, instruction_does, statement_does, behind_labels, draft_tokens, numbered_line, draft_line};
+
+use crate::draft::Draft;
+use crate::fault::Cause;
+use crate::growing::Growing;
+use crate::place::{CODE_END, DATA_END, Section, bytes_of_values, has_room, padding};
+use crate::reading::{behind_labels, read_tokens};
+use crate::scope::Scope;
+use crate::table::Table;
+use sbx_directives::{DataFault, Directive, Statement, Width, label_count, read_statement};
+use sbx_text::Token;
+use std::alloc::{AllocError, Global};
+use v8_formats::{Instr, encode};
+use v8_syntax::{SyntaxFault, length_of, parse_instr};
+
+/// The most lines.
+const LINES: usize = 1_000_000;
+
+fn is_code(section: Section) -> bool
+    ensures { result ≡ is_code section }
+{
+    match section {
+        Section::Code => true,
+        Section::Data => false,
+    }
+}
+
+/// Adds the words of some instructions.
+fn push_words(words: &mut Growing<u32>, instructions: &[Instr]) -> Result<(), AllocError>
+    ensures { IfOk result (λ _. words.new ≡ words.old ++ map spelling instructions.now) }
+{
+    for instruction in instructions {
+        words.push(encode(instruction))?;
+    }
+    Ok(())
+}
+
+impl Draft {
+    /// Faults of so many bytes of data here.
+    fn check_data(&mut self, bytes: u128)
+        ensures { self.new ≡ data_checked bytes self.old }
+    {
+        let room = has_room(DATA_END, self.place.next_byte, bytes);
+        let misplaced = is_code(self.place.section);
+        self.note_where(misplaced, Cause::Directive);
+        self.note_where(!room, Cause::Limit);
+    }
+
+    #[tactic(auto, unfolding(crate::specs::Drafts::add_values))]
+    fn add_values(
+        &mut self,
+        table: &Table<'_>,
+        line: &[u8],
+        tokens: &[Token],
+        width: Width,
+        count: usize,
+    ) -> Result<(), AllocError>
+        ensures { IfOk result (λ _. self.new ≡ add_values width count (data_of (worth table.now) line.now width tokens.now) self.old) }
+    {
+        self.check_data(bytes_of_values(width, count));
+        let scope = Scope { table, here: 0 };
+        match self.bytes.push_values(width, &scope, line, tokens) {
+            Ok(()) => {}
+            Err(DataFault::UnknownSymbol) => self.note(Cause::Syntax(SyntaxFault::UnknownSymbol)),
+            Err(DataFault::Malformed) => self.note(Cause::Directive),
+            Err(DataFault::Memory) => return Err(AllocError),
+        }
+        Ok(())
+    }
+
+    #[tactic(auto, unfolding(crate::specs::Drafts::add_zeros))]
+    fn add_zeros(&mut self, count: u64) -> Result<(), AllocError>
+        ensures { IfOk result (λ _. self.new ≡ add_zeros count self.old) }
+    {
+        let room = has_room(DATA_END, self.place.next_byte, u128::from(count));
+        self.check_data(u128::from(count));
+        if room {
+            self.bytes.push_copies(count as usize, 0)?;
+        }
+        Ok(())
+    }
+
+    fn directive_does(
+        &mut self,
+        alloc: Global,
+        table: &Table<'_>,
+        line: &[u8],
+        tokens: &[Token],
+        directive: Directive,
+    ) -> Result<(), AllocError>
+        ensures { IfOk result (λ _. self.new ≡ directive_does (worth table.now) line.now tokens.now directive self.old) }
+    {
+        match directive {
+            Directive::Text | Directive::Data => {}
+            Directive::Services(services) => self.add_services(services),
+            Directive::Stack(pages) => self.add_stack(pages),
+            Directive::Function {
+                name: _,
+                kind,
+                frame,
+                stack_room,
+                budget,
+            } => self.begin_function(alloc, kind, frame, stack_room, budget)?,
+            Directive::Param(range) => self.add_param(range)?,
+            Directive::Result(range) => self.add_result(range)?,
+            Directive::Block(_) => self.begin_block(alloc)?,
+            Directive::Cell(cell) => self.add_cell(cell)?,
+            Directive::Fuel(fuel) => self.add_fuel(fuel),
+            Directive::Term(term) => self.add_term(term)?,
+            Directive::Values(width, count) => self.add_values(table, line, tokens, width, count)?,
+            Directive::Skip(count) => self.add_zeros(count)?,
+            Directive::Align(unit) => {
+                self.add_zeros(u64::from(padding(unit, self.place.next_byte)))?;
+            }
+        }
+        Ok(())
+    }
+
+    fn check_instruction(&mut self, line: &[u8], tokens: &[Token])
+        ensures { self.new ≡ instruction_checked line.now tokens.now self.old }
+    {
+        let bytes = 4 * length_of(line, tokens) as u128;
+        let room = has_room(CODE_END, self.place.next_word, bytes);
+        let placed = is_code(self.place.section) && self.function.head.is_some();
+        self.note_where(!placed, Cause::Directive);
+        self.note_where(!room, Cause::Limit);
+    }
+
+    #[tactic(auto, unfolding(crate::specs::Drafts::instruction_does))]
+    fn instruction_does(
+        &mut self,
+        table: &Table<'_>,
+        line: &[u8],
+        tokens: &[Token],
+    ) -> Result<(), AllocError>
+        ensures { IfOk result (λ _. self.new ≡ instruction_does (worth table.now) line.now tokens.now self.old) }
+    {
+        self.check_instruction(line, tokens);
+        let scope = Scope {
+            table,
+            here: self.place.next_word,
+        };
+        match parse_instr(line, tokens, &scope) {
+            Ok(instructions) => push_words(&mut self.words, instructions.as_slice())?,
+            Err(fault) => self.note(Cause::Syntax(fault)),
+        }
+        self.block.begun = true;
+        Ok(())
+    }
+
+    #[tactic(auto, unfolding(crate::specs::Drafts::statement_does))]
+    fn statement_does(
+        &mut self,
+        alloc: Global,
+        table: &Table<'_>,
+        line: &[u8],
+        tokens: &[Token],
+        statement: Statement,
+    ) -> Result<(), AllocError>
+        ensures { IfOk result (λ _. self.new ≡ statement_does (worth table.now) line.now tokens.now statement self.old) }
+    {
+        match statement {
+            Statement::Nothing => Ok(()),
+            Statement::Directive(directive) => {
+                self.directive_does(alloc, table, line, tokens, directive)
+            }
+            Statement::Malformed(keyword) => self.malformed(alloc, keyword),
+            Statement::Instruction => self.instruction_does(table, line, tokens),
+        }
+    }
+
+    #[tactic(auto, unfolding(crate::specs::Drafts::behind_labels))]
+    fn behind_labels(
+        &mut self,
+        alloc: Global,
+        table: &Table<'_>,
+        line: &[u8],
+        tokens: &[Token],
+    ) -> Result<(), AllocError>
+        ensures { IfOk result (λ _. self.new ≡ behind_labels (worth table.now) line.now tokens.now self.old) }
+    {
+        let statement = read_statement(line, tokens);
+        let place = self.place.after(line, tokens, statement);
+        self.statement_does(alloc, table, line, tokens, statement)?;
+        self.place = place;
+        Ok(())
+    }
+
+    #[tactic(auto, unfolding(crate::specs::Drafts::numbered_line))]
+    fn begin_line(&mut self, number: usize)
+        ensures { self.new ≡ numbered_line number self.old }
+    {
+        self.line = number;
+        self.note_where(number > LINES, Cause::Limit);
+    }
+
+    /// One more line, of that number.
+    #[tactic(auto, unfolding(crate::specs::Drafts::draft_line))]
+    pub fn add_line(
+        &mut self,
+        alloc: Global,
+        table: &Table<'_>,
+        number: usize,
+        line: &[u8],
+    ) -> Result<(), AllocError>
+        ensures { IfOk result (λ _. self.new ≡ draft_line (worth table.now) self.old (number, line.now)) }
+    {
+        self.begin_line(number);
+        match read_tokens(alloc, line)? {
+            Ok(found) => {
+                let count = label_count(line, found.as_slice());
+                let rest = behind_labels(found.as_slice(), count);
+                self.behind_labels(alloc, table, line, rest)
+            }
+            Err(fault) => {
+                self.note(Cause::Text(fault));
+                self.block.begun = true;
+                self.place = self.place.with_code(4);
+                Ok(())
+            }
+        }
+    }
+}
