@@ -6,13 +6,16 @@ use Rattle.sbx_image.specs.declared.parts.Parts.{Parts}
 use Rattle.sbx_image.specs.Reading.{reading}
 use Rattle.sbx_verify.specs.Rules.{Checked, IsLeastFault}
 use Rattle.sbx_command.specs.declared.jobs.Job.{Job}
-use Rattle.sbx_command.specs.declared.jobs.Job.TheVariants.{Verify, Run, List as Listing}
+use Rattle.sbx_command.specs.declared.jobs.Job.TheVariants.{Asm, Verify, Run, List as Listing, Trace}
 use Rattle.sbx_command.specs.declared.stops.Stop.{Stop}
-use Rattle.sbx_command.specs.declared.stops.Stop.TheVariants.{Image, Refused, File, Input, Output, Memory}
+use Rattle.sbx_command.specs.declared.stops.Stop.TheVariants.{Source, Image, Refused, File, Input, Output, Memory}
 use Rattle.sbx_command.specs.Stops.{IsTrueOf, IsTrueOfImage, status_of}
+use Rattle.sbx_command.proofs.Sources.{source_stops}
 use Rattle.sbx_run.specs.declared.runner.Finished.{Finished}
 use Rattle.sbx_run.specs.Answer.{IsAnswer}
-use Rattle.sbx_command.specs.Verdicts.{Ran, status_of_word, Deserves, IsAccepted, IsImage, IsTold}
+use Rattle.v8_board.specs.declared.outcome.Outcome.{Outcome}
+use Rattle.sbx_raw.specs.Traces.{IsTrace, Wrote}
+use Rattle.sbx_command.specs.Verdicts.{Ran, Traced, status_of_word, Deserves, IsAccepted, IsImage, IsTold}
 
 pub faulty_is_no_image : (bytes : List ℕ) (fault : ImageFault) → reading bytes ≡ Err fault → IsImage bytes → ⊥
 faulty_is_no_image bytes fault faulty image =
@@ -27,6 +30,7 @@ fault_is_not_checked parts other bytes refusal read least same checked =
     kept least.place refusal.cause (least.within, least.first.breaks)
 
 pub image_stop : (stop : Stop) (bytes : List ℕ) → status_of stop ≡ 2 → IsTrueOfImage stop bytes → IsImage bytes → ⊥
+image_stop (Source fault) bytes two told image = told
 image_stop (Image fault) bytes two told image = faulty_is_no_image bytes fault told image
 image_stop (Refused refusal) bytes two told image = told
 image_stop File bytes two told image = absurd (omega arith)
@@ -35,6 +39,7 @@ image_stop Output bytes two told image = absurd (omega arith)
 image_stop Memory bytes two told image = absurd (omega arith)
 
 pub rule_stop : (stop : Stop) (bytes : List ℕ) → status_of stop ≡ 2 → IsTrueOf stop bytes → IsAccepted bytes → ⊥
+rule_stop (Source fault) bytes two told accepted = told
 rule_stop (Image fault) bytes two told accepted = faulty_is_no_image bytes fault told (accepted.0, accepted.1)
 rule_stop (Refused refusal) bytes two told accepted =
     fault_is_not_checked told.0 accepted.0 bytes refusal told.1 told.2 accepted.1 accepted.2
@@ -44,9 +49,11 @@ rule_stop Output bytes two told accepted = absurd (omega arith)
 rule_stop Memory bytes two told accepted = absurd (omega arith)
 
 pub told_is_refused : (job : Job) (stop : Stop) (bytes : List ℕ) → status_of stop ≡ 2 → IsTold job stop bytes → Deserves job bytes → ⊥
+told_is_refused (Asm source object) stop bytes two told deserved = source_stops stop bytes two told deserved
 told_is_refused (Verify image) stop bytes two told deserved = rule_stop stop bytes two told deserved
 told_is_refused (Run image) stop bytes two told deserved = rule_stop stop bytes two told deserved
 told_is_refused (Listing image) stop bytes two told deserved = image_stop stop bytes two told deserved
+told_is_refused (Trace image limit) stop bytes two told deserved = image_stop stop bytes two told deserved
 
 pub known_is_refused : (known : Option (List ℕ)) (job : Job) (stop : Stop) → status_of stop ≡ 2
     → IfSome known (IsTold job stop) → IfSome known (λ bytes. Deserves job bytes → ⊥)
@@ -69,3 +76,12 @@ ran_on None input old new parts taken finished status read same answer grown tol
 ran_on (Some bytes) None old new parts taken finished status read same answer grown told = tt
 ran_on (Some bytes) (Some all) old new parts taken finished status read same answer grown told =
     (parts, finished, read.0, subst (λ (input : List ℕ). IsAnswer parts 8 input finished) same answer, grown, told)
+
+-- a trace of the known bytes of a file on the known bytes of an input
+pub traced_on : (limit : ℕ) (file input old new : Option (List ℕ)) (parts : Parts) (taken : List ℕ) (outcome : Outcome)
+    → IfSome file (λ bytes. reading bytes ≡ Ok parts) → IfSome input (λ all. taken ≡ all)
+    → Wrote old new (λ text. IsTrace 8 parts taken limit text outcome) → Traced limit file input old new
+traced_on limit None input old new parts taken outcome read same wrote = tt
+traced_on limit (Some bytes) None old new parts taken outcome read same wrote = tt
+traced_on limit (Some bytes) (Some all) old new parts taken outcome read same wrote =
+    (parts, outcome, wrote.0, read, subst (λ (input : List ℕ). IsTrace 8 parts input limit wrote.0 outcome) same wrote.1, wrote.2)

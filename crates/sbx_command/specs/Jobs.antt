@@ -1,9 +1,12 @@
 -- What a command line may ask for.
+use Rattle.std.specs.Prelude.{◌≤◌}
 use Rattle.sbx_command.specs.declared.jobs.Job.{Job}
-use Rattle.sbx_command.specs.declared.jobs.Job.TheVariants.{Verify, Run, List}
+use Rattle.sbx_command.specs.declared.jobs.Job.TheVariants.{Asm, Verify, Run, List, Trace}
 
--- its numbers are in their ranges: so far no job has one
+-- its numbers are in their ranges
 abbrev pub IsInRange : Job → Type 0
+IsInRange (Asm source object) = Unit {0}
 IsInRange (Verify image) = Unit {0}
 IsInRange (Run image) = Unit {0}
 IsInRange (List image) = Unit {0}
+IsInRange (Trace image limit) = limit ≤ 9999999999

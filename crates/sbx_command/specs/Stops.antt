@@ -3,14 +3,19 @@ use Rattle.std.specs.Prelude.{◌≡◌, ℕ, List, Result, Ok, Err}
 use Rattle.sbx_image.specs.declared.fault.ImageFault.{ImageFault}
 use Rattle.sbx_image.specs.declared.fault.ImageFault.TheVariants as fault
 use Rattle.sbx_image.specs.Reading.{reading}
+use Rattle.sbx_asm.specs.declared.fault.Cause.{Cause}
+use Rattle.sbx_asm.specs.declared.fault.Cause.TheVariants as causes
+use Rattle.sbx_asm.specs.declared.fault.AsmFault.{AsmFault}
+use Rattle.sbx_asm.specs.Meaning.{source_image}
 use Rattle.sbx_verify.specs.declared.cause.Refusal.{Refusal}
 use Rattle.sbx_verify.specs.Rules.{IsLeastFault}
 use Rattle.sbx_image.specs.declared.parts.Parts.{Parts}
 use Rattle.sbx_command.specs.declared.stops.Stop.{Stop}
-use Rattle.sbx_command.specs.declared.stops.Stop.TheVariants.{Image, Refused, File, Input, Output, Memory}
+use Rattle.sbx_command.specs.declared.stops.Stop.TheVariants.{Source, Image, Refused, File, Input, Output, Memory}
 
 -- 2 says that the bytes are at fault, 4 that the system is, 5 that memory is used up
 abbrev pub status_of : Stop → ℕ
+status_of (Source fault) = 2
 status_of (Image fault) = 2
 status_of (Refused refusal) = 2
 status_of File = 4
@@ -23,8 +28,31 @@ abbrev pub stop_of_image : ImageFault → Stop
 stop_of_image fault.Memory = Memory
 stop_of_image other = Image other
 
+abbrev pub source_stop : Cause → AsmFault → Stop
+source_stop causes.Memory fault = Memory
+source_stop (causes.Text f) fault = Source fault
+source_stop (causes.Syntax f) fault = Source fault
+source_stop causes.DuplicateLabel fault = Source fault
+source_stop causes.Directive fault = Source fault
+source_stop causes.Limit fault = Source fault
+source_stop causes.Annotation fault = Source fault
+
+abbrev pub stop_of_source : AsmFault → Stop
+stop_of_source fault = source_stop fault.cause fault
+
+-- what is told of a source holds of the bytes of the file
+abbrev pub IsTrueOfSource : Stop → List ℕ → Type 0
+IsTrueOfSource (Source fault) bytes = source_image bytes ≡ Err fault
+IsTrueOfSource (Image fault) bytes = ⊥
+IsTrueOfSource (Refused refusal) bytes = ⊥
+IsTrueOfSource File bytes = Unit {0}
+IsTrueOfSource Input bytes = Unit {0}
+IsTrueOfSource Output bytes = Unit {0}
+IsTrueOfSource Memory bytes = Unit {0}
+
 -- what is told of an image and of the rules holds of the bytes of the file
 abbrev pub IsTrueOf : Stop → List ℕ → Type 0
+IsTrueOf (Source fault) bytes = ⊥
 IsTrueOf (Image fault) bytes = reading bytes ≡ Err fault
 IsTrueOf (Refused refusal) bytes = (parts : Parts) × (reading bytes ≡ Ok parts) × IsLeastFault parts refusal
 IsTrueOf File bytes = Unit {0}
@@ -34,6 +62,7 @@ IsTrueOf Memory bytes = Unit {0}
 
 -- the same where no rule is looked at
 abbrev pub IsTrueOfImage : Stop → List ℕ → Type 0
+IsTrueOfImage (Source fault) bytes = ⊥
 IsTrueOfImage (Image fault) bytes = reading bytes ≡ Err fault
 IsTrueOfImage (Refused refusal) bytes = ⊥
 IsTrueOfImage File bytes = Unit {0}

@@ -3,13 +3,17 @@ use Rattle.std.specs.Prelude.{◌≡◌, ℕ, List, Ok, Option, IfSome, ◌==◌
 use Rattle.std.specs.Io.KnownBytes.{Appends}
 use Rattle.sbx_run.specs.declared.runner.Finished.{Finished}
 use Rattle.sbx_run.specs.Answer.{IsAnswer}
+use Rattle.v8_board.specs.declared.outcome.Outcome.{Outcome}
+use Rattle.sbx_raw.specs.Traces.{IsTrace}
 use Rattle.sbx_image.specs.declared.parts.Parts.{Parts}
 use Rattle.sbx_image.specs.Reading.{reading}
+use Rattle.sbx_image.specs.Spelling.{spelling}
+use Rattle.sbx_asm.specs.Meaning.{source_image}
 use Rattle.sbx_verify.specs.Rules.{Checked}
 use Rattle.sbx_command.specs.declared.jobs.Job.{Job}
-use Rattle.sbx_command.specs.declared.jobs.Job.TheVariants.{Verify, Run, List as Listing}
+use Rattle.sbx_command.specs.declared.jobs.Job.TheVariants.{Asm, Verify, Run, List as Listing, Trace}
 use Rattle.sbx_command.specs.declared.stops.Stop.{Stop}
-use Rattle.sbx_command.specs.Stops.{IsTrueOf, IsTrueOfImage}
+use Rattle.sbx_command.specs.Stops.{IsTrueOf, IsTrueOfImage, IsTrueOfSource}
 
 -- the bytes spell an image
 abbrev pub IsImage : List ℕ → Type 0
@@ -19,17 +23,25 @@ IsImage bytes = (parts : Parts) × (reading bytes ≡ Ok parts)
 abbrev pub IsAccepted : List ℕ → Type 0
 IsAccepted bytes = (parts : Parts) × (reading bytes ≡ Ok parts) × Checked parts
 
+-- the bytes are a source that means an image
+abbrev pub IsSource : List ℕ → Type 0
+IsSource bytes = (parts : Parts) × (source_image bytes ≡ Ok parts)
+
 -- what a job needs to be done
 abbrev pub Deserves : Job → List ℕ → Type 0
+Deserves (Asm source object) bytes = IsSource bytes
 Deserves (Verify image) bytes = IsAccepted bytes
 Deserves (Run image) bytes = IsAccepted bytes
 Deserves (Listing image) bytes = IsImage bytes
+Deserves (Trace image limit) bytes = IsImage bytes
 
 -- what a stop tells of the bytes that a job reads
 abbrev pub IsTold : Job → Stop → List ℕ → Type 0
+IsTold (Asm source object) stop bytes = IsTrueOfSource stop bytes
 IsTold (Verify image) stop bytes = IsTrueOf stop bytes
 IsTold (Run image) stop bytes = IsTrueOf stop bytes
 IsTold (Listing image) stop bytes = IsTrueOfImage stop bytes
+IsTold (Trace image limit) stop bytes = IsTrueOfImage stop bytes
 
 -- 0 where the exit word is 0, else 1
 abbrev pub status_of_word : ℕ → ℕ
@@ -45,8 +57,27 @@ RanOn bytes input old new status =
 abbrev pub Ran : Option (List ℕ) → Option (List ℕ) → Option (List ℕ) → Option (List ℕ) → ℕ → Type 0
 Ran file input old new status = IfSome file (λ bytes. IfSome input (λ all. RanOn bytes all old new status))
 
+-- The output grew by the spelling of the image that the bytes of the file mean, where they are known.
+abbrev pub AssembledFrom : List ℕ → Option (List ℕ) → Option (List ℕ) → Type 0
+AssembledFrom bytes old new = (parts : Parts) × (source_image bytes ≡ Ok parts) × Appends old new (spelling parts)
+
+abbrev pub Assembled : Option (List ℕ) → Option (List ℕ) → Option (List ℕ) → Type 0
+Assembled file old new = IfSome file (λ bytes. AssembledFrom bytes old new)
+
+-- The output grew by the trace of the image of the bytes on the input, on 8 windows, up to the limit.
+abbrev pub TracedOn : ℕ → List ℕ → List ℕ → Option (List ℕ) → Option (List ℕ) → Type 0
+TracedOn limit bytes input old new =
+    (parts : Parts) × (outcome : Outcome) × (text : List ℕ) × (reading bytes ≡ Ok parts) × IsTrace 8 parts input limit text outcome
+    × Appends old new text
+
+-- the same where the bytes of the file and of the input are known
+abbrev pub Traced : ℕ → Option (List ℕ) → Option (List ℕ) → Option (List ℕ) → Option (List ℕ) → Type 0
+Traced limit file input old new = IfSome file (λ bytes. IfSome input (λ all. TracedOn limit bytes all old new))
+
 -- what a job that is done has put out
 abbrev pub Gave : Job → Option (List ℕ) → Option (List ℕ) → Option (List ℕ) → Option (List ℕ) → ℕ → Type 0
+Gave (Asm source object) file input old new status = Assembled file old new × (status ≡ 0)
 Gave (Verify image) file input old new status = Unit {0}
 Gave (Run image) file input old new status = Ran file input old new status
 Gave (Listing image) file input old new status = Unit {0}
+Gave (Trace image limit) file input old new status = Traced limit file input old new × (status ≡ 0)

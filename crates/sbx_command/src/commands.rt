@@ -3,10 +3,12 @@ ghost use Rattle.std.specs.Prelude.{◌≡◌, ◌<◌, IfErr, IfOk, IfSome};
 ghost use Rattle.sbx_command.specs.Stops.{status_of};
 ghost use Rattle.sbx_command.specs.Verdicts.{Deserves, Gave, IsTold};
 
+use crate::assembling::assemble_file;
 use crate::jobs::Job;
 use crate::listing::list_file;
 use crate::running::run_file;
 use crate::stops::Stop;
+use crate::tracing::trace_file;
 use crate::verifying::verify_file;
 use std::alloc::Global;
 use std::io::{Read, Write};
@@ -28,6 +30,10 @@ fn perform<F: Read, I: Read, O: Write>(
         → (input.new ≡ input.old) × (out.new ≡ out.old)) }
 {
     match *job {
+        Job::Asm { .. } => {
+            assemble_file(alloc, file, out)?;
+            Ok(0)
+        }
         Job::Verify { .. } => {
             verify_file(alloc, file, out)?;
             Ok(0)
@@ -37,11 +43,16 @@ fn perform<F: Read, I: Read, O: Write>(
             list_file(alloc, file, out)?;
             Ok(0)
         }
+        Job::Trace { limit, .. } => {
+            trace_file(alloc, limit, file, input, out)?;
+            Ok(0)
+        }
     }
 }
 
 /// Does a job and gives its exit status; what the system opened for it is passed in: the file that the job reads,
-/// standard input, where its result goes, and standard error.
+/// standard input, where its result goes, and standard error. The result of an assembly goes to a writer in memory, so
+/// that the object file is opened only where the status is 0.
 #[tactic(auto, using(crate::proofs::Verdicts::known_is_refused))]
 pub fn command<F: Read, I: Read, O: Write, E: Write>(
     alloc: Global,
@@ -57,7 +68,8 @@ pub fn command<F: Read, I: Read, O: Write, E: Write>(
     ensures done { result < 2 → IfSome (F.remaining file.old) (Deserves job.now) }
     ensures refused { result ≡ 2 → IfSome (F.remaining file.old) (λ bytes. Deserves job.now bytes → ⊥) }
 
-    // A run puts out what its image does on the input, and has the status of its exit word.
+    // A run puts out what its image does on the input, and has the status of its exit word. A trace puts out the lines of the
+    // image's turns on the input.
     ensures ran { result < 2 → Gave job.now (F.remaining file.old) (I.remaining input.old)
         (O.contents out.old) (O.contents out.new) result }
 

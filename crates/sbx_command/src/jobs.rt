@@ -6,12 +6,16 @@ ghost use Rattle.std.specs.Str.Parse.{IsNumeral, digits_value};
 /// One job of the sandbox. Each path that it needs stands in it.
 #[derive(Clone, Copy, Debug, PartialEq, Eq)]
 pub enum Job<'a> {
+    /// Assembles the source file to an object file.
+    Asm { source: &'a str, object: &'a str },
     /// Verifies the image file.
     Verify { image: &'a str },
     /// Verifies the image file and runs it.
     Run { image: &'a str },
     /// Prints the code of the image file.
     List { image: &'a str },
+    /// Prints a line for each turn of a run of the image file, up to a limit of turns.
+    Trace { image: &'a str, limit: u64 },
 }
 
 /// The most turns that a trace may be asked for: as many as ten decimal digits count.

@@ -1,6 +1,7 @@
 //! What each command of the sandbox does with a file, an input and two outputs.
 #![tactic(auto)]
 
+mod assembling;
 mod commands;
 mod images;
 mod jobs;
@@ -8,6 +9,7 @@ mod listing;
 mod reading;
 mod running;
 mod stops;
+mod tracing;
 mod verifying;
 
 pub use commands::command;

@@ -1,7 +1,8 @@
 //! Why a command stops, its line on standard error and its exit status.
 ghost use Rattle.std.specs.Prelude.{◌≡◌};
-ghost use Rattle.sbx_command.specs.Stops.{status_of, stop_of_image};
+ghost use Rattle.sbx_command.specs.Stops.{status_of, stop_of_image, stop_of_source};
 
+use sbx_asm::{AsmFault, Cause};
 use sbx_image::ImageFault;
 use sbx_verify::Refusal;
 use std::fmt::{self, Display, Formatter, Write};
@@ -10,6 +11,8 @@ use std::io;
 /// Why a command stops before its job is done. Its text is its line on standard error.
 #[derive(Clone, Copy, Debug, PartialEq, Eq)]
 pub enum Stop {
+    /// The source means no image.
+    Source(AsmFault),
     /// The bytes of the file are no image.
     Image(ImageFault),
     /// The image breaks a rule.
@@ -31,7 +34,7 @@ impl Stop {
         ensures { result ≡ status_of self }
     {
         match self {
-            Stop::Image(_) | Stop::Refused(_) => 2,
+            Stop::Source(_) | Stop::Image(_) | Stop::Refused(_) => 2,
             Stop::File | Stop::Input | Stop::Output => 4,
             Stop::Memory => 5,
         }
@@ -49,6 +52,7 @@ impl Stop {
 impl Display for Stop {
     fn fmt<W: Write>(&self, f: &mut Formatter<W>) -> fmt::Result {
         match self {
+            Stop::Source(fault) => write!(f, "{fault}"),
             Stop::Image(fault) => write!(f, "image {fault}"),
             Stop::Refused(refusal) => write!(f, "{refusal}"),
             Stop::File => f.write_str("file"),
@@ -66,6 +70,17 @@ impl From<ImageFault> for Stop {
         match fault {
             ImageFault::Memory => Stop::Memory,
             fault => Stop::Image(fault),
+        }
+    }
+}
+
+impl From<AsmFault> for Stop {
+    ghost from_gives = { λ fault stop. stop ≡ stop_of_source fault };
+
+    fn from(fault: AsmFault) -> Stop {
+        match fault.cause {
+            Cause::Memory => Stop::Memory,
+            _ => Stop::Source(fault),
         }
     }
 }

@@ -1,4 +1,6 @@
 //! Commands on bytes that are or aren't images, over readers and writers that fail at one call.
+mod sources;
+
 use crate::{Job, ReadFault, command, decimal, read_whole};
 use std::alloc::Global;
 use std::io::{self, Read, Write};
@@ -86,6 +88,27 @@ const VERIFY: Job<'static> = Job::Verify { image: "a.img" };
 const RUN: Job<'static> = Job::Run { image: "a.img" };
 
 const LIST: Job<'static> = Job::List { image: "a.img" };
+
+const TRACE: Job<'static> = Job::Trace {
+    image: "a.img",
+    limit: 100_000,
+};
+
+const TRACE_OF_TWO: Job<'static> = Job::Trace {
+    image: "a.img",
+    limit: 2,
+};
+
+const TRACE_OF_NONE: Job<'static> = Job::Trace {
+    image: "a.img",
+    limit: 0,
+};
+
+const TWO_TURNS: &[u8] = b"0000000001 00 u 00040000 90102048 ran
+0000000002 00 u 00040004 91D02002 trap 82
+";
+
+const LAST_TURN: &[u8] = b"\n0000000016 07 s F0000804 F024E008 exit 00000000\n";
 
 const LISTING: &[u8] = b"00040000 90102048 or %g0,72,%o0
 00040004 91D02002 ta 2
@@ -252,7 +275,7 @@ fn refuses_what_breaks_a_rule(rt: HostRuntime) {
 #[test]
 fn stops_at_a_fault(rt: HostRuntime) {
     let alloc = rt.alloc();
-    let table: [(Job<'_>, [usize; 3], u8, &[u8], &[u8]); 17] = [
+    let table: [(Job<'_>, [usize; 3], u8, &[u8], &[u8]); 26] = [
         (LIST, [0, 0, 0], 0, LISTING, b""),
         (LIST, [1, 0, 0], 4, b"", b"file\n"),
         (LIST, [86, 0, 0], 4, b"", b"file\n"),
@@ -270,6 +293,15 @@ fn stops_at_a_fault(rt: HostRuntime) {
         (RUN, [0, 5, 0], 0, b"Hi", b""),
         (RUN, [0, 0, 1], 4, b"", b"output\n"),
         (RUN, [0, 0, 2], 4, b"Hi", b"output\n"),
+        (TRACE_OF_TWO, [0, 0, 0], 0, TWO_TURNS, b""),
+        (TRACE_OF_TWO, [87, 1, 1], 4, b"", b"file\n"),
+        (TRACE_OF_TWO, [0, 1, 1], 4, b"", b"input\n"),
+        (TRACE_OF_TWO, [0, 0, 1], 4, b"", b"output\n"),
+        (TRACE_OF_TWO, [0, 0, 3], 4, TWO_TURNS, b"output\n"),
+        (TRACE_OF_NONE, [0, 0, 0], 0, b"", b""),
+        (TRACE_OF_NONE, [0, 4, 0], 4, b"", b"input\n"),
+        (TRACE_OF_NONE, [0, 0, 1], 4, b"", b"output\n"),
+        (TRACE, [0, 0, 1], 4, b"", b"output\n"),
     ];
     for (job, fails, status, out, err) in table {
         let case = Case {
@@ -298,4 +330,25 @@ fn stops_at_a_fault(rt: HostRuntime) {
         is_answered(alloc, &case) || is_answered(alloc, &case),
         "exit word 1"
     );
+}
+
+/// A whole trace ends with the exit; the image need not be one that is accepted.
+#[test]
+fn traces_to_the_end(rt: HostRuntime) {
+    let alloc = rt.alloc();
+    let little = changed(60, &[0, 0, 0, 0, 0, 0, 0, 0x0F]);
+    for file in [&HELLO, &little] {
+        let mut out: Vec<u8> = Vec::new(alloc);
+        let mut err: Vec<u8> = Vec::new(alloc);
+        let mut read = Reader::new(file, 0);
+        let mut input = Reader::new(b"", 0);
+        let status = command(alloc, &TRACE, &mut read, &mut input, &mut out, &mut err);
+        // want of memory is a fine answer
+        if status != 5 {
+            assert_eq!(rt; status, 0);
+            assert!(rt; out.as_slice().starts_with(TWO_TURNS));
+            assert!(rt; out.as_slice().ends_with(LAST_TURN));
+            assert!(rt; err.is_empty());
+        }
+    }
 }

@@ -1,27 +1,21 @@
 //! The sandbox's command line.
 #![tactic(auto)]
 
+mod assembling;
+mod files;
 mod words;
 
+use assembling::assemble_to;
+use files::opened;
 use sbx_command::{Job, Stop, command};
 use std::alloc::AllocError;
-use std::fs::File;
 use std::io::BufWriter;
 use std::process::ExitCode;
-use std::{env, fs, io};
+use std::{env, io};
 use words::{Usage, read_words};
 
 /// The exit status of words that ask for nothing.
 const USAGE: u8 = 3;
-
-/// The file at a path, to be read.
-fn opened(rt: &HostRuntime, path: &str) -> Result<File, Stop> {
-    match fs::open(rt, path) {
-        Ok(file) => Ok(file),
-        Err(error) if error.kind() == io::ErrorKind::OutOfMemory => Err(Stop::Memory),
-        Err(_) => Err(Stop::File),
-    }
-}
 
 /// Does a job on the file at `path`, from standard input to standard output.
 fn on_streams(rt: &HostRuntime, job: &Job<'_>, path: &str) -> Result<u8, Stop> {
@@ -53,9 +47,11 @@ fn words_of(rt: &HostRuntime) -> io::Result<Vec<String>> {
 fn perform(rt: &HostRuntime, words: &[String]) -> Result<u8, Stop> {
     match read_words(rt.alloc(), words) {
         Ok(job) => match job {
-            Job::Verify { image } | Job::Run { image } | Job::List { image } => {
-                on_streams(rt, &job, image)
-            }
+            Job::Asm { source, object } => assemble_to(rt, &job, source, object),
+            Job::Verify { image }
+            | Job::Run { image }
+            | Job::List { image }
+            | Job::Trace { image, .. } => on_streams(rt, &job, image),
         },
         Err(Usage::Text(text)) => {
             let _ = eprint!(rt; "{text}");

@@ -1,0 +1,63 @@
+//! The command `asm`.
+ghost use Rattle.std.specs.Prelude.{◌≡◌, ◌⊎◌, IfErr, IfOk, IfSome, Ok, OnOk};
+ghost use Rattle.std.specs.Io.KnownBytes.{Appends};
+ghost use Rattle.sbx_image.specs.Spelling.{spelling};
+ghost use Rattle.sbx_asm.specs.Meaning.{source_image};
+ghost use Rattle.sbx_command.specs.Stops.{IsTrueOfSource, status_of};
+ghost use Rattle.sbx_command.specs.Verdicts.{IsSource, Assembled};
+
+use crate::reading::{MOST, ReadFault, read_whole};
+use crate::stops::Stop;
+use sbx_asm::assemble;
+use sbx_image::{Image, write};
+use std::alloc::{AllocError, Global};
+use std::io::{ErrorKind, Read, Write};
+
+/// The image that the source in a file means.
+fn source_in<F: Read>(alloc: Global, file: &mut F) -> Result<Image, Stop>
+    ensures image { IfOk result (λ image. IfSome (F.remaining file.old) (λ bytes. source_image bytes ≡ Ok image)) }
+    ensures stop { IfErr result (λ stop. IfSome (F.remaining file.old) (IsTrueOfSource stop)) }
+{
+    let source = match read_whole(alloc, file, MOST) {
+        Ok(source) => source,
+        Err(ReadFault::Memory) => return Err(Stop::Memory),
+        Err(ReadFault::Reader | ReadFault::TooLong) => return Err(Stop::File),
+    };
+    Ok(assemble(alloc, source.as_slice())?)
+}
+
+/// Writes all bytes of an object, through to the end. A writer in memory may have no room.
+#[tactic(auto, using(crate::proofs::Verdicts::appends_kept))]
+fn store<O: Write>(out: &mut O, bytes: &[u8]) -> Result<(), Stop>
+    ensures bytes { OnOk result (Appends (O.contents out.old) (O.contents out.new) bytes.now) }
+    ensures stop { IfErr result (λ stop. (stop ≡ Stop.Output) ⊎ (stop ≡ Stop.Memory)) }
+{
+    match out.write_all(bytes) {
+        Ok(()) => {}
+        Err(error) if error.kind() == ErrorKind::OutOfMemory => return Err(Stop::Memory),
+        Err(_) => return Err(Stop::Output),
+    }
+    match out.flush() {
+        Ok(()) => Ok(()),
+        Err(_) => Err(Stop::Output),
+    }
+}
+
+/// Writes the image that the source in a file means.
+#[tactic(auto, using(crate::proofs::Sources::assembled_on))]
+pub fn assemble_file<F: Read, O: Write>(
+    alloc: Global,
+    file: &mut F,
+    out: &mut O,
+) -> Result<(), Stop>
+    ensures source { OnOk result (IfSome (F.remaining file.old) IsSource) }
+    ensures assembled { OnOk result (Assembled (F.remaining file.old) (O.contents out.old) (O.contents out.new)) }
+    ensures stop { IfErr result (λ stop. IfSome (F.remaining file.old) (IsTrueOfSource stop)) }
+    ensures untouched { IfErr result (λ stop. status_of stop ≡ 2 → out.new ≡ out.old) }
+{
+    let image = source_in(alloc, file)?;
+    match write(&image, alloc) {
+        Ok(bytes) => store(out, bytes.as_slice()),
+        Err(AllocError) => Err(Stop::Memory),
+    }
+}

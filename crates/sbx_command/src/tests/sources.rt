@@ -1,0 +1,49 @@
+//! Sources that mean an image, and others.
+use super::{Case, HELLO, Job, is_answered};
+
+const ASM: Job<'static> = Job::Asm {
+    source: "a.s",
+    object: "a.img",
+};
+
+const SOURCE: &[u8] = b".services exit,put
+.function main,leaf,0,0,16
+.fuel 16
+ mov 72,%o0
+ ta 2
+ mov 105,%o0
+ ta 2
+ mov 0,%o0
+ ta 0
+";
+
+#[test]
+fn assembles(rt: HostRuntime) {
+    let alloc = rt.alloc();
+    let table: [(&[u8], [usize; 3], u8, &[u8], &[u8]); 9] = [
+        (SOURCE, [0, 0, 0], 0, &HELLO, b""),
+        (SOURCE, [0, 1, 0], 0, &HELLO, b""),
+        (SOURCE, [1, 0, 0], 4, b"", b"file\n"),
+        (SOURCE, [0, 0, 1], 4, b"", b"output\n"),
+        (SOURCE, [0, 0, 2], 4, &HELLO, b"output\n"),
+        (b"", [0, 0, 1], 2, b"", b"line 1: A2\n"),
+        (b"x: nop", [0, 0, 0], 2, b"", b"line 1: A2\n"),
+        (b"\n\n add %o0\n $", [0, 0, 0], 2, b"", b"line 3: S2\n"),
+        (b" $\n add %o0\n", [0, 0, 0], 2, b"", b"line 1: X2\n"),
+    ];
+    for (file, fails, status, out, err) in table {
+        let case = Case {
+            job: ASM,
+            file,
+            fails,
+            status,
+            out,
+            err,
+        };
+        // a case whose growth was refused is run once more
+        assert!(rt;
+            is_answered(alloc, &case) || is_answered(alloc, &case),
+            "at {case:?}"
+        );
+    }
+}

@@ -1,0 +1,26 @@
+//! The command `asm` on files.
+use crate::files::{opened, stored};
+use sbx_command::{Job, Stop, command};
+
+/// Assembles the source at a path. The object is opened only where the source means an image.
+pub fn assemble_to(
+    rt: &HostRuntime,
+    job: &Job<'_>,
+    source: &str,
+    object: &str,
+) -> Result<u8, Stop> {
+    let mut file = opened(rt, source)?;
+    let mut bytes = Vec::new(rt.alloc());
+    let status = command(
+        rt.alloc(),
+        job,
+        &mut file,
+        &mut rt.stdin(),
+        &mut bytes,
+        &mut rt.stderr(),
+    );
+    if status == 0 {
+        stored(rt, object, bytes.as_slice())?;
+    }
+    Ok(status)
+}
