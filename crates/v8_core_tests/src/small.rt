@@ -1,6 +1,7 @@
 #![tactic(auto, unfolding(v8_mmu::specs::Ram::entry_of, v8_mmu::specs::Ram::with_entry))]
 
-ghost use Rattle.std.specs.Prelude.{◌≡◌, ℕ, ◌+◌, ◌*◌, ◌/◌, ◌%◌, ◌^◌, ◌<◌, ◌≤◌, take, drop, ◌++◌, length, nat_le, ◌==◌, ◌&&◌, IsTrue, ◌↔◌, IfSome, Some, None, IsSome, false};
+ghost use Rattle.std.specs.Prelude.{◌≡◌, ℕ, ◌+◌, ◌*◌, ◌/◌, ◌%◌, ◌^◌, ◌<◌, ◌≤◌, take, drop, ◌++◌, length, nat_le, ◌==◌, ◌&&◌, IsTrue, ◌↔◌, IfSome, Some, None, IsSome, false, replicate};
+ghost use Rattle.std.specs.Option.{unwrap_or};
 ghost use Rattle.std.specs.Int.{w32, w64, from_be_bytes, to_be_bytes};
 ghost use Rattle.v8_mmu.specs.Answers.{Rose};
 ghost use Rattle.v8_mmu.specs.Meaning.{limit_of};
@@ -24,8 +25,13 @@ pub struct Small<const M: usize> {
 }
 
 impl<const M: usize> Small<M> {
-    /// RAM whose bytes are all 0.
-    pub fn new() -> Self {
+    /// RAM whose bytes are all 0, a device that has not stopped, and a port that works.
+    pub fn new() -> Self
+        ensures bytes { result.bytes ≡ replicate M 0 }
+        ensures stop { result.stop ≡ None }
+        ensures broken { result.broken ≡ false }
+        ensures failures { result.failures ≡ 0 }
+    {
         Small {
             bytes: [0; M],
             stop: None,
@@ -35,15 +41,22 @@ impl<const M: usize> Small<M> {
     }
 
     /// Writes a word of RAM, where there is one.
-    pub fn put(&mut self, pa: u64, word: u32) {
-        if let Some(_old) = self.word(pa) {
+    pub fn put(&mut self, pa: u64, word: u32)
+        ensures ram { self.new.bytes ≡ unwrap_or (ram_store self.old.bytes pa Size.Word word) self.old.bytes }
+        ensures stop { self.new.stop ≡ self.old.stop }
+        ensures broken { self.new.broken ≡ self.old.broken }
+        ensures failures { self.new.failures ≡ self.old.failures }
+    {
+        if let Some(_before) = self.word(pa) {
             self.set_word(pa, word);
         }
     }
 
     /// The word of RAM at a place.
-    pub fn word_at(&self, pa: u64) -> Option<u32> {
-        self.word(pa)
+    pub fn word_at(&self, place: u64) -> Option<u32>
+        ensures { result ≡ entry_of self.now.bytes place }
+    {
+        self.word(place)
     }
 
     fn has(&self, pa: u64, count: u64) -> bool
@@ -94,6 +107,7 @@ impl<const M: usize> Small<M> {
         requires { IsSome (entry_of self.old.bytes pa) }
         ensures ram { self.new.bytes ≡ with_entry self.old.bytes pa word }
         ensures stop { self.new.stop ≡ self.old.stop }
+        ensures broken { self.new.broken ≡ self.old.broken }
         ensures failures { self.new.failures ≡ self.old.failures }
     {
         let at = pa as usize;
