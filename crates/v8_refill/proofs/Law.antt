@@ -21,7 +21,7 @@ use Rattle.v8_stages.proofs.Entered.{caught, first_row, first_row_pcs, first_row
 use Rattle.v8_stages.proofs.Turns.{area, Comes, shifted, later_event}
 use Rattle.v8_refill.specs.Laws.{Underflows, HasFrame, Loads, Refills, SameRam, Refilled, entered_window, refilled_window, next_window, stack_pointer, save_place, UnderflowLaw}
 use Rattle.v8_refill.proofs.Cells.{Loading, refilled, home, spot, home_low, home_high, spot_low, spot_high, are_rows, loaded_word, kept_word, with_row}
-use Rattle.v8_refill.proofs.Board.{board_doubles, word_in, word_there, word_fits}
+use Rattle.v8_stages.proofs.Doubles.{board_doubles, word_in, word_there, word_fits}
 use Rattle.v8_refill.proofs.Rows.{row_5, low_kept, long, fit}
 use Rattle.v8_refill.proofs.Handler.{Frame, loads_of, underflow as handled_by, window_apart, next_apart}
 use Rattle.v8_refill.proofs.Attempt.{pc_entry, pc_spot, fetched_ram, traps, trapped_to, fetched_same}

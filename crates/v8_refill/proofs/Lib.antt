@@ -1,7 +1,6 @@
 pub mod Cells
 pub mod Rows
 pub mod Asks
-pub mod Board
 pub mod Handler
 pub mod Attempt
 pub mod Law

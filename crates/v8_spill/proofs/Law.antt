@@ -32,7 +32,7 @@ use Rattle.v8_spill.specs.Laws.{Overflows, HasRoom, Saves, Spilled, Handled, ent
 use Rattle.v8_spill.proofs.Rows.{globals_7, row_5_low}
 use Rattle.v8_spill.proofs.Stores.{Frame, spilled_word}
 use Rattle.v8_spill.proofs.Overflow.{overflow}
-use Rattle.v8_spill.proofs.Board.{board_doubles}
+use Rattle.v8_stages.proofs.Doubles.{board_doubles}
 use Rattle.v8_spill.proofs.After.{last_row, last_row_low, last_row_fits, spills}
 
 -- the mask's bit forbids its window

@@ -2,6 +2,5 @@ pub mod Asks
 pub mod Rows
 pub mod Stores
 pub mod Overflow
-pub mod Board
 pub mod After
 pub mod Law

@@ -9,6 +9,7 @@
 --                              the state after it        Effects.NAME_does
 --   Stack.in_store, Stack.in_load        one turn more, of a double word on the stack; what a load writes: Stages.pair_written (locals), pair_written_ins
 --   Effects.returns_does     RETT leads to `finished`; Entered.finished_control: its control registers are the old ones but for PS and tt
+--   Doubles                  the board loads and stores double words of RAM; a word of RAM
 --   Windows                  below and above, and the mask of one bit: right_bit (overflow), left_bit (underflow), not_masked
 --   Turns.shifted, later_event     the turns after a first one, which trapped
 --   Turns.Keeps              what RAM is after them
@@ -21,3 +22,4 @@ pub mod Effects
 pub mod Entered
 pub mod Turns
 pub mod Stack
+pub mod Doubles
