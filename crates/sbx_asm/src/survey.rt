@@ -1,16 +1,16 @@
 //! Where each label stands.
-ghost use Rattle.std.specs.Prelude.{◌≡◌, IfOk, List, drop};
+ghost use Rattle.std.specs.Prelude.{◌≡◌, IfOk, List};
 ghost use Rattle.std.specs.List.{fold};
-ghost use Rattle.sbx_directives.specs.Lines.{text_of};
 ghost use Rattle.sbx_asm.specs.Labels.{no_lines, labels_of, add, add_here, name_it, names_of, label_names, survey_statement, survey_line};
 
 use crate::fault::{AsmFault, Cause, told};
 use crate::place::Place;
 use crate::reading::{behind_labels, read_tokens};
 use crate::table::Table;
-use sbx_directives::{Directive, Name, Statement, label_count, read_statement};
+use sbx_directives::{Directive, Name, Statement, label_count, read_statement, text_of};
 use sbx_text::Token;
 use std::alloc::{AllocError, Global};
+use v8_syntax::after_first;
 
 /// The labels of the lines so far, the place of the next line, and the fault that is told so far.
 #[derive(Drop)]
@@ -18,17 +18,6 @@ pub struct Survey<'a> {
     pub table: Table<'a>,
     pub place: Place,
     pub fault: Option<AsmFault>,
-}
-
-/// The bytes of the line from `start` up to `stop`, or none where the line has no such bytes.
-fn text_of(line: &[u8], name: Name) -> &[u8]
-    ensures { result.now ≡ text_of line.now name }
-{
-    if name.start <= name.stop && name.stop <= line.len() {
-        &line[name.start..name.stop]
-    } else {
-        &[]
-    }
 }
 
 impl<'a> Survey<'a> {
@@ -86,7 +75,7 @@ impl<'a> Survey<'a> {
                 text_of(line, Name { start, stop }),
                 self.place.address(),
             )?;
-            rest = without_first(after);
+            rest = after_first(after);
         }
         Ok(())
     }
@@ -173,15 +162,5 @@ impl<'a> Survey<'a> {
                 Ok(())
             }
         }
-    }
-}
-
-/// The tokens behind the first one.
-fn without_first(tokens: &[Token]) -> &[Token]
-    ensures { result.now ≡ drop 1 tokens.now }
-{
-    match tokens.split_first() {
-        Some((_, rest)) => rest,
-        None => tokens,
     }
 }

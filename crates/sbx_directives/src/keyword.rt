@@ -5,6 +5,7 @@ ghost use Rattle.std.specs.List.{find};
 ghost use Rattle.sbx_directives.specs.Directives.{name_of, keyword_named};
 
 use crate::directive::Keyword;
+use v8_syntax::is_same;
 
 fn name_of(keyword: Keyword) -> &'static str
     ensures { result.now ≡ name_of keyword }
@@ -47,13 +48,6 @@ static KEYWORDS: [Keyword; 16] = [
     Keyword::Skip,
     Keyword::Align,
 ];
-
-/// Whether two names have the same bytes.
-pub fn is_same(left: &[u8], right: &[u8]) -> bool
-    ensures { result ≡ bytes_eq left.now right.now }
-{
-    left == right
-}
 
 /// The first of some keywords that has the name.
 fn first_named(keywords: &[Keyword], name: &[u8]) -> Option<Keyword>

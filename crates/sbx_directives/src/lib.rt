@@ -18,3 +18,4 @@ pub use fault::DataFault;
 pub use label::label_count;
 pub use statement::read_statement;
 pub use values::{byte_len, push_values};
+pub use word::text_of;

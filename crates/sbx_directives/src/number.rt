@@ -3,10 +3,10 @@ ghost use Rattle.std.specs.Prelude.{◌≡◌, ◌≤◌, ◌+◌, ℕ, pos, neg
 ghost use Rattle.sbx_directives.specs.Operands.{integer, is_between, integer_in, natural, natural_in, range_of, coefficient, plain_name, slot, location};
 
 use crate::directive::Name;
-use crate::keyword::is_same;
 use crate::operand::Operand;
 use crate::word::text_of;
 use sbx_image::Range;
+use v8_syntax::is_same;
 
 fn integer(operand: Operand) -> Option<i128>
     ensures { result ≡ integer operand }

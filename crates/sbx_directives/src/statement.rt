@@ -5,12 +5,13 @@ ghost use Rattle.sbx_directives.specs.Operands.{behind};
 ghost use Rattle.sbx_directives.specs.Directives.{kind_named, names, bit_if, named_services, is_service_name, is_service, services_of, frames_of, is_expression, value_count, function_of, cell_of, term_of, ranged, plainly, numbered, fuel_of, alignment_of, directive_of, told, statement_of};
 
 use crate::directive::{Directive, Keyword, Statement, Width};
-use crate::keyword::{is_same, keyword_named};
+use crate::keyword::keyword_named;
 use crate::number::{coefficient, integer_in, location, natural_in, plain_name, range_of};
 use crate::operand::{Operand, five, four, next_operand, none, one, operands, three, two};
-use crate::word::{bytes_between, text_of};
+use crate::word::text_of;
 use sbx_image::{Cell, Kind as Frames, Range, Services, Term};
 use sbx_text::{Kind, Token};
+use v8_syntax::{bytes_between, is_same};
 
 fn kind_named(name: &[u8]) -> Option<Frames>
     ensures { result ≡ kind_named name.now }

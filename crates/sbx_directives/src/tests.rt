@@ -124,6 +124,16 @@ fn statements(rt: HostRuntime) -> Result<(), Fail> {
     Ok(())
 }
 
+#[test]
+fn names(rt: HostRuntime) -> Result<(), Fail> {
+    let line = b".block loop".as_slice();
+    let found = text_of(line, Name { start: 7, stop: 11 });
+    assert_eq!(rt; found, b"loop".as_slice());
+    let past = text_of(line, Name { start: 7, stop: 12 });
+    assert_eq!(rt; past, b"".as_slice());
+    Ok(())
+}
+
 /// `s` is worth 0x12345678, and no other name is known.
 struct Fixed;
 

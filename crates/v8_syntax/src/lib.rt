@@ -20,3 +20,4 @@ pub use fault::SyntaxFault;
 pub use printing::print_instr;
 pub use statement::{length_of, parse_instr};
 pub use symbols::Symbols;
+pub use word::{after_first, bytes_between, is_same, register_named, sign_byte};

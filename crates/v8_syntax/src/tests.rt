@@ -356,3 +356,45 @@ fn texts(rt: HostRuntime) -> Result<(), Fail> {
     }
     Ok(())
 }
+
+/// Names without their `%`, and the numbers of their registers.
+const REGISTERS: [(&str, Option<u8>); 13] = [
+    ("g0", Some(0)),
+    ("o6", Some(14)),
+    ("l1", Some(17)),
+    ("i7", Some(31)),
+    ("sp", Some(14)),
+    ("fp", Some(30)),
+    ("r9", Some(9)),
+    ("r31", Some(31)),
+    ("r32", None),
+    ("r08", None),
+    ("o8", None),
+    ("y", None),
+    ("", None),
+];
+
+#[test]
+fn registers(rt: HostRuntime) -> Result<(), Fail> {
+    for (name, wanted) in &REGISTERS {
+        let found = register_named(name.as_bytes()).map(|register| register.number());
+        assert_eq!(rt; found, *wanted, "{name}");
+    }
+    Ok(())
+}
+
+#[test]
+fn pieces(rt: HostRuntime) -> Result<(), Fail> {
+    let line = b"add %o0".as_slice();
+    let nothing = b"".as_slice();
+    assert_eq!(rt; bytes_between(line, 4, 7), b"%o0".as_slice());
+    assert_eq!(rt; bytes_between(line, 4, 8), nothing);
+    assert_eq!(rt; bytes_between(line, 3, 2), nothing);
+    assert_eq!(rt; after_first(line), b"dd %o0".as_slice());
+    assert_eq!(rt; after_first(nothing), nothing);
+    assert_eq!(rt; sign_byte(b"+"), b'+');
+    assert_eq!(rt; sign_byte(nothing), 0);
+    assert!(rt; is_same(b"add", b"add"));
+    assert!(rt; !is_same(b"add", b"and"));
+    Ok(())
+}

@@ -29,7 +29,7 @@ pub enum Word {
     Unknown,
 }
 
-/// The bytes of the line from `start` up to `stop`, or none where the line has no such bytes.
+/// The bytes of a line from the byte `start` up to the byte `stop`, as a token has them; none where the line has no such bytes.
 pub fn bytes_between(line: &[u8], start: usize, stop: usize) -> &[u8]
     ensures { result.now ≡ bytes_between line.now start stop }
 {
@@ -40,7 +40,8 @@ pub fn bytes_between(line: &[u8], start: usize, stop: usize) -> &[u8]
     }
 }
 
-fn same(left: &[u8], right: &[u8]) -> bool
+/// Whether two names have the same bytes.
+pub fn is_same(left: &[u8], right: &[u8]) -> bool
     ensures { result ≡ bytes_eq left.now right.now }
 {
     left == right
@@ -91,7 +92,9 @@ fn three_letters(first: u8, second: u8, third: u8) -> Option<Reg>
     }
 }
 
-fn register_named(name: &[u8]) -> Option<Reg>
+/// The register of a name without its `%`: `g`, `o`, `l` or `i` and a digit 0 to 7; `sp`; `fp`; or `r0` to `r31`, with no 0 in
+/// front (appendix A, "Registers"). `None` for any other name.
+pub fn register_named(name: &[u8]) -> Option<Reg>
     ensures { result ≡ register_named name.now }
 {
     if name.len() == 2 {
@@ -106,13 +109,13 @@ fn register_named(name: &[u8]) -> Option<Reg>
 fn special_named(name: &[u8]) -> Option<Special>
     ensures { result ≡ special_named name.now }
 {
-    if same(name, b"y") {
+    if is_same(name, b"y") {
         Some(Special::Y)
-    } else if same(name, b"psr") {
+    } else if is_same(name, b"psr") {
         Some(Special::Psr)
-    } else if same(name, b"wim") {
+    } else if is_same(name, b"wim") {
         Some(Special::Wim)
-    } else if same(name, b"tbr") {
+    } else if is_same(name, b"tbr") {
         Some(Special::Tbr)
     } else {
         None
@@ -134,16 +137,17 @@ fn percent_word(name: &[u8]) -> Word
 fn name_kind(name: &[u8]) -> NameKind
     ensures { result ≡ name_kind name.now }
 {
-    if same(name, b"a") {
+    if is_same(name, b"a") {
         NameKind::Annul
-    } else if same(name, b".") {
+    } else if is_same(name, b".") {
         NameKind::Place
     } else {
         NameKind::Plain
     }
 }
 
-fn sign_byte(bytes: &[u8]) -> u8
+/// The first of some bytes, which is the sign where they are a sign's; 0 where there is none.
+pub fn sign_byte(bytes: &[u8]) -> u8
     ensures { result ≡ slice_index bytes.now 0 }
 {
     match bytes.first() {
@@ -152,12 +156,13 @@ fn sign_byte(bytes: &[u8]) -> u8
     }
 }
 
-fn after_first(bytes: &[u8]) -> &[u8]
-    ensures { result.now ≡ drop 1 bytes.now }
+/// What follows the first of some items; none where there are none.
+pub fn after_first<T>(items: &[T]) -> &[T]
+    ensures { result.now ≡ drop 1 items.now }
 {
-    match bytes.split_first() {
+    match items.split_first() {
         Some((_, rest)) => rest,
-        None => bytes,
+        None => items,
     }
 }
 
@@ -190,7 +195,7 @@ fn first_named(mnemonics: &[Mnemonic], name: &[u8]) -> Option<Mnemonic>
     ensures { result ≡ find (λ m. bytes_eq (name_of m) name.now) mnemonics.now }
 {
     for mnemonic in mnemonics {
-        if same(name_of(*mnemonic).as_bytes(), name) {
+        if is_same(name_of(*mnemonic).as_bytes(), name) {
             return Some(*mnemonic);
         }
     }

@@ -6,7 +6,7 @@ use Rattle.sbx_asm.proofs.survey.Survey.labels.Goals as goal
 
 pub loop-preserved : goal.loop-preserved
 loop-preserved c =
-    rw (c.in_ok-add.ensures, c.text_of.ensures, c.address.ensures, c.without_first-rest.ensures)
+    rw (c.in_ok-add.ensures, c.text_of.ensures, c.address.ensures, c.after_first-rest.ensures)
     (goes_on (add_here c.args.number) c.args.line.now c.args.count c.loop.counter (labels_of c.loop.self) _ c.in-Some.first.now c.in-Some.after.now c.loop-test.true
     (at_tokens (add_here c.args.number) c.args.line.now c.args.count c.loop.counter (labels_of c.loop.self) _ c.loop.rest.now _ c.in-Some.ensures.cases.0 c.loop.invariant))
 
