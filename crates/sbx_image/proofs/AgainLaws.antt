@@ -1,6 +1,6 @@
 -- What keeps the rules is read from its spelling: a law for each part of an image.
-use Rattle.std.proofs.Common.{◌≡◌, ℕ, zero, suc, ◌+◌, ◌-◌, ◌*◌, ◌^◌, ◌<◌, ◌≤◌, ℤ, Bool, true, false, cond, ltb, eqb, ◌&&◌, List, [], ◌∷◌, ◌++◌, length, Result, Ok, Err, refl, sym, ap, subst, ◌∙◌, append_assoc, lit<, arith}
-use Rattle.std.specs.Int.{Width, w8, w16, w32, w64, to_be_bytes}
+use Rattle.std.proofs.Common.{◌≡◌, ℕ, suc, ◌+◌, ◌-◌, ◌*◌, ◌^◌, ◌<◌, List, [], ◌∷◌, ◌++◌, length, Result, Ok, refl, sym, ap, ◌∙◌, append_assoc, lit<, arith}
+use Rattle.std.specs.Int.{w8, w16, w32, w64, to_be_bytes}
 use Rattle.std.specs.List.{flat_map, AllByRecursion}
 use Rattle.std.proofs.lemmas.Bool.{leb-true}
 use Rattle.std.proofs.lemmas.List.{append-nil}
@@ -8,10 +8,9 @@ use Rattle.std.proofs.lemmas.List.Concat.{flat_map-cons}
 use Rattle.sbx_image.specs.declared.fault.ImageFault.{ImageFault}
 use Rattle.sbx_image.specs.declared.fault.ImageFault.TheVariants as fault
 use Rattle.sbx_image.specs.declared.order.Next.{Next}
-use Rattle.sbx_image.specs.declared.order.Next.TheVariants.{Exactly, Above}
+use Rattle.sbx_image.specs.declared.order.Next.TheVariants.{Exactly}
 use Rattle.sbx_image.specs.declared.heads.Header.{Header}
 use Rattle.sbx_image.specs.declared.heads.FunctionHead.{FunctionHead}
-use Rattle.sbx_image.specs.declared.heads.BlockHead.{BlockHead}
 use Rattle.sbx_image.specs.declared.parts.Kind.{Kind}
 use Rattle.sbx_image.specs.declared.parts.Kind.TheVariants.{Leaf, Framed}
 use Rattle.sbx_image.specs.declared.parts.Range.{Range}
@@ -20,10 +19,10 @@ use Rattle.sbx_image.specs.declared.parts.Term.{Term}
 use Rattle.sbx_image.specs.declared.parts.Block.{Block}
 use Rattle.sbx_image.specs.declared.parts.Function.{Function}
 use Rattle.sbx_image.specs.declared.parts.Parts.{Parts}
-use Rattle.sbx_image.specs.Rules.{◌>>=◌, wants, between, each, Place, code_start, admits, is_fuel, is_coefficient, is_known, is_data_length, in_order, range_keeps, location_keeps, cell_keeps, term_keeps, block_keeps, ranges_keep, function_keeps, parts_keep}
-use Rattle.sbx_image.specs.Reading.{number_at, number_in, signed_at, bytes_at, items_at, range_at, location_at, cell_at, term_at, block_head_at, block_at, kind_at, function_head_at, function_at, header_at, parts_at, reading}
-use Rattle.sbx_image.specs.Spelling.{IsBytes, IsTyped, IsTypedRange, IsTypedCell, IsTypedTerm, IsTypedBlock, IsTypedFunction, signed, kind_code, range_text, cell_text, term_text, block_text, function_head_text, function_text, header_text, spelling}
-use Rattle.sbx_image.proofs.Fields.{bind_ok, is_between, both_true, ok_is, wants_true, number_reads, number_in_reads, signed_reads, bytes_again, wide8, wide16, wide32, wide64, signed32, signed64}
+use Rattle.sbx_image.specs.Rules.{◌>>=◌, each, Place, code_start, range_keeps, location_keeps, cell_keeps, term_keeps, block_keeps, function_keeps, parts_keep}
+use Rattle.sbx_image.specs.Reading.{number_at, items_at, range_at, location_at, cell_at, term_at, block_head_at, block_at, kind_at, function_head_at, function_at, header_at, parts_at, reading}
+use Rattle.sbx_image.specs.Spelling.{IsTyped, IsTypedRange, IsTypedCell, IsTypedTerm, IsTypedBlock, IsTypedFunction, signed, kind_code, range_text, cell_text, term_text, block_text, function_head_text, function_text, header_text, spelling}
+use Rattle.sbx_image.proofs.Fields.{bind_ok, both_true, ok_is, wants_true, number_reads, number_in_reads, signed_reads, bytes_again, wide8, wide16, wide32, wide64, signed32, signed64}
 use Rattle.sbx_image.proofs.TakesLaws.{head_text, HeadKeeps, counts_text, HeaderKeeps}
 use Rattle.sbx_image.proofs.Limits.{range_kept, location_kept, cell_kept, term_kept, block_kept, function_kept, parts_kept}
 

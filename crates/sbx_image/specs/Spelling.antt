@@ -1,5 +1,5 @@
 -- The one spelling of each image: every number with its most significant byte first, and nothing between the fields.
-use Rattle.std.specs.Prelude.{ℕ, ◌+◌, ◌*◌, ◌<◌, ◌^◌, ℤ, List, [], ◌∷◌, ◌++◌, length, get_or, FitsSigned, All}
+use Rattle.std.specs.Prelude.{ℕ, ◌<◌, ◌^◌, ℤ, List, ◌++◌, length, get_or, FitsSigned, All}
 use Rattle.std.specs.List.{flat_map, AllByRecursion}
 use Rattle.std.specs.Int.{Width, w8, w16, w32, w64, to_be_bytes, cast_unsigned}
 use Rattle.sbx_image.specs.declared.parts.Kind.{Kind}

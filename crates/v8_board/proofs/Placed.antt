@@ -1,5 +1,5 @@
 -- RAM with everything placed in it.
-use Rattle.std.proofs.Common.{◌≡◌, ℕ, ◌+◌, ◌-◌, ◌*◌, ◌/◌, ◌%◌, ◌<◌, ◌≤◌, ◌⊎◌, inl, inr, Bool, true, false, cond, List, length, take, drop, get_or, slice_index, Option, Some, None, refl, sym, ap, ◌∙◌, arith}
+use Rattle.std.proofs.Common.{◌≡◌, ℕ, ◌+◌, ◌*◌, ◌/◌, ◌%◌, ◌<◌, ◌≤◌, inl, inr, Bool, true, false, cond, List, length, take, drop, slice_index, Option, Some, None, refl, sym, ap, ◌∙◌, arith}
 use Rattle.std.specs.Prelude.{◌==◌, ◌&&◌, nat_le, if◌then◌else◌}
 use Rattle.std.specs.Int.{w32, from_be_bytes}
 use Rattle.std.proofs.lemmas.Bool.Decides.{nat_tests}
@@ -8,7 +8,7 @@ use Rattle.std.proofs.lemmas.Grind.{same_number_lists}
 use Rattle.sbx_image.specs.declared.parts.Parts.{Parts}
 use Rattle.v8_mmu.specs.Ram.{entry_of}
 use Rattle.v8_handlers.specs.Handlers.{trap_word, handler_word}
-use Rattle.v8_layout.specs.Layout.{Pages, AreFew, HasTables, IsLoaded}
+use Rattle.v8_layout.specs.Layout.{AreFew, HasTables, IsLoaded}
 use Rattle.v8_layout.specs.Laws.{IsMapped}
 use Rattle.v8_layout.specs.Tables.{table_word}
 use Rattle.v8_layout.proofs.Map.{tables_map}

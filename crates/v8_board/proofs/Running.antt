@@ -1,5 +1,5 @@
 -- Turns of a board, one after the other.
-use Rattle.std.proofs.Common.{◌≡◌, ℕ, zero, suc, ◌+◌, ◌<◌, ◌≤◌, ◌⊎◌, inl, inr, Bool, true, false, Option, Some, None, IsSome, refl, sym, ap, subst, ◌∙◌, arith}
+use Rattle.std.proofs.Common.{◌≡◌, ℕ, suc, ◌+◌, ◌<◌, ◌≤◌, ◌⊎◌, inl, inr, None, refl, sym, ap, subst, ◌∙◌, arith}
 use Rattle.v8_core.specs.declared.turn.Turn.{Turn}
 use Rattle.v8_board.specs.Seen.{State, ending_of, turned}
 use Rattle.v8_board.specs.Runs.{Turns, IsRun, after}

@@ -1,5 +1,5 @@
 -- What a board is seen as: its processor, RAM and device, the MMU's registers, and the counts of its run.
-use Rattle.std.specs.Prelude.{ℕ, Bool, true, false, List, Option, Some, None}
+use Rattle.std.specs.Prelude.{ℕ, List, Option, Some, None}
 use Rattle.v8_mmu.specs.declared.bus.Stop.{Stop}
 use Rattle.v8_mmu.specs.declared.bus.Stop.TheVariants as stops
 use Rattle.v8_mmu.specs.declared.translation.MmuRegs.{MmuRegs}

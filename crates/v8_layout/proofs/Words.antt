@@ -1,11 +1,11 @@
 -- RAM whose words are those of the page tables has the tables.
-use Rattle.std.proofs.Common.{◌≡◌, ℕ, ◌+◌, ◌-◌, ◌*◌, ◌/◌, ◌%◌, ◌<◌, ◌≤◌, Bool, true, false, cond, List, length, Option, Some, None, refl, sym, ap, ◌∙◌, arith}
-use Rattle.std.specs.Prelude.{◌==◌, ◌&&◌, nat_le, nat_lt, if◌then◌else◌}
+use Rattle.std.proofs.Common.{◌≡◌, ℕ, ◌+◌, ◌-◌, ◌*◌, ◌/◌, ◌%◌, ◌<◌, ◌≤◌, Bool, true, false, cond, List, length, Some, refl, ap, ◌∙◌, arith}
+use Rattle.std.specs.Prelude.{◌==◌, ◌&&◌, nat_le, nat_lt}
 use Rattle.std.proofs.lemmas.Bool.Decides.{nat_tests}
 use Rattle.v8_mmu.specs.Ram.{entry_of}
-use Rattle.v8_layout.specs.Layout.{Pages, AreFew, HasTables, HasEntry, unmarked, region_entry, program_entry, system_region_entry, code_entry, data_entry, stack_entry, system_entry}
+use Rattle.v8_layout.specs.Layout.{Pages, HasTables, HasEntry, unmarked, region_entry, program_entry, system_region_entry, code_entry, data_entry, stack_entry, system_entry}
 use Rattle.v8_layout.specs.Tables.{table_word}
-use Rattle.v8_layout.proofs.Entries.{PageEntry, entry_back}
+use Rattle.v8_layout.proofs.Entries.{entry_back}
 
 beyond : (k a i : ℕ) → k ≡ a + i → k - a ≡ i
 beyond k a i e = omega arith

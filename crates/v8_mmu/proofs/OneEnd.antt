@@ -1,9 +1,9 @@
 -- A walk has one end.
-use Rattle.std.proofs.Common.{◌≡◌, ℕ, zero, suc, ◌+◌, ◌-◌, ◌%◌, ◌≤◌, List, Option, Some, None, IsSomeAnd, Result, Ok, Err, refl, sym, ap, ◌∙◌, subst, arith}
+use Rattle.std.proofs.Common.{◌≡◌, ℕ, zero, suc, ◌+◌, ◌%◌, ◌≤◌, List, Option, Some, None, IsSomeAnd, Result, Ok, Err, sym, ap, ◌∙◌, subst, arith}
 use Rattle.std.specs.Prelude.{slice_index}
 use Rattle.v8_mmu.specs.Ram.{entry_of}
 use Rattle.v8_mmu.specs.Paths.{LeadsDown, Names, Translates, Faults, named_place}
-use Rattle.v8_mmu.specs.Walked.{Page, walked, page_of}
+use Rattle.v8_mmu.specs.Walked.{Page, page_of}
 use Rattle.v8_mmu.specs.Laws.{SamePath}
 use Rattle.v8_mmu.specs.declared.access.Access.{Access}
 use Rattle.v8_mmu.specs.declared.translation.Found.{Found}

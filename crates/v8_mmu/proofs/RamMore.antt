@@ -1,16 +1,14 @@
 -- RAM after a write of a word elsewhere, and what a mark leaves.
-use Rattle.std.proofs.Common.{◌≡◌, ℕ, ◌+◌, ◌-◌, ◌/◌, ◌%◌, ◌^◌, ◌<◌, ◌≤◌, ◌⊎◌, inl, inr, Bool, true, false, List, ◌++◌, length, take, drop, get_or, Option, Some, None, refl, sym, ap, ◌∙◌, arith}
+use Rattle.std.proofs.Common.{◌≡◌, ℕ, ◌+◌, ◌-◌, ◌/◌, ◌%◌, ◌^◌, ◌<◌, ◌≤◌, ◌⊎◌, inl, inr, Bool, true, false, List, ◌++◌, length, take, drop, Option, Some, None, refl, sym, ap, ◌∙◌, arith}
 use Rattle.std.specs.Int.{w32, from_be_bytes, to_be_bytes}
-use Rattle.std.specs.Prelude.{◌==◌, ◌&&◌, nat_le, nat_lt, bit_or, slice_index, if◌then◌else◌}
-use Rattle.std.proofs.lemmas.List.{take-take, drop-take, take-append-le, drop-append-le, length-take-le, length-append, append_assoc, length-drop, length-take, get_or_append_left, get_or-append_right, get_or-take, get_or-drop}
+use Rattle.std.specs.Prelude.{◌==◌, ◌&&◌, nat_le, bit_or, slice_index, if◌then◌else◌}
+use Rattle.std.proofs.lemmas.List.{take-take, drop-take, take-append-le, drop-append-le, length-take-le, length-append, append_assoc, length-drop, get_or_append_left, get_or-append_right, get_or-take, get_or-drop}
 use Rattle.std.proofs.lemmas.Slice.{drop-append-drop}
-use Rattle.std.proofs.lemmas.Nat.{or_shr, or_mod, or_comm, or_lt}
-use Rattle.std.proofs.lemmas.Grind.{common_steps}
-use Rattle.std.proofs.lemmas.Bool.Decides.{nat_tests}
+use Rattle.std.proofs.lemmas.Nat.{or_shr, or_mod, or_comm}
 use Rattle.v8_mmu.specs.Ram.{entry_of, with_entry}
 use Rattle.v8_mmu.specs.Paths.{marked, marked_ram}
 use Rattle.v8_mmu.specs.Laws.{Marks}
-use Rattle.v8_mmu.proofs.RamLemmas.{Within, entry_is, within_entry, length-with_entry, entry_of-with_entry, length-marked_ram}
+use Rattle.v8_mmu.proofs.RamLemmas.{Within, entry_is, length-with_entry, entry_of-with_entry, length-marked_ram}
 
 four_before : (at p : ℕ) (ram rest : List ℕ) → at ≤ length ram → p + 4 ≤ at → take 4 (drop p (take at ram ++ rest)) ≡ take 4 (drop p ram)
 four_before at p ram rest there before =

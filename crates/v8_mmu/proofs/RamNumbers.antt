@@ -1,17 +1,17 @@
 -- Numbers of each size in RAM: what a store of one leaves.
-use Rattle.std.proofs.Common.{◌≡◌, ℕ, zero, suc, ◌+◌, ◌-◌, ◌*◌, ◌/◌, ◌%◌, ◌^◌, ◌<◌, ◌≤◌, ◌⊎◌, inl, inr, Bool, true, false, cond, List, [], ◌∷◌, ◌++◌, length, take, drop, get_or, Option, Some, None, refl, sym, ap, ◌∙◌, arith}
-use Rattle.std.specs.Int.{w16, w32, from_be_bytes, to_be_bytes}
-use Rattle.std.specs.Prelude.{◌==◌, ◌&&◌, nat_le, nat_lt, slice_index, if◌then◌else◌}
-use Rattle.std.proofs.lemmas.List.{take_at, drop_at, length-take-le, length-append, append_assoc, length-drop}
+use Rattle.std.proofs.Common.{◌≡◌, ℕ, ◌+◌, ◌-◌, ◌*◌, ◌/◌, ◌%◌, ◌^◌, ◌<◌, ◌≤◌, ◌⊎◌, inl, inr, Bool, true, false, List, [], ◌∷◌, ◌++◌, length, take, drop, Option, Some, None, refl, ap, ◌∙◌, arith}
+use Rattle.std.specs.Int.{w16, from_be_bytes, to_be_bytes}
+use Rattle.std.specs.Prelude.{◌==◌, slice_index, if◌then◌else◌}
+use Rattle.std.proofs.lemmas.List.{drop_at, length-take-le, append_assoc}
 use Rattle.std.proofs.lemmas.Nat.{from_be_bytes-to_be_bytes_2}
 use Rattle.std.proofs.lemmas.Grind.{common_steps}
 use Rattle.std.proofs.lemmas.Bool.Decides.{nat_tests}
 use Rattle.v8_word.specs.declared.Size.{Size}
 use Rattle.v8_word.specs.declared.Size.TheVariants.{Byte, Half, Word, Double}
 use Rattle.v8_mmu.specs.Meaning.{limit_of}
-use Rattle.v8_mmu.specs.Ram.{entry_of, with_entry, half_of, with_half, byte_of, with_byte, joined, double_of, with_double, number_at, with_number}
-use Rattle.v8_mmu.specs.Laws.{Stores, bytes_in}
-use Rattle.v8_mmu.proofs.RamLemmas.{Within, entry_is, within_entry, length-with_entry, entry_of-with_entry}
+use Rattle.v8_mmu.specs.Ram.{entry_of, with_entry, half_of, with_half, byte_of, with_byte, joined, double_of, with_double, number_at}
+use Rattle.v8_mmu.specs.Laws.{Stores}
+use Rattle.v8_mmu.proofs.RamLemmas.{Within, entry_is, length-with_entry, entry_of-with_entry}
 use Rattle.v8_mmu.proofs.RamMore.{entry_elsewhere, byte_elsewhere, byte_among, byte_beside_entry}
 
 -- ---- halfwords

@@ -1,14 +1,13 @@
 -- The bytes of an array of words.
-use Rattle.std.proofs.Common.{◌≡◌, ◌≢◌, ℕ, zero, suc, ◌+◌, ◌-◌, ◌*◌, ◌/◌, ◌%◌, ◌^◌, ◌<◌, ◌≤◌, ◌⊎◌, inl, inr, Bool, true, false, cond, List, [], ◌∷◌, ◌++◌, length, take, drop, get_or, Option, Some, None, IsSome, refl, sym, ap, ◌∙◌, arith, lit<}
-use Rattle.std.specs.Prelude.{slice_index, slice_set, ◌==◌, ◌&&◌, nat_le, nat_lt, if◌then◌else◌}
+use Rattle.std.proofs.Common.{◌≡◌, ◌≢◌, ℕ, zero, suc, ◌+◌, ◌*◌, ◌/◌, ◌%◌, ◌^◌, ◌<◌, ◌≤◌, true, false, List, [], ◌∷◌, ◌++◌, length, take, drop, Option, Some, None, IsSome, refl, sym, ap, ◌∙◌, arith, lit<}
+use Rattle.std.specs.Prelude.{slice_index, slice_set, nat_le}
 use Rattle.std.specs.Int.{w32, from_be_bytes, to_be_bytes}
 use Rattle.std.proofs.lemmas.Bool.Decides.{nat_tests}
-use Rattle.std.proofs.lemmas.List.{take_at, drop_at, drop-drop, drop_more, length-append, length-drop, length-take, append_assoc, take-append-drop, length-take-le, set_split}
+use Rattle.std.proofs.lemmas.List.{take_at, drop_at, drop_more, length-append, append_assoc, take-append-drop, length-take-le, set_split}
 use Rattle.std.proofs.lemmas.Nat.{from_be_bytes-to_be_bytes_4}
-use Rattle.std.proofs.lemmas.Grind.{common_steps}
 use Rattle.v8_mmu.specs.Ram.{entry_of, with_entry, HasBytes}
 use Rattle.v8_mmu.specs.WordBus.{bytes_of}
-use Rattle.v8_mmu.proofs.RamLemmas.{Within, within_entry, entry_is}
+use Rattle.v8_mmu.proofs.RamLemmas.{within_entry, entry_is}
 
 four : (w : ℕ) → length (to_be_bytes w32 w) ≡ 4
 four w = refl

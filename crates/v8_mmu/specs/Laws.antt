@@ -1,5 +1,5 @@
 -- Laws of paths, marks and RAM.
-use Rattle.std.specs.Prelude.{ℕ, ◌≡◌, ◌⊎◌, ◌<◌, ◌≤◌, ◌+◌, ◌/◌, ◌%◌, ◌^◌, Bool, List, length, slice_index, Option, Some, if◌then◌else◌}
+use Rattle.std.specs.Prelude.{ℕ, ◌≡◌, ◌⊎◌, ◌<◌, ◌≤◌, ◌+◌, ◌/◌, ◌%◌, ◌^◌, Bool, List, length, slice_index, Some, if◌then◌else◌}
 use Rattle.v8_word.specs.declared.Size.{Size}
 use Rattle.v8_word.specs.declared.Size.TheVariants.{Byte, Half, Word, Double}
 use Rattle.v8_mmu.specs.Meaning.{limit_of}

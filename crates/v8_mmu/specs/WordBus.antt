@@ -1,5 +1,5 @@
 -- A bus over an array of words, as the tests have it: RAM alone, whose words are reached as words.
-use Rattle.std.specs.Prelude.{ℕ, List, [], ◌∷◌, ◌++◌, Option, Some, None}
+use Rattle.std.specs.Prelude.{ℕ, List, [], ◌∷◌, ◌++◌, Option, None}
 use Rattle.std.specs.Int.{w32, to_be_bytes}
 use Rattle.std.specs.Option.{option_map}
 use Rattle.v8_word.specs.declared.Size.{Size}

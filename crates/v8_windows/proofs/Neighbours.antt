@@ -1,6 +1,5 @@
 use Rattle.std.proofs.Common.{◌≡◌, ◌≢◌, ℕ, zero, suc, ◌+◌, ◌-◌, ◌*◌, ◌%◌, ◌<◌, ◌≤◌, refl, sym, ap, ◌∙◌, arith}
 use Rattle.std.proofs.Math.Nat.{mod-eq_of_lt, add-mul-mod_self_left}
-use Rattle.v8_windows.specs.Windows.{below, above}
 
 -- the window below the first one is the last one
 pub below_first : (n : ℕ) → 4 ≤ n → (0 + n - 1) % n ≡ n - 1

@@ -1,4 +1,4 @@
-use Rattle.std.proofs.Common.{◌≡◌, Ok, Err}
+use Rattle.std.proofs.Common.{Ok, Err}
 use Rattle.std.proofs.lemmas.Result.{err_from_is_err_and}
 use Rattle.sbx_image.specs.Rules.{each, block_keeps}
 use Rattle.sbx_image.specs.declared.order.Next.TheVariants.{Exactly}

@@ -1,7 +1,6 @@
-use Rattle.std.proofs.Common.{◌≡◌, Ok, Err}
 use Rattle.std.proofs.lemmas.Result.{err_from_is_err_and}
 use Rattle.sbx_image.specs.Rules.{each, cell_keeps}
-use Rattle.sbx_image.proofs.Eaches.{at_item, goes_on, fails, is_done}
+use Rattle.sbx_image.proofs.Eaches.{goes_on, fails, is_done}
 use Rattle.sbx_image.proofs.checking.check_cells.Goals as goal
 
 pub returns-in_err-last : goal.returns-in_err-last

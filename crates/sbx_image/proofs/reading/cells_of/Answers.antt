@@ -1,4 +1,3 @@
-use Rattle.std.proofs.Common.{◌≡◌, ◌++◌, ◌∷◌, []}
 use Rattle.std.proofs.lemmas.Result.{err_from_is_err_and}
 use Rattle.sbx_image.specs.Reading.{cell_at, items_at}
 use Rattle.sbx_image.proofs.Loops.{goes_on, ends, is_done}

@@ -1,5 +1,5 @@
 use Rattle.std.proofs.Common.{◌≡◌, ◌++◌, length}
-use Rattle.std.specs.Int.{w8, w16, w32, w64, to_be_bytes}
+use Rattle.std.specs.Int.{w16, w32, w64, to_be_bytes}
 use Rattle.std.specs.List.{flat_map}
 use Rattle.sbx_image.specs.Spelling.{signed, cell_text, term_text, block_text}
 use Rattle.std.specs.Prelude.{FitsSigned}

@@ -1,6 +1,6 @@
-use Rattle.std.proofs.Common.{◌≡◌, ◌++◌, length}
+use Rattle.std.proofs.Common.{◌≡◌, ◌++◌}
 use Rattle.std.specs.Int.{w8, w16, w32, w64, to_be_bytes}
-use Rattle.sbx_image.specs.Spelling.{kind_code, function_head_text}
+use Rattle.sbx_image.specs.Spelling.{function_head_text}
 use Rattle.sbx_image.proofs.Appends.{then_put, on_ok}
 use Rattle.sbx_image.proofs.writing.put_function_head.Goals as goal
 

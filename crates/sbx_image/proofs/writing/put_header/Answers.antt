@@ -1,5 +1,5 @@
-use Rattle.std.proofs.Common.{◌≡◌, ◌++◌, length}
-use Rattle.std.specs.Int.{w8, w16, w32, w64, to_be_bytes}
+use Rattle.std.proofs.Common.{◌≡◌, ◌++◌}
+use Rattle.std.specs.Int.{w16, w32, to_be_bytes}
 use Rattle.sbx_image.specs.Spelling.{header_text}
 use Rattle.sbx_image.proofs.Appends.{then_put, on_ok}
 use Rattle.sbx_image.proofs.writing.put_header.Goals as goal

@@ -1,5 +1,4 @@
-use Rattle.std.proofs.Common.{◌≡◌, ◌<◌, ◌^◌, refl, ◌∙◌, arith, lit<}
-use Rattle.v8_board.specs.Marks.{marks}
+use Rattle.std.proofs.Common.{◌∙◌, lit<}
 use Rattle.v8_board.proofs.MarkSums.{one_mark_more, no_marks}
 use Rattle.v8_board.proofs.page_use.marks.Goals as goal
 

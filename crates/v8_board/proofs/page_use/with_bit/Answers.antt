@@ -1,4 +1,4 @@
-use Rattle.std.proofs.Common.{◌≡◌, ◌<◌, ◌+◌, ◌*◌, ◌^◌, ◌%◌, ap, sym, subst, ◌∙◌, arith}
+use Rattle.std.proofs.Common.{◌<◌, ◌+◌, ◌^◌, ap, sym, subst, arith}
 use Rattle.v8_board.proofs.MarkSums.{shifted, sum_fits, sum_bound}
 use Rattle.v8_board.proofs.page_use.with_bit.Goals as goal
 

@@ -1,4 +1,4 @@
-use Rattle.std.proofs.Common.{◌≡◌, ℕ, ◌*◌, List, ap, sym, subst, ◌∙◌}
+use Rattle.std.proofs.Common.{ℕ, ◌*◌, List, ap, sym, subst, ◌∙◌}
 use Rattle.v8_layout.specs.Layout.{Pages}
 use Rattle.v8_layout.specs.Tables.{table_word}
 use Rattle.v8_memory.specs.Placing.{HasWords, HasBytesOf}

@@ -1,4 +1,4 @@
-use Rattle.std.proofs.Common.{◌≡◌, Some, None, Option, sym, ap, ◌∙◌, arith}
+use Rattle.std.proofs.Common.{sym, ◌∙◌, arith}
 use Rattle.v8_board.proofs.Running.{no_turns, one_turn_more, ended_run, whole_run}
 use Rattle.v8_board.proofs.board.Board.run.Goals as goal
 

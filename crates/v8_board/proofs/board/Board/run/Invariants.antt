@@ -1,5 +1,4 @@
-use Rattle.std.proofs.Common.{◌≡◌, ◌≤◌}
-use Rattle.v8_board.specs.Runs.{Turns}
+use Rattle.std.proofs.Common.{◌≤◌}
 use Rattle.v8_board.proofs.Running.{Counted}
 use Rattle.v8_board.proofs.board.Board.run.Given as goal
 
