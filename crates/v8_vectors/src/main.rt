@@ -1,16 +1,145 @@
 //! Compares results and words with those of other tools, a line each on standard input: prints each line that differs,
-//! and how many agree. What the stored lines are, and which tools gave them, is told at `results` and `words`.
+//! and how many agree. Which tools gave them is told at `results` and `words`.
+//!
+//! A line with a tab has words in hexadecimal before it, and the statement that they were made of behind it. Any other is
+//! `op a b icc y value icc y`: the operation, its operands, the codes and Y before it, and the value, the codes and Y after
+//! it, in hexadecimal; codes are one digit, N 8, Z 4, V 2, C 1.
 #![tactic(auto)]
+
+ghost use Rattle.std.specs.Prelude.{◌≡◌, ◌^◌, ◌<◌, ◌≤◌, ◌↔◌, IfOk, IfSome, IsNone, IsTrue, MatchOption};
+ghost use Rattle.std.specs.Option.{SomeIff};
+ghost use Rattle.std.specs.Str.Parse.{IsNumeral, digits_value};
+ghost use Rattle.v8_vectors.specs.Pieces.{ArePieces, AreSpelledAgain, AreWords, digit_of};
 
 mod results;
 mod words;
 
+use results::{Case, Operation};
+use std::alloc::{AllocError, Global};
 use std::io;
+use v8_alu::{AluOut, Division, Op, TaggedOp};
+use v8_word::{Icc, flag_at};
+use words::is_spelled_again;
 
-fn agrees(line: &str) -> Option<bool> {
+/// The word that a text spells by hexadecimal digits alone; none where it has more than 32 bits.
+fn hexadecimal(text: &str) -> Option<u32>
+    ensures { SomeIff result (IsNumeral 16 text.now × (digits_value 16 text.now < 2 ^ 32))
+        (digits_value 16 text.now) }
+{
+    if text.as_bytes().first() == Some(&b'+') {
+        return None;
+    }
+    u32::from_str_radix(text, 16).ok()
+}
+
+/// The condition codes that a digit spells.
+#[tactic(auto, using(crate::proofs::Readings::digit_of_flags))]
+fn codes(digit: u32) -> Option<Icc>
+    ensures { MatchOption result (16 ≤ digit) (λ icc. digit_of icc ≡ digit) }
+{
+    (digit < 16).then_some(Icc {
+        n: flag_at(digit, 3),
+        z: flag_at(digit, 2),
+        v: flag_at(digit, 1),
+        c: flag_at(digit, 0),
+    })
+}
+
+fn plain(name: &str) -> Option<Op> {
+    Some(match name {
+        "add" => Op::Add,
+        "addcc" => Op::AddCc,
+        "addx" => Op::Addx,
+        "addxcc" => Op::AddxCc,
+        "sub" => Op::Sub,
+        "subcc" => Op::SubCc,
+        "subx" => Op::Subx,
+        "subxcc" => Op::SubxCc,
+        "and" => Op::And,
+        "andcc" => Op::AndCc,
+        "andn" => Op::Andn,
+        "andncc" => Op::AndnCc,
+        "or" => Op::Or,
+        "orcc" => Op::OrCc,
+        "orn" => Op::Orn,
+        "orncc" => Op::OrnCc,
+        "xor" => Op::Xor,
+        "xorcc" => Op::XorCc,
+        "xnor" => Op::Xnor,
+        "xnorcc" => Op::XnorCc,
+        "sll" => Op::Sll,
+        "srl" => Op::Srl,
+        "sra" => Op::Sra,
+        "umul" => Op::Umul,
+        "umulcc" => Op::UmulCc,
+        "smul" => Op::Smul,
+        "smulcc" => Op::SmulCc,
+        "mulscc" => Op::MulsCc,
+        _ => return None,
+    })
+}
+
+fn operation(name: &str) -> Option<Operation> {
+    Some(match name {
+        "udiv" => Operation::Quotient(Division::Udiv),
+        "udivcc" => Operation::Quotient(Division::UdivCc),
+        "sdiv" => Operation::Quotient(Division::Sdiv),
+        "sdivcc" => Operation::Quotient(Division::SdivCc),
+        "taddcc" => Operation::Tagged(TaggedOp::TaggedAdd),
+        "tsubcc" => Operation::Tagged(TaggedOp::TaggedSub),
+        _ => Operation::Plain(plain(name)?),
+    })
+}
+
+/// The case of a line's eight fields; none if they aren't read.
+fn case_of(fields: &[&str]) -> Option<Case> {
+    let [name, a, b, icc, y, value, icc_after, y_after] = fields else {
+        return None;
+    };
+    Some(Case {
+        operation: operation(name)?,
+        a: hexadecimal(a)?,
+        b: hexadecimal(b)?,
+        icc: codes(hexadecimal(icc)?)?,
+        y: hexadecimal(y)?,
+        there: AluOut {
+            value: hexadecimal(value)?,
+            icc: codes(hexadecimal(icc_after)?)?,
+            y: hexadecimal(y_after)?,
+        },
+    })
+}
+
+/// Whether each word is an instruction that is spelled so; none if one isn't read, or there is none.
+fn words_agree(words: &[&str]) -> Option<bool>
+    ensures none { IsNone result ↔ ¬ AreWords words.now }
+    ensures some { IfSome result (λ all. IsTrue all ↔ AreSpelledAgain words.now) }
+{
+    if words.is_empty() {
+        return None;
+    }
+    let mut all = true;
+    for text in words {
+        all &= is_spelled_again(hexadecimal(text)?);
+    }
+    Some(all)
+}
+
+/// The pieces of a text between white space.
+fn pieces(alloc: Global, text: &str) -> Result<Vec<&str>, AllocError>
+    ensures { IfOk result (λ found. ArePieces text.now found.items) }
+{
+    let mut found = Vec::new(alloc);
+    for piece in text.split_whitespace() {
+        found.push(piece)?;
+    }
+    Ok(found)
+}
+
+fn agrees(alloc: Global, line: &str) -> Result<Option<bool>, AllocError> {
     match line.split_once('\t') {
-        Some((spelled, _)) => words::agree(spelled),
-        None => results::agrees(line),
+        Some((spelled, _)) => Ok(words_agree(&pieces(alloc, spelled)?)),
+        None => Ok(case_of(&pieces(alloc, line)?).map(|case| case.holds())),
     }
 }
 
@@ -20,7 +149,7 @@ fn main(rt: HostRuntime) -> io::Result<()> {
     for line in rt.lines(rt.alloc()) {
         let line = line?;
         lines = lines.saturating_add(1);
-        match agrees(line.as_str()) {
+        match agrees(rt.alloc(), line.as_str())? {
             Some(true) => agreed = agreed.saturating_add(1),
             Some(false) => println!(rt; "differs: {line}")?,
             None => println!(rt; "not read: {line}")?,

@@ -1,103 +1,78 @@
 //! Results of qemu-sparc (QEMU 7.2, user mode), by programs that set the condition codes and Y, run one instruction, and
-//! print what it left. A line is `op a b icc y value icc y`: the operation, its operands, the codes and Y before it, and the
-//! value, the codes and Y after it, in hexadecimal; codes are one digit, N 8, Z 4, V 2, C 1.
+//! print what it left.
+ghost use Rattle.std.specs.Prelude.{◌≡◌, IsTrue, ◌↔◌};
+ghost use Rattle.v8_vectors.specs.Agreement.{Holds, IsGivenBy, IsGivenUnlessOverflow, IsQuotientOf, unless_overflow, untrapped};
+
 use v8_alu::{AluOut, Division, Op, TaggedOp, alu, divide, tagged_tv};
 use v8_word::Icc;
 
-/// The number of hexadecimal digits, modulo 2^32.
-pub fn hexadecimal(text: &str) -> Option<u32> {
-    let mut value = 0u32;
-    for letter in text.chars() {
-        value = value.wrapping_mul(16).wrapping_add(letter.to_digit(16)?);
-    }
-    Some(value)
+/// What was run. A tagged operation is one that doesn't trap; the form that traps has the same result where the overflow
+/// flag stays clear (appendix B, "Tagged Add Instructions").
+#[derive(Clone, Copy)]
+pub enum Operation {
+    Plain(Op),
+    Quotient(Division),
+    Tagged(TaggedOp),
 }
 
-fn codes(digit: u32) -> Icc {
-    Icc {
-        n: digit & 8 != 0,
-        z: digit & 4 != 0,
-        v: digit & 2 != 0,
-        c: digit & 1 != 0,
-    }
+/// One instruction run there: its operands, the codes and Y before it, and the value, codes and Y after it.
+#[derive(Clone, Copy)]
+pub struct Case {
+    pub operation: Operation,
+    pub a: u32,
+    pub b: u32,
+    pub icc: Icc,
+    pub y: u32,
+    pub there: AluOut,
 }
 
-fn operation(name: &str) -> Option<Op> {
-    Some(match name {
-        "add" => Op::Add,
-        "addcc" => Op::AddCc,
-        "addx" => Op::Addx,
-        "addxcc" => Op::AddxCc,
-        "sub" => Op::Sub,
-        "subcc" => Op::SubCc,
-        "subx" => Op::Subx,
-        "subxcc" => Op::SubxCc,
-        "and" => Op::And,
-        "andcc" => Op::AndCc,
-        "andn" => Op::Andn,
-        "andncc" => Op::AndnCc,
-        "or" => Op::Or,
-        "orcc" => Op::OrCc,
-        "orn" => Op::Orn,
-        "orncc" => Op::OrnCc,
-        "xor" => Op::Xor,
-        "xorcc" => Op::XorCc,
-        "xnor" => Op::Xnor,
-        "xnorcc" => Op::XnorCc,
-        "sll" => Op::Sll,
-        "srl" => Op::Srl,
-        "sra" => Op::Sra,
-        "umul" => Op::Umul,
-        "umulcc" => Op::UmulCc,
-        "smul" => Op::Smul,
-        "smulcc" => Op::SmulCc,
-        "taddcc" => Op::TaddCc,
-        "tsubcc" => Op::TsubCc,
-        "mulscc" => Op::MulsCc,
-        _ => return None,
-    })
-}
-
-fn division(name: &str) -> Option<Division> {
-    Some(match name {
-        "udiv" => Division::Udiv,
-        "udivcc" => Division::UdivCc,
-        "sdiv" => Division::Sdiv,
-        "sdivcc" => Division::SdivCc,
-        _ => return None,
-    })
-}
-
-/// The trapping form of a tagged operation, which has the same result where the overflow flag stays clear.
-fn trapping(name: &str) -> Option<TaggedOp> {
-    match name {
-        "taddcc" => Some(TaggedOp::TaggedAdd),
-        "tsubcc" => Some(TaggedOp::TaggedSub),
-        _ => None,
+/// The operation that has the result of a tagged operation and never traps.
+fn untrapped(op: TaggedOp) -> Op
+    ensures { result ≡ untrapped op }
+{
+    match op {
+        TaggedOp::TaggedAdd => Op::TaddCc,
+        TaggedOp::TaggedSub => Op::TsubCc,
     }
 }
 
-/// Whether the line's operation gives here what it gave there; none if the line isn't read.
-pub fn agrees(line: &str) -> Option<bool> {
-    let mut fields = line.split_whitespace();
-    let name = fields.next()?;
-    let a = hexadecimal(fields.next()?)?;
-    let b = hexadecimal(fields.next()?)?;
-    let icc = codes(hexadecimal(fields.next()?)?);
-    let y = hexadecimal(fields.next()?)?;
-    let there = AluOut {
-        value: hexadecimal(fields.next()?)?,
-        icc: codes(hexadecimal(fields.next()?)?),
-        y: hexadecimal(fields.next()?)?,
-    };
-    if let Some(op) = division(name) {
-        return Some(divide(op, a, b, icc, y) == Some(there));
+/// What a trapping form has to give where its operation gives this: nothing at an overflow.
+fn unless_overflow(out: AluOut) -> Option<AluOut>
+    ensures { result ≡ unless_overflow out }
+{
+    if out.icc.v { None } else { Some(out) }
+}
+
+impl Case {
+    fn is_given_by(&self, op: Op) -> bool
+        ensures { IsTrue result ↔ IsGivenBy op self.now }
+    {
+        alu(op, self.a, self.b, self.icc, self.y) == self.there
     }
-    if let Some(op) = trapping(name) {
-        let here = tagged_tv(op, a, b, icc, y);
-        if here != if there.icc.v { None } else { Some(there) } {
-            return Some(false);
+
+    fn is_quotient_of(&self, op: Division) -> bool
+        ensures { IsTrue result ↔ IsQuotientOf op self.now }
+    {
+        divide(op, self.a, self.b, self.icc, self.y) == Some(self.there)
+    }
+
+    fn is_given_unless_overflow(&self, op: TaggedOp) -> bool
+        ensures { IsTrue result ↔ IsGivenUnlessOverflow op self.now }
+    {
+        tagged_tv(op, self.a, self.b, self.icc, self.y) == unless_overflow(self.there)
+    }
+
+    /// Whether the operation gives here what it gave there: value, codes and Y. A division has to have a quotient, and the
+    /// trapping form of a tagged operation this result, or none at an overflow.
+    pub fn holds(&self) -> bool
+        ensures { IsTrue result ↔ Holds self.now.operation self.now }
+    {
+        match self.operation {
+            Operation::Plain(op) => self.is_given_by(op),
+            Operation::Quotient(op) => self.is_quotient_of(op),
+            Operation::Tagged(op) => {
+                self.is_given_by(untrapped(op)) && self.is_given_unless_overflow(op)
+            }
         }
     }
-    Some(alu(operation(name)?, a, b, icc, y) == there)
 }

@@ -1,0 +1,2 @@
+mod Splits
+mod Readings

@@ -1,0 +1,7 @@
+use Rattle.std.proofs.Common.{arith}
+use Rattle.v8_vectors.proofs.Readings.{words_next}
+use Rattle.v8_vectors.proofs.words_agree.Goals as goal
+
+pub loop-text-preserved : goal.loop-text-preserved
+loop-text-preserved c =
+    words_next c.args.words.now c.loop-text.text-index _ _ c.loop-text.all _ (omega arith) c.loop-text.invariant c.in_ok-hexadecimal.ensures c.is_spelled_again.ensures
