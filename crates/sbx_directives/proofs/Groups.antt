@@ -1,12 +1,12 @@
 -- The first group of tokens, up to a comma or the end, and what follows it.
-use Rattle.std.proofs.Common.{◌≡◌, ℕ, suc, ◌+◌, Bool, true, false, cond, List, [], ◌∷◌, take, drop, map, refl, sym, ap, ◌∙◌, arith}
+use Rattle.std.proofs.Common.{◌≡◌, ℕ, suc, ◌+◌, Bool, true, false, List, [], ◌∷◌, take, drop, map, refl, arith}
 use Rattle.std.specs.Prelude.{not}
 use Rattle.std.specs.List.{prefix_len}
 use Rattle.sbx_text.specs.declared.Token.{Token}
 use Rattle.sbx_directives.specs.declared.word.Word.{Word}
 use Rattle.sbx_directives.specs.declared.operand.Operand.{Operand}
 use Rattle.sbx_directives.specs.Lines.{word_of, words_of, is_sign}
-use Rattle.sbx_directives.specs.Operands.{groups, led_by, operand_of, behind}
+use Rattle.sbx_directives.specs.Operands.{groups, operand_of, behind}
 
 -- the groups behind a first token
 abbrev behind_groups : List ℕ → List Token → List (List Word)

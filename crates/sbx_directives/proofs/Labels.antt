@@ -1,5 +1,5 @@
 -- How many labels come first, where two tokens are taken or none are.
-use Rattle.std.proofs.Common.{◌≡◌, ℕ, suc, ◌+◌, Bool, true, false, cond, List, [], ◌∷◌, drop, refl, sym, ap, ◌∙◌, arith}
+use Rattle.std.proofs.Common.{◌≡◌, ℕ, suc, Bool, true, false, cond, List, [], ◌∷◌, drop, refl, sym}
 use Rattle.std.proofs.lemmas.Bool.{false≢true}
 use Rattle.sbx_text.specs.declared.Token.{Token}
 use Rattle.sbx_directives.specs.Lines.{words_of, word_of, is_label, begins_with_label, labels_first}

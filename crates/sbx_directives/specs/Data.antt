@@ -1,10 +1,9 @@
 -- The values of a data directive as bytes.
 use Rattle.std.specs.Prelude.{◌≡◌, ◌≢◌, ℕ, ◌-◌, Bool, false, not, if◌then◌else◌, ℤ, pos, negsuc, ◌+ℤ◌, neg_ℤ, List, [], ◌++◌, drop, Option, Some, None, Result, Ok, Err, MatchResult}
-use Rattle.std.specs.List.{flat_map, list_any, list_all}
+use Rattle.std.specs.List.{flat_map, list_all}
 use Rattle.std.specs.Int.{w8, w16, w32, to_be_bytes}
 use Rattle.std.specs.Option.{is_some, is_none}
 use Rattle.sbx_text.specs.declared.Token.{Token}
-use Rattle.sbx_directives.specs.declared.directive.Name.{Name}
 use Rattle.sbx_directives.specs.declared.directive.Width.{Width}
 use Rattle.sbx_directives.specs.declared.directive.Width.TheVariants as widths
 use Rattle.sbx_directives.specs.declared.fault.DataFault.{DataFault}

@@ -1,5 +1,5 @@
 -- The directives and annotations: their names, the operands of each, and what stands behind the labels of a line.
-use Rattle.std.specs.Prelude.{ℕ, ◌+◌, ◌==◌, Bool, true, false, ◌&&◌, ◌||◌, if◌then◌else◌, ℤ, pos, negsuc, List, [], ◌∷◌, length, Option, Some, None, codes}
+use Rattle.std.specs.Prelude.{ℕ, ◌+◌, ◌==◌, Bool, true, false, ◌||◌, if◌then◌else◌, ℤ, pos, negsuc, List, [], ◌∷◌, length, Option, Some, None, codes}
 use Rattle.std.specs.Str.{bytes_eq}
 use Rattle.std.specs.List.{find, list_any, list_all}
 use Rattle.sbx_text.specs.declared.Token.{Token}
@@ -11,7 +11,6 @@ use Rattle.sbx_image.specs.declared.parts.Kind.TheVariants.{Leaf, Framed}
 use Rattle.sbx_image.specs.declared.parts.Range.{Range}
 use Rattle.sbx_image.specs.declared.services.Services.{Services}
 use Rattle.sbx_directives.specs.declared.directive.Name.{Name}
-use Rattle.sbx_directives.specs.declared.directive.Width.{Width}
 use Rattle.sbx_directives.specs.declared.directive.Width.TheVariants as widths
 use Rattle.sbx_directives.specs.declared.directive.Keyword.{Keyword}
 use Rattle.sbx_directives.specs.declared.directive.Keyword.TheVariants as keywords

@@ -1,4 +1,4 @@
-use Rattle.std.proofs.Common.{◌≡◌, ◌+◌, ◌<◌, length, ap, sym, ◌∙◌, arith, List, ℕ}
+use Rattle.std.proofs.Common.{length, ap, arith}
 use Rattle.std.specs.List.{fold}
 use Rattle.sbx_asm.specs.declared.draft.Draft.{Draft}
 use Rattle.sbx_asm.specs.Lines.{lines_of}

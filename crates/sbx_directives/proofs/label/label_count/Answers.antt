@@ -1,4 +1,4 @@
-use Rattle.std.proofs.Common.{◌≡◌, suc, ◌+◌, drop, length, sym, ◌∙◌, arith}
+use Rattle.std.proofs.Common.{◌≡◌, suc, drop, sym, arith}
 use Rattle.sbx_directives.specs.Lines.{words_of, labels_first}
 use Rattle.sbx_directives.proofs.Labels.{one_more, no_more}
 use Rattle.sbx_directives.proofs.label.label_count.Goals as goal
