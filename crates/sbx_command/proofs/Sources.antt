@@ -1,5 +1,5 @@
 -- A source that is refused means no image; and what an assembly put out.
-use Rattle.std.proofs.Common.{◌≡◌, subst, ℕ, List, Option, None, Some, IfSome, Result, Ok, Err, arith, rules}
+use Rattle.std.proofs.Common.{◌≡◌, subst, ℕ, List, Option, None, Some, IfSome, Ok, Err, arith, rules}
 use Rattle.std.specs.Io.KnownBytes.{Appends}
 use Rattle.sbx_image.specs.declared.parts.Parts.{Parts}
 use Rattle.sbx_image.specs.Spelling.{spelling}

@@ -1,5 +1,5 @@
 -- What a command tells when it stops, and its exit status.
-use Rattle.std.specs.Prelude.{◌≡◌, ℕ, List, Result, Ok, Err}
+use Rattle.std.specs.Prelude.{◌≡◌, ℕ, List, Ok, Err}
 use Rattle.sbx_image.specs.declared.fault.ImageFault.{ImageFault}
 use Rattle.sbx_image.specs.declared.fault.ImageFault.TheVariants as fault
 use Rattle.sbx_image.specs.Reading.{reading}
@@ -7,7 +7,8 @@ use Rattle.sbx_asm.specs.declared.fault.Cause.{Cause}
 use Rattle.sbx_asm.specs.declared.fault.Cause.TheVariants as causes
 use Rattle.sbx_asm.specs.declared.fault.AsmFault.{AsmFault}
 use Rattle.sbx_asm.specs.Meaning.{source_image}
-use Rattle.sbx_verify.specs.declared.cause.Refusal.{Refusal}
+use Rattle.sbx_raw.specs.declared.fault.RunFault.{RunFault}
+use Rattle.sbx_raw.specs.declared.fault.RunFault.TheVariants as runs
 use Rattle.sbx_verify.specs.Rules.{IsLeastFault}
 use Rattle.sbx_image.specs.declared.parts.Parts.{Parts}
 use Rattle.sbx_command.specs.declared.stops.Stop.{Stop}
@@ -39,6 +40,12 @@ source_stop causes.Annotation fault = Source fault
 
 abbrev pub stop_of_source : AsmFault → Stop
 stop_of_source fault = source_stop fault.cause fault
+
+-- a run reads the input and writes the output
+abbrev pub stop_of_run : RunFault → Stop
+stop_of_run runs.Memory = Memory
+stop_of_run runs.Reader = Input
+stop_of_run runs.Writer = Output
 
 -- what is told of a source holds of the bytes of the file
 abbrev pub IsTrueOfSource : Stop → List ℕ → Type 0

@@ -6,7 +6,7 @@ ghost use Rattle.sbx_command.specs.Verdicts.{IsAccepted, Ran, status_of_word};
 use crate::reading::{MOST, ReadFault, read_whole};
 use crate::stops::Stop;
 use crate::verifying::{accepted_in, write_through};
-use sbx_run::{RunFault, run_accepted};
+use sbx_run::run_accepted;
 use std::alloc::Global;
 use std::io::{Read, Write};
 
@@ -48,10 +48,7 @@ pub fn run_file<F: Read, I: Read, O: Write>(
 {
     let accepted = accepted_in(alloc, file)?;
     let bytes = input_of(alloc, input)?;
-    let finished = match run_accepted::<8>(alloc, &accepted, bytes.as_slice()) {
-        Ok(finished) => finished,
-        Err(RunFault::Memory) => return Err(Stop::Memory),
-    };
+    let finished = run_accepted::<8>(alloc, &accepted, bytes.as_slice())?;
     write_through(out, finished.output.as_slice())?;
     Ok(status_of_word(finished.status))
 }

@@ -1,9 +1,10 @@
 //! Why a command stops, its line on standard error and its exit status.
 ghost use Rattle.std.specs.Prelude.{◌≡◌};
-ghost use Rattle.sbx_command.specs.Stops.{status_of, stop_of_image, stop_of_source};
+ghost use Rattle.sbx_command.specs.Stops.{status_of, stop_of_image, stop_of_run, stop_of_source};
 
 use sbx_asm::{AsmFault, Cause};
 use sbx_image::ImageFault;
+use sbx_run::RunFault;
 use sbx_verify::Refusal;
 use std::fmt::{self, Display, Formatter, Write};
 use std::io;
@@ -81,6 +82,18 @@ impl From<AsmFault> for Stop {
         match fault.cause {
             Cause::Memory => Stop::Memory,
             _ => Stop::Source(fault),
+        }
+    }
+}
+
+impl From<RunFault> for Stop {
+    ghost from_gives = { λ fault stop. stop ≡ stop_of_run fault };
+
+    fn from(fault: RunFault) -> Stop {
+        match fault {
+            RunFault::Memory => Stop::Memory,
+            RunFault::Reader => Stop::Input,
+            RunFault::Writer => Stop::Output,
         }
     }
 }

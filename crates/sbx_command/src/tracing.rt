@@ -6,7 +6,7 @@ ghost use Rattle.sbx_command.specs.Verdicts.{IsImage, Traced};
 use crate::images::image_in;
 use crate::running::input_of;
 use crate::stops::Stop;
-use sbx_raw::{RunFault, trace};
+use sbx_run::trace;
 use std::alloc::Global;
 use std::io::{Read, Write};
 
@@ -28,10 +28,6 @@ pub fn trace_file<F: Read, I: Read, O: Write>(
 {
     let image = image_in(alloc, file)?;
     let bytes = input_of(alloc, input)?;
-    match trace::<8, O>(alloc, &image, bytes.as_slice(), limit, out) {
-        Ok(_outcome) => Ok(()),
-        Err(RunFault::Memory) => Err(Stop::Memory),
-        Err(RunFault::Reader) => Err(Stop::Input),
-        Err(RunFault::Writer) => Err(Stop::Output),
-    }
+    trace::<8, O>(alloc, &image, bytes.as_slice(), limit, out)?;
+    Ok(())
 }

@@ -12,10 +12,10 @@ use Rattle.sbx_flat.specs.Traffic.{Traffic, after_operation, after_place, after_
 use Rattle.sbx_flat.specs.Turns.{asked, word_at}
 use Rattle.sbx_verify.specs.Rules.{IsAccepted, is_accepted}
 use Rattle.sbx_verify.specs.declared.cause.Cause.TheVariants.{V2}
-use Rattle.sbx_run.specs.declared.boards.BoardRun.{BoardRun}
+use Rattle.sbx_raw.specs.declared.raw.Raw.{Raw}
+use Rattle.sbx_raw.specs.Runs.{IsRaw}
 use Rattle.sbx_run.specs.declared.runner.Finished.{Finished}
 use Rattle.sbx_run.specs.Answer.{IsAnswer}
-use Rattle.sbx_run.specs.Boards.{IsRunOf}
 use Rattle.sbx_run.proofs.Finish.{Told, told}
 use Rattle.sbx_run.proofs.Steps.{AreAccepted, located}
 
@@ -70,54 +70,51 @@ all_accepted parts a i within = right_way _ (λ h. a.checked i V2 (within, inl h
 
 -- ---- the answer
 
-exits_same : (o p : Outcome) (s t a b c : ℕ) → o ≡ p → p ≡ record { ending = Exit t; turns = a; overflows = b; underflows = c } → o.ending ≡ Exit s → s ≡ t
-exits_same o p s t a b c e f g = cc
+one_status : (s t : ℕ) → Exit s ≡ Exit t → s ≡ t
+one_status s t e = cc
 
-module _ (parts : Parts) (n : ℕ) (input : List ℕ) (few : 4 ≤ n) (many : n ≤ 32) (safe : FlatSafe parts) (accepted : IsAccepted parts) (bytes : AreBytes input) (bound : budget parts < 2 ^ 64) (board : BoardRun) (run : IsRunOf n parts input (budget parts) board) where
+module _ (parts : Parts) (n : ℕ) (input : List ℕ) (few : 4 ≤ n) (many : n ≤ 32) (safe : FlatSafe parts) (accepted : IsAccepted parts) (bytes : AreBytes input) (bound : budget parts < 2 ^ 64) (raw : Raw) (run : IsRaw n parts input (budget parts) raw) where
   all : AreAccepted parts.words
   all = all_accepted parts accepted
 
-  abbrev told_so : Told n parts input run.last
-  told_so = told n parts input run.begun.made run.start run.last few many safe bytes accepted.few all bound run.begun.new run.begun.loaded run.run
+  abbrev told_so : Told n parts input run.end
+  told_so = told n parts input run.begun.made run.start run.end few many safe bytes accepted.few all bound run.begun.new run.begun.loaded run.run
 
   abbrev outcome : Outcome
   outcome = record { ending = Exit told_so.status; turns = weight parts told_so.path; overflows = 0; underflows = 0 }
 
-  is_outcome : board.outcome ≡ outcome
+  is_outcome : raw.outcome ≡ outcome
   is_outcome = run.outcome ∙ told_so.outcome
 
   -- the run exits
-  pub exits : (e : Ending) → board.outcome.ending ≡ e → ((status : ℕ) → e ≡ Exit status → ⊥) → ⊥
+  pub exits : (e : Ending) → raw.outcome.ending ≡ e → ((status : ℕ) → e ≡ Exit status → ⊥) → ⊥
   exits e is other = other told_so.status (sym is ∙ ap (λ (o : Outcome). o.ending) is_outcome)
 
-  pub answered : (f : Finished) → board.outcome.ending ≡ Exit f.status → f.output.items ≡ board.output.items → f.turns ≡ board.outcome.turns → f.overflows ≡ board.outcome.overflows → f.underflows ≡ board.outcome.underflows → f.pages ≡ board.pages → IsAnswer parts n input f
-  answered f exit output turns overflows underflows pages =
+  pub answered : (f : Finished) → raw.outcome ≡ record { ending = Exit f.status; turns = f.turns; overflows = f.overflows; underflows = f.underflows } → f.output.items ≡ raw.output.items → f.pages ≡ raw.pages → IsAnswer parts n input f
+  answered f outcome_told output pages =
       let s = safe input bytes in
       let t = told_so in
       let a = s.3.one_answer t.path t.state t.status t.run t.exit in
-      let status : f.status ≡ t.status = exits_same board.outcome outcome f.status t.status (weight parts t.path) 0 0 is_outcome refl exit in
+      let is : record { ending = Exit f.status; turns = f.turns; overflows = f.overflows; underflows = f.underflows } ≡ outcome = sym outcome_told ∙ is_outcome in
+      let status : f.status ≡ t.status = one_status f.status t.status (ap (λ (o : Outcome). o.ending) is) in
       let same_output : s.0 ≡ f.output.items = sym a.0 ∙ sym t.output ∙ sym run.output ∙ sym output in
       let same_status : s.1 ≡ f.status = sym a.1 ∙ sym status in
       let top = s.3.within_budget t.path t.state t.run in
       let quiet = quiet_path parts n t.path no_traffic all in
-      let so_many : f.turns ≡ weight parts t.path = turns ∙ ap (λ (o : Outcome). o.turns) is_outcome in
+      let so_many : f.turns ≡ weight parts t.path = ap (λ (o : Outcome). o.turns) is in
       let weighs : weight parts t.path ≡ 0 + weight parts t.path = omega arith in
       record {
         path = t.path;
         behaves = subst (λ p. Behaves parts input f.output.items f.status p) (sym a.2) (subst (λ w. Behaves parts input f.output.items w s.2) same_status (subst (λ o. Behaves parts input o s.1 s.2) same_output s.3));
         turns = so_many ∙ weighs ∙ sym (ap (λ (t : Traffic). t.turns) quiet);
-        overflows = overflows ∙ ap (λ (o : Outcome). o.overflows) is_outcome ∙ sym (ap (λ (t : Traffic). t.overflows) quiet);
-        underflows = underflows ∙ ap (λ (o : Outcome). o.underflows) is_outcome ∙ sym (ap (λ (t : Traffic). t.underflows) quiet);
+        overflows = ap (λ (o : Outcome). o.overflows) is ∙ sym (ap (λ (t : Traffic). t.overflows) quiet);
+        underflows = ap (λ (o : Outcome). o.underflows) is ∙ sym (ap (λ (t : Traffic). t.underflows) quiet);
         within = omega arith;
-        board_run = record {
-          start = run.start;
-          last = run.last;
-          begun = run.begun;
-          run = run.run;
-          told = sym run.outcome ∙ ap (λ (e : Ending). record board.outcome { ending = e }) exit ∙ ap (λ k. record { ending = Exit f.status; turns = k; overflows = board.outcome.overflows; underflows = board.outcome.underflows }) (sym turns)
-              ∙ ap (λ k. record { ending = Exit f.status; turns = f.turns; overflows = k; underflows = board.outcome.underflows }) (sym overflows)
-              ∙ ap (λ k. record { ending = Exit f.status; turns = f.turns; overflows = f.overflows; underflows = k }) (sym underflows);
-          output = output ∙ run.output;
-          pages = pages ∙ run.pages;
-        };
+        board_run = record { raw = raw; run = run; told = outcome_told; output = output; pages = pages };
       }
+
+-- ---- the run of the image that was accepted, with its budget
+
+pub run_of : (n : ℕ) (image parts : Parts) (input : List ℕ) (limit : ℕ) (raw : Raw) → image ≡ parts → limit ≡ budget parts → IsRaw n image input limit raw → IsRaw n parts input (budget parts) raw
+run_of n image parts input limit raw same most run =
+    subst (λ k. IsRaw n parts input k raw) most (subst (λ (p : Parts). IsRaw n p input limit raw) same run)

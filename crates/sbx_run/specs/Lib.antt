@@ -1,3 +1,1 @@
-pub mod Ports
-pub mod Boards
 pub mod Answer

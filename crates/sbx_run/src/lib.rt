@@ -1,12 +1,10 @@
-//! Runs of accepted images.
+//! Runs of images on the board: of accepted images to their end, of any image up to a limit, and its trace.
 #![tactic(auto)]
 
-mod boards;
-mod port;
 mod runner;
 #[cfg(test)]
 mod tests;
 
-pub use runner::{Finished, RunFault, run_accepted};
+pub use runner::{Finished, run_accepted};
+pub use sbx_raw::{Ending, Outcome, PageUse, Raw, RunFault, run_raw, trace};
 pub use sbx_verify::{Accepted, Cause, Refusal, budget, verify};
-pub use v8_board::PageUse;
