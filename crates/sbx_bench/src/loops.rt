@@ -1,3 +1,8 @@
+//! The loops that are measured, and the image of one.
+ghost use Rattle.std.specs.Prelude.{◌≡◌, ◌⊎◌, length, IfErr, IfOk};
+ghost use Rattle.sbx_image.specs.declared.fault.ImageFault.TheVariants as fault_of;
+ghost use Rattle.sbx_bench.specs.Images.{image_of, IsCodeLength};
+
 use sbx_image::{Block, Function, Image, ImageFault, Items, Kind, Parts, Services};
 use std::alloc::{AllocError, Global};
 
@@ -26,13 +31,19 @@ pub const MEMORY: [u32; 9] = [
     0x0100_0000,
 ];
 
+/// Where the code begins, in bytes.
+const CODE: u32 = 0x4_0000;
+
 /// The parts of an image of these words, as one leaf function of one block, with eight bytes of data.
-fn parts(alloc: Global, words: &[u32]) -> Result<Parts, AllocError> {
+#[tactic(auto, unfolding(crate::specs::Images::image_of))]
+fn parts(alloc: Global, words: &[u32]) -> Result<Parts, AllocError>
+    ensures { IfOk result (λ parts. parts ≡ image_of words.now) }
+{
     let mut code = Vec::new(alloc);
     code.extend_from_slice(words)?;
     let mut blocks = Vec::new(alloc);
     blocks.push(Block {
-        address: 0x4_0000,
+        address: CODE,
         fuel: 0,
         cells: Items::new(Vec::new(alloc)),
         terms: Items::new(Vec::new(alloc)),
@@ -42,7 +53,7 @@ fn parts(alloc: Global, words: &[u32]) -> Result<Parts, AllocError> {
         kind: Kind::Leaf,
         params: Items::new(Vec::new(alloc)),
         results: Items::new(Vec::new(alloc)),
-        entry: 0x4_0000,
+        entry: CODE,
         frame: 0,
         stack_room: 0,
         budget: 0,
@@ -57,8 +68,12 @@ fn parts(alloc: Global, words: &[u32]) -> Result<Parts, AllocError> {
     })
 }
 
-/// An image of these words.
-pub fn image(alloc: Global, words: &[u32]) -> Result<Image, ImageFault> {
+/// The image of these words, 1 to 65,536 of them, else `Limit`. `Memory` may come in the place of either.
+pub fn image(alloc: Global, words: &[u32]) -> Result<Image, ImageFault>
+    ensures made { IfOk result (λ image. (image ≡ image_of words.now) × IsCodeLength (length words.now)) }
+    ensures fault { IfErr result (λ fault. (fault ≡ fault_of.Memory)
+        ⊎ ((fault ≡ fault_of.Limit) × (IsCodeLength (length words.now) → ⊥))) }
+{
     let Ok(parts) = parts(alloc, words) else {
         return Err(ImageFault::Memory);
     };

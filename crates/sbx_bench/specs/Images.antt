@@ -1,0 +1,28 @@
+-- The image that a loop is measured in.
+use Rattle.std.specs.Prelude.{◌≤◌, ℕ, pos, List, [], ◌∷◌, replicate}
+use Rattle.sbx_image.specs.declared.parts.Kind.TheVariants.{Leaf}
+use Rattle.sbx_image.specs.declared.parts.Parts.{Parts}
+use Rattle.sbx_image.specs.Rules.{code_start}
+
+-- one leaf function of one block, without annotations; eight zero bytes of data, one page of stack, and the service exit
+unfoldable pub image_of : List ℕ → Parts
+image_of words = record {
+  services = record { 0 = 1 };
+  words = words;
+  bytes = replicate 8 0;
+  stack_pages = 1;
+  functions = record {
+    kind = Leaf;
+    params = [];
+    results = [];
+    entry = code_start;
+    frame = 0;
+    stack_room = 0;
+    budget = 0;
+    blocks = record { address = code_start; fuel = pos 0; cells = []; terms = [] } ∷ [];
+  } ∷ [];
+}
+
+-- as many words as an image may have
+abbrev pub IsCodeLength : ℕ → Type 0
+IsCodeLength n = (1 ≤ n) × (n ≤ 65536)
