@@ -1,6 +1,6 @@
 //! Why a source has no image.
-ghost use Rattle.std.specs.Prelude.{◌≡◌};
-ghost use Rattle.sbx_asm.specs.Faults.{rank, is_earlier, told};
+ghost use Rattle.std.specs.Prelude.{◌≡◌, Some};
+ghost use Rattle.sbx_asm.specs.Faults.{code_of, shown, rank, is_earlier, told};
 
 use sbx_text::TextFault;
 use std::fmt::{self, Error, Formatter, Write};
@@ -41,6 +41,8 @@ impl AsmFault {
 }
 
 impl fmt::Display for Cause {
+    ghost output = { λ c. Some (code_of c) };
+
     fn fmt<W: Write>(&self, f: &mut Formatter<W>) -> Result<(), Error> {
         match *self {
             Cause::Text(fault) => write!(f, "{fault}"),
@@ -55,6 +57,8 @@ impl fmt::Display for Cause {
 }
 
 impl fmt::Display for AsmFault {
+    ghost output = { λ a. Some (shown a) };
+
     fn fmt<W: Write>(&self, f: &mut Formatter<W>) -> Result<(), Error> {
         let line = self.line;
         let cause = self.cause;

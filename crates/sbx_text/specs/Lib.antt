@@ -1,2 +1,3 @@
 pub mod Tokens
 pub mod Slices
+pub mod Faults

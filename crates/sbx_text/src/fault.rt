@@ -1,6 +1,7 @@
 // Why a line has no tokens.
-ghost use Rattle.std.specs.Prelude.{◌≡◌};
+ghost use Rattle.std.specs.Prelude.{◌≡◌, Some};
 ghost use Rattle.sbx_text.specs.declared.fault.TextFault.TheVariants.{Memory};
+ghost use Rattle.sbx_text.specs.Faults.{code_of};
 
 use std::alloc::{AllocError, AllocFailed};
 use std::fmt;
@@ -32,6 +33,8 @@ impl<T: Drop> From<AllocFailed<T>> for TextFault {
 }
 
 impl fmt::Display for TextFault {
+    ghost output = { λ f. Some (code_of f) };
+
     fn fmt<W: fmt::Write>(&self, f: &mut fmt::Formatter<W>) -> fmt::Result {
         f.write_str(match self {
             TextFault::NotAscii => "X1",

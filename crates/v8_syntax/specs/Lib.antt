@@ -5,3 +5,4 @@ pub mod Words
 pub mod Shapes
 pub mod Statements
 pub mod Laws
+pub mod Faults
