@@ -1,9 +1,25 @@
 -- What the ways to drive a board of eight windows tell.
+use Rattle.std.specs.Prelude.{◌≡◌, ℕ, [], vec_len}
 use Rattle.v8_windows.specs.Windows.{reg_of}
+use Rattle.sbx_image.specs.declared.parts.Parts.{Parts}
 use Rattle.v8_board.specs.Seen.{State}
+use Rattle.v8_board.specs.Runs.{IsRun, after}
+use Rattle.sbx_raw.specs.Runs.{IsBegun, IsRaw}
+use Rattle.sbx_raw.specs.declared.raw.Raw.{Raw}
+use Rattle.sbx_bench.specs.declared.tally.Tally.{Tally}
 use Rattle.sbx_bench.specs.declared.ways.Told.{Told}
-use Rattle.sbx_bench.specs.declared.ways.Told.TheVariants.{Register}
+use Rattle.sbx_bench.specs.declared.ways.Told.TheVariants.{Register, Output, Text}
+use Rattle.sbx_bench.specs.declared.ways.Way.{Way}
+use Rattle.sbx_bench.specs.declared.ways.Way.TheVariants as ways
 
 -- what a state shows of a loop: the turns that were counted, and %o2
 abbrev pub register_of : State 8 → Told
 register_of s = Register s.counts.turns (reg_of 8 s.world.cpu.regs 10)
+
+-- What each way tells of so many turns from the start that loading the image makes. A trace's text is counted as it is written, and
+-- is gone then: no more is said than that its count is told.
+abbrev pub IsToldBy : Way → Parts → ℕ → Told → Type 0
+IsToldBy ways.Step p turns told = (start : State 8) × IsBegun 8 p [] start × (told ≡ register_of (after 8 turns start))
+IsToldBy ways.Run p turns told = (start : State 8) × (end : State 8) × IsBegun 8 p [] start × IsRun 8 turns start end × (told ≡ register_of end)
+IsToldBy ways.Raw p turns told = (raw : Raw) × IsRaw 8 p [] turns raw × (told ≡ Output raw.outcome.turns (vec_len raw.output))
+IsToldBy ways.Trace p turns told = (tally : Tally) × (told ≡ Text tally)

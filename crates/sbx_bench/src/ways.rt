@@ -4,8 +4,9 @@ ghost use Rattle.v8_board.specs.Seen.{State};
 ghost use Rattle.v8_board.specs.Runs.{IsRun, after};
 ghost use Rattle.sbx_raw.specs.Runs.{IsBegun, IsRaw};
 ghost use Rattle.sbx_raw.specs.declared.raw.Raw.{Raw};
+ghost use Rattle.sbx_bench.specs.declared.tally.Tally.{Tally};
 ghost use Rattle.sbx_bench.specs.declared.ways.Told.TheVariants as tells;
-ghost use Rattle.sbx_bench.specs.Ways.{register_of};
+ghost use Rattle.sbx_bench.specs.Ways.{IsToldBy, register_of};
 
 use crate::tally::Tally;
 use anyhow::{Result, anyhow};
@@ -93,7 +94,9 @@ fn raw(alloc: Global, image: &Image, turns: u64) -> Result<Told>
     }
 }
 
-fn text(alloc: Global, image: &Image, turns: u64) -> Result<Told> {
+fn text(alloc: Global, image: &Image, turns: u64) -> Result<Told>
+    ensures { IfOk result (λ told. (tally : Tally) × (told ≡ tells.Text tally)) }
+{
     let mut tally = Tally::default();
     match trace::<8, Tally>(alloc, image, b"", turns, &mut tally) {
         Ok(_outcome) => Ok(Told::Text(tally)),
@@ -112,7 +115,9 @@ fn loaded<'a>(alloc: Global, image: &Image) -> Result<Board<8, SlicePort<'a>>>
 
 impl Way {
     /// Drives a new board with this image for so many turns.
-    pub fn drive(self, alloc: Global, image: &Image, turns: u64) -> Result<Told> {
+    pub fn drive(self, alloc: Global, image: &Image, turns: u64) -> Result<Told>
+        ensures { IfOk result (IsToldBy self image.now turns) }
+    {
         match self {
             Way::Step => step(loaded(alloc, image)?, turns),
             Way::Run => run(loaded(alloc, image)?, turns),
