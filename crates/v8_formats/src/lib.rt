@@ -262,6 +262,7 @@ fn transfer(word: u32) -> Instr
 
 /// What a word means.
 #[tactic(auto, using(crate::proofs::Rows::call_rows))]
+#[inline(always)]
 fn decoded(word: u32) -> Instr
     ensures { result ≡ meaning word }
 {
@@ -274,6 +275,7 @@ fn decoded(word: u32) -> Instr
 }
 
 /// The instruction of a word, by the format table (appendix F): `Undefined` of a word that no row has. Unused bits are ignored.
+#[inline(always)]
 pub fn decode(word: u32) -> Instr
     ensures value { result ≡ meaning word }
     ensures round_trip { meaning (spelling result) ≡ result }

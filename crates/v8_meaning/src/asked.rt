@@ -48,6 +48,7 @@ fn elsewhere(fields: Alternate) -> MemoryOperand
 
 /// The operation of an instruction.
 #[tactic(auto, unfolding(crate::specs::Operations::operation_of))]
+#[inline(always)]
 pub fn operation_of(instr: &Instr) -> Operation
     ensures { result ≡ operation_of instr.now }
 {
