@@ -332,23 +332,26 @@ fn stops_at_a_fault(rt: HostRuntime) {
     );
 }
 
+/// Whether a whole trace of the image in the file is written, and nothing else.
+fn is_traced_to_the_end(alloc: Global, file: &[u8]) -> bool {
+    let mut out: Vec<u8> = Vec::new(alloc);
+    let mut err: Vec<u8> = Vec::new(alloc);
+    let mut read = Reader::new(file, 0);
+    let mut input = Reader::new(b"", 0);
+    let status = command(alloc, &TRACE, &mut read, &mut input, &mut out, &mut err);
+    status == 0
+        && out.as_slice().starts_with(TWO_TURNS)
+        && out.as_slice().ends_with(LAST_TURN)
+        && err.is_empty()
+}
+
 /// A whole trace ends with the exit; the image need not be one that is accepted.
 #[test]
 fn traces_to_the_end(rt: HostRuntime) {
     let alloc = rt.alloc();
     let little = changed(60, &[0, 0, 0, 0, 0, 0, 0, 0x0F]);
     for file in [&HELLO, &little] {
-        let mut out: Vec<u8> = Vec::new(alloc);
-        let mut err: Vec<u8> = Vec::new(alloc);
-        let mut read = Reader::new(file, 0);
-        let mut input = Reader::new(b"", 0);
-        let status = command(alloc, &TRACE, &mut read, &mut input, &mut out, &mut err);
-        // want of memory is a fine answer
-        if status != 5 {
-            assert_eq!(rt; status, 0);
-            assert!(rt; out.as_slice().starts_with(TWO_TURNS));
-            assert!(rt; out.as_slice().ends_with(LAST_TURN));
-            assert!(rt; err.is_empty());
-        }
+        // a trace whose growth was refused is made once more
+        assert!(rt; is_traced_to_the_end(alloc, file) || is_traced_to_the_end(alloc, file));
     }
 }
