@@ -1,5 +1,8 @@
 -- What a command tells when it stops, and its exit status.
-use Rattle.std.specs.Prelude.{◌≡◌, ℕ, List, Ok, Err}
+use Rattle.std.specs.Prelude.{◌≡◌, ℕ, List, ◌++◌, codes, Ok, Err}
+use Rattle.sbx_image.specs.Faults as images
+use Rattle.sbx_asm.specs.Faults as sources
+use Rattle.sbx_verify.specs.Faults as rules
 use Rattle.sbx_image.specs.declared.fault.ImageFault.{ImageFault}
 use Rattle.sbx_image.specs.declared.fault.ImageFault.TheVariants as fault
 use Rattle.sbx_image.specs.Reading.{reading}
@@ -23,6 +26,16 @@ status_of File = 4
 status_of Input = 4
 status_of Output = 4
 status_of Memory = 5
+
+-- the line on standard error
+abbrev pub line_of : Stop → List ℕ
+line_of (Source fault) = sources.shown fault
+line_of (Image fault) = codes "image " ++ images.code_of fault
+line_of (Refused refusal) = rules.shown refusal
+line_of File = codes "file"
+line_of Input = codes "input"
+line_of Output = codes "output"
+line_of Memory = codes "memory"
 
 -- want of memory is told as such, whichever part met it
 abbrev pub stop_of_image : ImageFault → Stop

@@ -1,6 +1,6 @@
 //! Why a command stops, its line on standard error and its exit status.
-ghost use Rattle.std.specs.Prelude.{◌≡◌};
-ghost use Rattle.sbx_command.specs.Stops.{status_of, stop_of_image, stop_of_run, stop_of_source};
+ghost use Rattle.std.specs.Prelude.{◌≡◌, Some};
+ghost use Rattle.sbx_command.specs.Stops.{line_of, status_of, stop_of_image, stop_of_run, stop_of_source};
 
 use sbx_asm::{AsmFault, Cause};
 use sbx_image::ImageFault;
@@ -51,6 +51,8 @@ impl Stop {
 }
 
 impl Display for Stop {
+    ghost output = { λ s. Some (line_of s) };
+
     fn fmt<W: Write>(&self, f: &mut Formatter<W>) -> fmt::Result {
         match self {
             Stop::Source(fault) => write!(f, "{fault}"),

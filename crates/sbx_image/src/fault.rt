@@ -1,6 +1,7 @@
 //! Why bytes or parts are no image.
-ghost use Rattle.std.specs.Prelude.{◌≡◌};
+ghost use Rattle.std.specs.Prelude.{◌≡◌, Some};
 ghost use Rattle.sbx_image.specs.declared.fault.ImageFault.TheVariants.{Memory};
+ghost use Rattle.sbx_image.specs.Faults.{code_of};
 
 use std::alloc::{AllocError, AllocFailed};
 use std::fmt::{self, Error, Formatter, Write};
@@ -29,6 +30,8 @@ pub enum ImageFault {
 }
 
 impl fmt::Display for ImageFault {
+    ghost output = { λ f. Some (code_of f) };
+
     fn fmt<W: Write>(&self, f: &mut Formatter<W>) -> Result<(), Error> {
         f.write_str(match self {
             ImageFault::Short => "I1",

@@ -1,4 +1,7 @@
 //! Why an image is refused.
+ghost use Rattle.std.specs.Prelude.{Some};
+ghost use Rattle.sbx_verify.specs.Faults.{code_of, shown};
+
 use std::fmt;
 
 /// The rule that an image breaks, by its number.
@@ -45,8 +48,30 @@ pub enum Cause {
 }
 
 impl fmt::Display for Cause {
+    ghost output = { λ c. Some (code_of c) };
+
     fn fmt<W: fmt::Write>(&self, f: &mut fmt::Formatter<W>) -> fmt::Result {
-        write!(f, "V{}", *self as u8 + 1)
+        f.write_str(match self {
+            Cause::V1 => "V1",
+            Cause::V2 => "V2",
+            Cause::V3 => "V3",
+            Cause::V4 => "V4",
+            Cause::V5 => "V5",
+            Cause::V6 => "V6",
+            Cause::V7 => "V7",
+            Cause::V8 => "V8",
+            Cause::V9 => "V9",
+            Cause::V10 => "V10",
+            Cause::V11 => "V11",
+            Cause::V12 => "V12",
+            Cause::V13 => "V13",
+            Cause::V14 => "V14",
+            Cause::V15 => "V15",
+            Cause::V16 => "V16",
+            Cause::V17 => "V17",
+            Cause::V18 => "V18",
+            Cause::V19 => "V19",
+        })
     }
 }
 
@@ -59,6 +84,8 @@ pub struct Refusal {
 }
 
 impl fmt::Display for Refusal {
+    ghost output = { λ r. Some (shown r) };
+
     fn fmt<W: fmt::Write>(&self, f: &mut fmt::Formatter<W>) -> fmt::Result {
         write!(
             f,
