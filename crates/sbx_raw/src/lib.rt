@@ -9,7 +9,7 @@ mod tracing;
 
 pub use fault::RunFault;
 pub use port::SlicePort;
-pub use raw::{Raw, run_raw};
+pub use raw::{Raw, begun, run_raw};
 pub use tracing::trace;
 pub use v8_board::{Ending, Outcome, PageUse};
 

@@ -169,28 +169,39 @@ fn raw_runs_end_as_worked_out(rt: HostRuntime) -> Result<(), Fail> {
     Ok(())
 }
 
-/// Windows are stored and loaded where there are too few, and every function returns to its caller.
+/// An exit with 0, and these counts.
+fn exits(turns: u64, overflows: u64, underflows: u64) -> Outcome {
+    Outcome {
+        ending: Ending::Exit(0),
+        turns,
+        overflows,
+        underflows,
+    }
+}
+
+/// Windows are stored and loaded where there are too few, and every function returns to its caller. Of the 40 SAVEs all but the first
+/// N - 2 overflow, and of the 39 RESTOREs all but the first N - 2 underflow; each takes 24 turns more, the trap and the handler's 23.
 #[test]
 fn chains_of_calls_return(rt: HostRuntime) -> Result<(), Fail> {
     let alloc = rt.alloc();
-    let few = Outcome {
-        ending: Ending::Exit(0),
-        turns: 2006,
-        overflows: 38,
-        underflows: 37,
-    };
-    let many = Outcome {
-        ending: Ending::Exit(0),
-        turns: 662,
-        overflows: 10,
-        underflows: 9,
-    };
+    let few = exits(2006, 38, 37);
     let with_result = Outcome {
         ending: Ending::Exit(42),
         ..few
     };
     assert_eq!(rt; ends_chain::<4>(alloc, Leave::Plain)?, (few, true));
-    assert_eq!(rt; ends_chain::<32>(alloc, Leave::Plain)?, (many, true));
+    assert_eq!(rt;
+        ends_chain::<5>(alloc, Leave::Plain)?,
+        (exits(1958, 37, 36), true)
+    );
+    assert_eq!(rt;
+        ends_chain::<6>(alloc, Leave::Plain)?,
+        (exits(1910, 36, 35), true)
+    );
+    assert_eq!(rt;
+        ends_chain::<32>(alloc, Leave::Plain)?,
+        (exits(662, 10, 9), true)
+    );
     assert_eq!(rt; ends_chain::<4>(alloc, Leave::Result)?, (with_result, true));
     Ok(())
 }
