@@ -65,7 +65,7 @@ struct Program {
     psr_after: u32,
 }
 
-const PROGRAMS: [Program; 46] = [
+const PROGRAMS: [Program; 47] = [
     // or %g0,5,%g1; add %g1,7,%g2; sub %g2,%g1,%g3
     Program {
         psr: 0x20,
@@ -321,6 +321,15 @@ const PROGRAMS: [Program; 46] = [
         globals: [0xA, 0x0, 0x0],
         pc: 0x1010,
         psr_after: 0x27,
+    },
+    // save %g0,%g0,%g0; restore %g0,%g0,%g0 with an unused bit set
+    Program {
+        psr: 0x20,
+        words: &[0x81E00000, 0x81E80020],
+        turns: 2,
+        globals: [0x0, 0x0, 0x0],
+        pc: 0x1008,
+        psr_after: 0x20,
     },
     // sethi 8,%g1; st %g1,[%g1+4]; ld [%g1+4],%g2
     Program {
@@ -867,6 +876,9 @@ fn traps_are_told_by_priority(rt: HostRuntime) {
         assert_eq!(rt; machine.npc(), machine.pc().wrapping_add(4));
         assert_eq!(rt; machine.psr() & 0xE0, 0x80 + (case.psr & 0x80) / 2);
         assert_eq!(rt; machine.reg(Reg::L2), machine.reg(Reg::L1).wrapping_add(4));
+        // What traps writes no register: no word before it sets %g2, and before the first word %g1 is 0.
+        assert_eq!(rt; global(&machine, 2), 0);
+        assert!(rt; case.words.len() > 1 || global(&machine, 1) == 0);
     }
 }
 
