@@ -1,65 +1,14 @@
--- Words of RAM after a write of another word.
-use Rattle.std.proofs.Common.{◌≡◌, ℕ, ◌+◌, ◌-◌, ◌*◌, ◌/◌, ◌%◌, ◌^◌, ◌≤◌, ◌⊎◌, inl, inr, Bool, true, false, List, ◌++◌, length, take, drop, Option, Some, None, refl, sym, ap, ◌∙◌, arith}
-use Rattle.std.specs.Int.{w32, from_be_bytes, to_be_bytes}
-use Rattle.std.specs.Prelude.{◌==◌, ◌&&◌, nat_le, bit_or, if◌then◌else◌}
-use Rattle.std.proofs.lemmas.List.{take-take, drop-take, take-append-le, drop-append-le, length-take-le, length-append, append_assoc, length-drop}
-use Rattle.std.proofs.lemmas.Slice.{drop-append-drop}
-use Rattle.std.proofs.lemmas.Nat.{or_shr, or_mod, or_comm}
+-- The entries of a loaded board's page tables, but for marks.
+use Rattle.std.proofs.Common.{◌≡◌, ℕ, ◌+◌, ◌*◌, ◌/◌, ◌%◌, ◌^◌, Bool, true, false, List, Some, refl, arith}
+use Rattle.std.specs.Prelude.{◌==◌}
 use Rattle.std.proofs.lemmas.Bool.Decides.{nat_tests}
-use Rattle.v8_mmu.specs.Ram.{entry_of, with_entry}
+use Rattle.v8_mmu.specs.Ram.{entry_of}
 use Rattle.v8_mmu.specs.Paths.{marked}
 use Rattle.v8_mmu.specs.Permissions.{acc_of}
 use Rattle.v8_mmu.proofs.WalkedIs.{some_of}
-use Rattle.v8_mmu.proofs.RamLemmas.{Within, length-with_entry}
+use Rattle.v8_mmu.proofs.RamMore.{marked_high, marked_low}
+pub use Rattle.v8_mmu.proofs.RamMore.{entry_elsewhere}
 use Rattle.v8_layout.specs.Layout.{unmarked, HasEntry}
-
-four_before : (at p : ℕ) (ram rest : List ℕ) → at ≤ length ram → p + 4 ≤ at → take 4 (drop p (take at ram ++ rest)) ≡ take 4 (drop p ram)
-four_before at p ram rest there before =
-    let n : length (take at ram) ≡ at = length-take-le at ram there in
-    let a : drop p (take at ram ++ rest) ≡ drop p (take at ram) ++ rest = drop-append-le p (take at ram) rest (omega arith) in
-    let sum : p + (at - p) ≡ at = omega arith in
-    let b : drop p (take at ram) ≡ take (at - p) (drop p ram) = ap (λ k. drop p (take k ram)) (sym sum) ∙ drop-take p (at - p) ram in
-    let m : length (take (at - p) (drop p ram)) ≡ at - p = length-take-le (at - p) (drop p ram) (omega (arith, length-drop p ram)) in
-    let c : take 4 (take (at - p) (drop p ram) ++ rest) ≡ take 4 (take (at - p) (drop p ram)) = take-append-le 4 (take (at - p) (drop p ram)) rest (omega arith) in
-    let d : take 4 (take (at - p) (drop p ram)) ≡ take 4 (drop p ram) = take-take 4 (at - p) (drop p ram) (omega arith) in
-    ap (take 4) (a ∙ ap (λ x. x ++ rest) b) ∙ c ∙ d
-
-pub four_of : (at p w : ℕ) (ram : List ℕ) → at + 4 ≤ length ram → (p + 4 ≤ at) ⊎ (at + 4 ≤ p) → take 4 (drop p (with_entry ram at w)) ≡ take 4 (drop p ram)
-unfolding with_entry
-four_of at p w ram there (inl before) =
-    let whole : take at ram ++ to_be_bytes w32 w ++ drop (at + 4) ram ≡ take at ram ++ (to_be_bytes w32 w ++ drop (at + 4) ram) = append_assoc (take at ram) (to_be_bytes w32 w) (drop (at + 4) ram) in
-    ap (λ x. take 4 (drop p x)) whole ∙ four_before at p ram (to_be_bytes w32 w ++ drop (at + 4) ram) (omega arith) before
-four_of at p w ram there (inr past) =
-    let n : length (take at ram) ≡ at = length-take-le at ram (omega arith) in
-    let m : length (take at ram ++ to_be_bytes w32 w) ≡ at + 4 = omega (arith, length-append (take at ram) (to_be_bytes w32 w)) in
-    ap (take 4) (drop-append-drop (at + 4) ram (take at ram ++ to_be_bytes w32 w) p past m)
-
-word_by : List ℕ → ℕ → ℕ → Option ℕ
-word_by bytes len p = if p % 4 == 0 && nat_le (p + 4) len then Some (from_be_bytes w32 bytes) else None
-
-entry_by : (ram : List ℕ) (p : ℕ) → entry_of ram p ≡ word_by (take 4 (drop p ram)) (length ram) p
-unfolding entry_of word_by
-entry_by ram p = refl
-
--- a word elsewhere stays
-pub entry_elsewhere : (ram : List ℕ) (at p w : ℕ) → Within ram at → (p + 4 ≤ at) ⊎ (at + 4 ≤ p) → entry_of (with_entry ram at w) p ≡ entry_of ram p
-entry_elsewhere ram at p w there apart =
-    entry_by (with_entry ram at w) p
-    ∙ ap (λ b. word_by b (length (with_entry ram at w)) p) (four_of at p w ram there.fits apart)
-    ∙ ap (λ k. word_by (take 4 (drop p ram)) k p) (length-with_entry ram at w there.fits)
-    ∙ sym (entry_by ram p)
-
-or_none : (a : ℕ) → bit_or a 0 ≡ a
-or_none a = or_comm a 0
-
--- the bits 5 and 6 alone
-pub marked_high : (w : ℕ) (store : Bool) → marked w store / 2 ^ 7 ≡ w / 2 ^ 7
-marked_high w true = or_shr (bit_or w 32) 64 7 ∙ or_none (bit_or w 32 / 2 ^ 7) ∙ or_shr w 32 7 ∙ or_none (w / 2 ^ 7)
-marked_high w false = or_shr (bit_or w 32) 0 7 ∙ or_none (bit_or w 32 / 2 ^ 7) ∙ or_shr w 32 7 ∙ or_none (w / 2 ^ 7)
-
-marked_low : (w : ℕ) (store : Bool) → marked w store % 2 ^ 5 ≡ w % 2 ^ 5
-marked_low w true = or_mod (bit_or w 32) 64 5 ∙ or_none (bit_or w 32 % 2 ^ 5) ∙ or_mod w 32 5 ∙ or_none (w % 2 ^ 5)
-marked_low w false = or_mod (bit_or w 32) 0 5 ∙ or_none (bit_or w 32 % 2 ^ 5) ∙ or_mod w 32 5 ∙ or_none (w % 2 ^ 5)
 
 unmarked_by : (x w : ℕ) → x / 2 ^ 7 ≡ w / 2 ^ 7 → x % 2 ^ 5 ≡ w % 2 ^ 5 → w % 4 ≡ 2 → (x % 4 ≡ 2) × (unmarked x ≡ unmarked w)
 unmarked_by x w high low page =

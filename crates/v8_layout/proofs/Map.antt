@@ -93,10 +93,10 @@ unfolding translated
 to_nothing g ram va a level is at walk =
     walk ∙ sym (ap (reached va a) is ∙ ap (λ l. Err (record { ft = 1; level = l; at = access_type a })) at)
 
-inside : (first end va : ℕ) → first ≤ va → va < end → within first end va ≡ true
+pub inside : (first end va : ℕ) → first ≤ va → va < end → within first end va ≡ true
 inside first end va low high = grind (arith, nat_tests)
 
-outside : (first end va : ℕ) → (va < first) ⊎ (end ≤ va) → within first end va ≡ false
+pub outside : (first end va : ℕ) → (va < first) ⊎ (end ≤ va) → within first end va ≡ false
 outside first end va (inl low) = grind (arith, nat_tests)
 outside first end va (inr high) = grind (arith, nat_tests)
 
@@ -114,7 +114,7 @@ nothing_at g va code words stack table handlers device =
 
 -- ---- code
 
-code_at : (g : Pages) (va : ℕ) → 0x40000 ≤ va → va < 0x40000 + 4096 * g.code_count → page_at g va ≡ Some (mapped (va - 0x30000) 4 (0x2A00 + 4 * ((va - 0x40000) / 4096)))
+pub code_at : (g : Pages) (va : ℕ) → 0x40000 ≤ va → va < 0x40000 + 4096 * g.code_count → page_at g va ≡ Some (mapped (va - 0x30000) 4 (0x2A00 + 4 * ((va - 0x40000) / 4096)))
 unfolding page_at
 code_at g va low high = rw (inside 0x40000 (0x40000 + 4096 * g.code_count) va low high) refl
 
@@ -191,7 +191,7 @@ data_maps g ram few t va a low high = by_count (nat_lt i g.data_count) refl
 
 -- ---- the stack
 
-stack_at : (g : Pages) (va : ℕ) → AreFew g → 0x100000 - 4096 * g.stack_count ≤ va → va < 0x100000 → page_at g va ≡ Some (mapped (va - 0x60000) 1 (0x2C00 + 4 * ((va - 0xC0000) / 4096)))
+pub stack_at : (g : Pages) (va : ℕ) → AreFew g → 0x100000 - 4096 * g.stack_count ≤ va → va < 0x100000 → page_at g va ≡ Some (mapped (va - 0x60000) 1 (0x2C00 + 4 * ((va - 0xC0000) / 4096)))
 unfolding page_at
 stack_at g va few low high =
     let code = few.code in
@@ -236,27 +236,27 @@ stack_maps g ram few t va a low high = by_count (nat_le (64 - g.stack_count) i) 
 system_walk : (g : Pages) (ram : List ℕ) → HasTables g ram → (va : ℕ) (a : Access) (i : ℕ) → 0xF0000000 ≤ va → va < 0xF0040000 → va / 2 ^ 12 % 64 ≡ i → walked ram 0x2000 va a ≡ goes_from ram va a 0 3 (0x2D00 + 4 * i) (entry_of ram (0x2D00 + 4 * i))
 system_walk g ram t va a i low high three = to_third g ram t va a 0xF0 0x291 0x2900 0 0x2D1 0x2D00 i (omega arith) (omega arith) refl refl refl (omega arith) (omega arith) (t.systems 0 (omega arith)) refl refl (omega arith) three
 
-below_system : (g : Pages) → AreFew g → (va : ℕ) → 0x100000 ≤ va → ((0x40000 + 4096 * g.code_count ≤ va) × (0x80000 + 4096 * g.data_count ≤ va))
+pub below_system : (g : Pages) → AreFew g → (va : ℕ) → 0x100000 ≤ va → ((0x40000 + 4096 * g.code_count ≤ va) × (0x80000 + 4096 * g.data_count ≤ va))
 below_system g few va low =
     let code = few.code in
     let words = few.data_pages in
     (omega arith, omega arith)
 
-table_at : (g : Pages) (va : ℕ) → AreFew g → 0xF0000000 ≤ va → va < 0xF0001000 → page_at g va ≡ Some (mapped (va - 0xF0000000) 6 0x2D00)
+pub table_at : (g : Pages) (va : ℕ) → AreFew g → 0xF0000000 ≤ va → va < 0xF0001000 → page_at g va ≡ Some (mapped (va - 0xF0000000) 6 0x2D00)
 unfolding page_at
 table_at g va few low high =
     let past = below_system g few va (omega arith) in
     rw (outside 0x40000 (0x40000 + 4096 * g.code_count) va (inr past.0)) (rw (outside 0x80000 (0x80000 + 4096 * g.data_count) va (inr past.1))
     (rw (outside (0x100000 - 4096 * g.stack_count) 0x100000 va (inr (omega arith))) (rw (inside 0xF0000000 0xF0001000 va low high) refl)))
 
-handlers_at : (g : Pages) (va : ℕ) → AreFew g → 0xF0001000 ≤ va → va < 0xF0002000 → page_at g va ≡ Some (mapped (va - 0xF0000000) 6 0x2D04)
+pub handlers_at : (g : Pages) (va : ℕ) → AreFew g → 0xF0001000 ≤ va → va < 0xF0002000 → page_at g va ≡ Some (mapped (va - 0xF0000000) 6 0x2D04)
 unfolding page_at
 handlers_at g va few low high =
     let past = below_system g few va (omega arith) in
     rw (outside 0x40000 (0x40000 + 4096 * g.code_count) va (inr past.0)) (rw (outside 0x80000 (0x80000 + 4096 * g.data_count) va (inr past.1))
     (rw (outside (0x100000 - 4096 * g.stack_count) 0x100000 va (inr (omega arith))) (rw (outside 0xF0000000 0xF0001000 va (inr low)) (rw (inside 0xF0001000 0xF0002000 va low high) refl))))
 
-device_at : (g : Pages) (va : ℕ) → AreFew g → 0xF0010000 ≤ va → va < 0xF0011000 → page_at g va ≡ Some (mapped (va - 0xF0010000 + 0x100000000) 7 0x2D40)
+pub device_at : (g : Pages) (va : ℕ) → AreFew g → 0xF0010000 ≤ va → va < 0xF0011000 → page_at g va ≡ Some (mapped (va - 0xF0010000 + 0x100000000) 7 0x2D40)
 unfolding page_at
 device_at g va few low high =
     let past = below_system g few va (omega arith) in

@@ -5,9 +5,10 @@ use Rattle.std.proofs.lemmas.Bool.Decides.{nat_tests}
 use Rattle.v8_mmu.specs.Ram.{entry_of, with_entry}
 use Rattle.v8_mmu.specs.Paths.{marked, marked_ram}
 use Rattle.v8_mmu.proofs.RamLemmas.{Within, entry_is, length-with_entry, length-marked_ram, entry_of-with_entry}
+use Rattle.v8_mmu.proofs.RamMore.{entry_elsewhere, marked_high, marked_is}
 use Rattle.v8_layout.specs.Layout.{Pages, AreFew, HasTables, HasEntry, IsLoaded, unmarked, code_entry, data_entry, stack_entry, system_entry}
 use Rattle.v8_layout.specs.AddressMap.{Mapped, mapped, within, page_at}
-use Rattle.v8_layout.proofs.Entries.{entry_elsewhere, unmarked_marked, marked_high, PageEntry, entry_from, entry_back}
+use Rattle.v8_layout.proofs.Entries.{unmarked_marked, PageEntry, entry_from, entry_back}
 
 -- the entry of a page that may be marked
 pub record Markable (ram : List ℕ) (place t : ℕ) : Type 0 where
@@ -17,10 +18,6 @@ pub record Markable (ram : List ℕ) (place t : ℕ) : Type 0 where
   pub aligned : place % 4 ≡ 0
   pub low : 0x2A00 ≤ place
   pub high : place < 0x2E00
-
-pub marked_is : (ram : List ℕ) (place w : ℕ) (store : Bool) → entry_of ram place ≡ Some w → marked_ram ram place store ≡ with_entry ram place (marked w store)
-unfolding marked_ram
-marked_is ram place w store e = rw e refl
 
 pub kept_elsewhere : (ram : List ℕ) (place t : ℕ) (store : Bool) → Markable ram place t → (p : ℕ) → (p + 4 ≤ place) ⊎ (place + 4 ≤ p) → entry_of (marked_ram ram place store) p ≡ entry_of ram p
 kept_elsewhere ram place t store h p apart =
