@@ -1,7 +1,6 @@
 -- The pages that a service reaches: the user's code, the trap table and the device.
-use Rattle.std.proofs.Common.{◌≡◌, ℕ, ◌+◌, ◌-◌, ◌*◌, ◌/◌, ◌^◌, ◌<◌, ◌≤◌, ◌⊎◌, inl, inr, Bool, true, false, List, Some, Ok, refl, ap, ◌∙◌, arith}
+use Rattle.std.proofs.Common.{◌≡◌, ℕ, ◌+◌, ◌-◌, ◌*◌, ◌/◌, ◌^◌, ◌<◌, ◌≤◌, Bool, true, false, List, Some, Ok, refl, ap, ◌∙◌, arith}
 use Rattle.std.specs.Prelude.{slice_index}
-use Rattle.std.proofs.lemmas.Bool.Decides.{nat_tests}
 use Rattle.v8_mmu.specs.Walked.{Page, walked, root_of}
 use Rattle.v8_mmu.specs.declared.access.Access.{Access}
 use Rattle.v8_mmu.specs.declared.access.AccessKind.{AccessKind}
@@ -11,8 +10,8 @@ use Rattle.v8_handlers.specs.Handlers.{trap_word}
 use Rattle.v8_core.specs.Memory.{fetches}
 use Rattle.v8_core.proofs.Turns.{fetched}
 use Rattle.v8_layout.specs.Layout.{Pages, AreFew, IsLoaded}
-use Rattle.v8_layout.specs.AddressMap.{mapped, within, page_at, reached, translated}
-use Rattle.v8_layout.proofs.Map.{tables_map}
+use Rattle.v8_layout.specs.AddressMap.{mapped, page_at, reached, translated}
+use Rattle.v8_layout.proofs.Map.{tables_map, code_at, table_at, device_at}
 use Rattle.v8_layout.proofs.Marks.{mark_keeps, code_markable, system_markable}
 use Rattle.v8_services.specs.Services.{code_marked, table_marked, device_marked}
 
@@ -26,48 +25,20 @@ by_supervisor k = record { user = false; kind = k }
 abbrev pub page : ℕ → ℕ → Page
 page p place = record { pa = p; level = 3; place = place }
 
-inside : (first end va : ℕ) → first ≤ va → va < end → within first end va ≡ true
-inside first end va low high = grind (arith, nat_tests)
+-- ---- the page of each word
 
-outside : (first end va : ℕ) → (va < first) ⊎ (end ≤ va) → within first end va ≡ false
-outside first end va (inl low) = grind (arith, nat_tests)
-outside first end va (inr high) = grind (arith, nat_tests)
-
--- ---- the page of each address
-
-code_page_at : (g : Pages) (va : ℕ) → 0x40000 ≤ va → va < 0x40000 + 4096 * g.code_count → page_at g va ≡ Some (mapped (va - 0x30000) 4 (0x2A00 + 4 * ((va - 0x40000) / 4096)))
-unfolding page_at
-code_page_at g va low high = rw (inside 0x40000 (0x40000 + 4096 * g.code_count) va low high) refl
-
-code_at : (g : Pages) (i : ℕ) → i < 1024 * g.code_count → page_at g (0x40000 + 4 * i) ≡ Some (mapped (0x10000 + 4 * i) 4 (0x2A00 + 4 * (i / 1024)))
-code_at g i less =
+code_word_at : (g : Pages) (i : ℕ) → i < 1024 * g.code_count → page_at g (0x40000 + 4 * i) ≡ Some (mapped (0x10000 + 4 * i) 4 (0x2A00 + 4 * (i / 1024)))
+code_word_at g i less =
     let a : 0x40000 + 4 * i - 0x30000 ≡ 0x10000 + 4 * i = omega arith in
     let b : (0x40000 + 4 * i - 0x40000) / 4096 ≡ i / 1024 = omega arith in
-    code_page_at g (0x40000 + 4 * i) (omega arith) (omega arith)
+    code_at g (0x40000 + 4 * i) (omega arith) (omega arith)
     ∙ ap (λ p. Some (mapped p 4 (0x2A00 + 4 * ((0x40000 + 4 * i - 0x40000) / 4096)))) a
     ∙ ap (λ k. Some (mapped (0x10000 + 4 * i) 4 (0x2A00 + 4 * k))) b
 
-table_page_at : (g : Pages) (va : ℕ) → AreFew g → 0xF0000000 ≤ va → va < 0xF0001000 → page_at g va ≡ Some (mapped (va - 0xF0000000) 6 0x2D00)
-unfolding page_at
-table_page_at g va few low high =
-    let code = few.code in
-    let words = few.data_pages in
-    rw (outside 0x40000 (0x40000 + 4096 * g.code_count) va (inr (omega arith))) (rw (outside 0x80000 (0x80000 + 4096 * g.data_count) va (inr (omega arith)))
-    (rw (outside (0x100000 - 4096 * g.stack_count) 0x100000 va (inr (omega arith))) (rw (inside 0xF0000000 0xF0001000 va low high) refl)))
-
-table_at : (g : Pages) (k : ℕ) → AreFew g → k < 1024 → page_at g (0xF0000000 + 4 * k) ≡ Some (mapped (4 * k) 6 0x2D00)
-table_at g k few less =
+table_word_at : (g : Pages) (k : ℕ) → AreFew g → k < 1024 → page_at g (0xF0000000 + 4 * k) ≡ Some (mapped (4 * k) 6 0x2D00)
+table_word_at g k few less =
     let a : 0xF0000000 + 4 * k - 0xF0000000 ≡ 4 * k = omega arith in
-    table_page_at g (0xF0000000 + 4 * k) few (omega arith) (omega arith) ∙ ap (λ p. Some (mapped p 6 0x2D00)) a
-
-device_page_at : (g : Pages) (va : ℕ) → AreFew g → 0xF0010000 ≤ va → va < 0xF0011000 → page_at g va ≡ Some (mapped (va - 0xF0010000 + 0x100000000) 7 0x2D40)
-unfolding page_at
-device_page_at g va few low high =
-    let code = few.code in
-    let words = few.data_pages in
-    rw (outside 0x40000 (0x40000 + 4096 * g.code_count) va (inr (omega arith))) (rw (outside 0x80000 (0x80000 + 4096 * g.data_count) va (inr (omega arith)))
-    (rw (outside (0x100000 - 4096 * g.stack_count) 0x100000 va (inr (omega arith))) (rw (outside 0xF0000000 0xF0001000 va (inr (omega arith)))
-    (rw (outside 0xF0001000 0xF0002000 va (inr (omega arith))) (rw (inside 0xF0010000 0xF0011000 va low high) refl)))))
+    table_at g (0xF0000000 + 4 * k) few (omega arith) (omega arith) ∙ ap (λ p. Some (mapped p 6 0x2D00)) a
 
 -- ---- and what an access finds there
 
@@ -76,19 +47,19 @@ walked_at n g words ram mmu va a few loaded root small = ap (λ r. walked ram r 
 
 to_code : (g : Pages) (i : ℕ) → i < 1024 * g.code_count → translated g (0x40000 + 4 * i) user_fetch ≡ Ok (page (0x10000 + 4 * i) (0x2A00 + 4 * (i / 1024)))
 unfolding translated
-to_code g i less = ap (reached (0x40000 + 4 * i) user_fetch) (code_at g i less)
+to_code g i less = ap (reached (0x40000 + 4 * i) user_fetch) (code_word_at g i less)
 
 to_table : (g : Pages) (k : ℕ) → AreFew g → k < 1024 → translated g (0xF0000000 + 4 * k) (by_supervisor Fetch) ≡ Ok (page (4 * k) 0x2D00)
 unfolding translated
-to_table g k few less = ap (reached (0xF0000000 + 4 * k) (by_supervisor Fetch)) (table_at g k few less)
+to_table g k few less = ap (reached (0xF0000000 + 4 * k) (by_supervisor Fetch)) (table_word_at g k few less)
 
 to_input : (g : Pages) → AreFew g → translated g 0xF0010000 (by_supervisor Load) ≡ Ok (page 0x100000000 0x2D40)
 unfolding translated
-to_input g few = ap (reached 0xF0010000 (by_supervisor Load)) (device_page_at g 0xF0010000 few (omega arith) (omega arith))
+to_input g few = ap (reached 0xF0010000 (by_supervisor Load)) (device_at g 0xF0010000 few (omega arith) (omega arith))
 
 to_device : (g : Pages) (va : ℕ) → AreFew g → 0xF0010000 ≤ va → va < 0xF0011000 → translated g va (by_supervisor Store) ≡ Ok (page (va - 0xF0010000 + 0x100000000) 0x2D40)
 unfolding translated
-to_device g va few low high = ap (reached va (by_supervisor Store)) (device_page_at g va few low high)
+to_device g va few low high = ap (reached va (by_supervisor Store)) (device_at g va few low high)
 
 -- ---- marks keep what is loaded
 
