@@ -8,11 +8,9 @@ use Rattle.std.specs.Prelude.{slice_index, not}
 use Rattle.v8_formats.specs.declared.instr.Three.{Three}
 use Rattle.v8_meaning.specs.declared.operation.Operation.TheVariants.{Restore}
 use Rattle.v8_mmu.specs.Ram.{entry_of}
-use Rattle.v8_mmu.specs.Paths.{marked, marked_ram}
+use Rattle.v8_mmu.specs.Paths.{marked_ram}
 use Rattle.v8_mmu.specs.declared.access.AccessKind.TheVariants.{Fetch}
 use Rattle.v8_mmu.specs.declared.translation.MmuRegs.{MmuRegs}
-use Rattle.v8_mmu.proofs.RamLemmas.{entry_is}
-use Rattle.v8_mmu.proofs.RamMore.{byte_beside_entry}
 use Rattle.v8_windows.specs.Windows.{above, below, is_masked, can_enter}
 use Rattle.v8_state.specs.Traps.{applies, first_trap, entered}
 use Rattle.v8_state.specs.declared.state.Cpu.{Cpu}
@@ -21,18 +19,15 @@ use Rattle.v8_core.specs.Accesses.{World, world}
 use Rattle.v8_core.specs.Steps.{next, turn_of, trap_event}
 use Rattle.v8_core.proofs.Turns.{traps_to}
 use Rattle.v8_layout.specs.Layout.{Pages}
-use Rattle.v8_layout.proofs.Marks.{Markable, kept_elsewhere, marked_is, sides}
+use Rattle.v8_layout.proofs.Marks.{Markable, kept_elsewhere, sides}
 use Rattle.v8_memory.specs.Board.{Device, board}
-use Rattle.v8_stages.proofs.Upto.{all_below_at}
-use Rattle.v8_stages.proofs.Windows.{below_within, above_within}
+use Rattle.v8_stages.specs.Places.{code_entry_place}
+use Rattle.v8_stages.proofs.Windows.{below_within, above_within, masked}
 use Rattle.v8_stages.proofs.Stages.{stage}
-use Rattle.v8_stages.proofs.Fetches.{fetches_code, code_place, code_page}
+use Rattle.v8_stages.proofs.Fetches.{fetches_code, code_page}
 use Rattle.v8_stages.proofs.Entered.{caught, first_row, entered_is}
+use Rattle.v8_stages.proofs.Turns.{marked_byte}
 use Rattle.v8_refill.specs.Laws.{Underflows}
-
--- the mask's bit forbids its window
-forbids : (w : ℕ) → w < 32 → is_masked (2 ^ w) w ≡ true
-forbids w small = all_below_at 32 (λ x. is_masked (2 ^ x) x) refl w small
 
 restore_traps : (n : ℕ) (cpu : Cpu n) (f : Three) → is_masked cpu.regs.mask (above n cpu.regs.current) ≡ true → first_trap n cpu (Restore f) ≡ Some 6
 unfolding applies can_enter
@@ -42,11 +37,11 @@ restore_traps n cpu f forbidden = rw forbidden refl
 abbrev pub pc_entry : (n : ℕ) → World n Device → ℕ
 pc_entry n old = 0x1012 + 0x100 * ((old.cpu.control.pc - 0x40000) / 4096)
 
-pub pc_spot : (n : ℕ) (g : Pages) (code : List ℕ) (mmu : MmuRegs) (old : World n Device) → Underflows n g code mmu old → Markable old.memory.ram (code_place old.cpu.control.pc) (pc_entry n old)
+pub pc_spot : (n : ℕ) (g : Pages) (code : List ℕ) (mmu : MmuRegs) (old : World n Device) → Underflows n g code mmu old → Markable old.memory.ram (code_entry_place old.cpu.control.pc) (pc_entry n old)
 pc_spot n g code mmu old o = code_page n g code old.memory.ram o.few o.loaded old.cpu.control.pc o.pc_low o.pc_high
 
 abbrev pub fetched_ram : (n : ℕ) → World n Device → List ℕ
-fetched_ram n old = marked_ram old.memory.ram (code_place old.cpu.control.pc) false
+fetched_ram n old = marked_ram old.memory.ram (code_entry_place old.cpu.control.pc) false
 
 abbrev word_here : (n : ℕ) → List ℕ → World n Device → ℕ
 word_here n code old = slice_index code ((old.cpu.control.pc - 0x40000) / 4)
@@ -64,7 +59,7 @@ traps n g code mmu old o =
     let high = o.pc_high in
     let whole = o.pc_whole in
     let i = (cpu.control.pc - 0x40000) / 4 in
-    let forbidden : is_masked cpu.regs.mask u ≡ true = ap (λ k. is_masked k u) o.mask ∙ forbids u (omega arith) in
+    let forbidden : is_masked cpu.regs.mask u ≡ true = ap (λ k. is_masked k u) o.mask ∙ masked u (omega arith) in
     traps_to board n mmu cpu ram (fetched_ram n old) old.memory.device (word_here n code old) (Restore o.restores.0) 6
     (record { running = o.running; sane = o.sane; straight = o.straight })
     (ap (λ (b : Bool). fetches mmu cpu.control.pc (record { user = not b; kind = Fetch }) ram) o.user
@@ -94,8 +89,7 @@ fetched_same ram place t store h =
     let high = h.high in
     let aligned = h.aligned in
     record {
-      bytes = λ p above_tables. ap (λ r. slice_index r p) (marked_is ram place h.entry.word store h.entry.there)
-          ∙ byte_beside_entry ram place (marked h.entry.word store) p (entry_is ram place h.entry.word h.entry.there).0.fits (inr (omega arith));
+      bytes = λ p above_tables. marked_byte ram place t store h p above_tables;
       words = λ p above_tables. kept_elsewhere ram place t store h p (inr (omega arith));
       entries = λ p whole other. kept_elsewhere ram place t store h p (sides p place whole aligned other);
     }

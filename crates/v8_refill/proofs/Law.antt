@@ -1,6 +1,6 @@
 -- The law of the underflow handler, from the attempt on.
 use Rattle.std.proofs.Common.{◌≡◌, ◌≢◌, ℕ, ◌+◌, ◌-◌, ◌*◌, ◌%◌, ◌^◌, ◌<◌, ◌≤◌, ◌⊎◌, inl, inr, Bool, true, false, List, [], length, get_or, Some, refl, sym, ap, ◌∙◌, subst, arith}
-use Rattle.std.specs.Prelude.{◌==◌, slice_index, slice_set, nat_lt, if◌then◌else◌}
+use Rattle.std.specs.Prelude.{◌==◌, slice_index, slice_set, if◌then◌else◌}
 use Rattle.std.proofs.lemmas.Bool.Decides.{nat_tests}
 use Rattle.std.proofs.lemmas.List.{get_or-set_same, get_or-set_other}
 use Rattle.v8_mmu.specs.Ram.{entry_of}
@@ -13,23 +13,17 @@ use Rattle.v8_layout.specs.Layout.{Pages}
 use Rattle.v8_layout.proofs.Marks.{mark_keeps}
 use Rattle.v8_memory.specs.Board.{Device, board}
 use Rattle.v8_stages.specs.Runs.{after, event_at}
-use Rattle.v8_stages.proofs.Upto.{each_window}
-use Rattle.v8_stages.proofs.Windows.{above_below, below_within, above_within, mask_word}
-use Rattle.v8_stages.proofs.Fetches.{code_place}
+use Rattle.v8_stages.specs.Places.{entered_window, code_entry_place}
+use Rattle.v8_stages.proofs.Windows.{above_below, below_within, above_within, mask_within, mask_word}
 use Rattle.v8_stages.proofs.Stages.{stage, finished}
 use Rattle.v8_stages.proofs.Entered.{caught, first_row, first_row_pcs, first_row_kept, finished_control}
 use Rattle.v8_stages.proofs.Turns.{area, Comes, shifted, later_event}
-use Rattle.v8_refill.specs.Laws.{Underflows, HasFrame, Loads, Refills, SameRam, Refilled, entered_window, refilled_window, next_window, stack_pointer, save_place, UnderflowLaw}
+use Rattle.v8_refill.specs.Laws.{Underflows, HasFrame, Loads, Refills, SameRam, Refilled, refilled_window, next_window, stack_pointer, save_place, UnderflowLaw}
 use Rattle.v8_refill.proofs.Cells.{Loading, refilled, home, spot, home_low, home_high, spot_low, spot_high, are_rows, loaded_word, kept_word, with_row}
 use Rattle.v8_stages.proofs.Doubles.{board_doubles, word_in, word_there, word_fits}
 use Rattle.v8_refill.proofs.Rows.{row_5, low_kept, long, fit}
 use Rattle.v8_refill.proofs.Handler.{Frame, loads_of, underflow as handled_by, window_apart, next_apart}
 use Rattle.v8_refill.proofs.Attempt.{pc_entry, pc_spot, fetched_ram, traps, trapped_to, fetched_same}
-
-mask_fits : (n w : ℕ) → 4 ≤ n → n ≤ 32 → w < n → 2 ^ w < 2 ^ n
-mask_fits n w four many within =
-    let test : nat_lt (2 ^ w) (2 ^ n) ≡ true = each_window (λ k x. nat_lt (2 ^ x) (2 ^ k)) refl n w four many within in
-    grind (arith, nat_tests, test)
 
 -- a word of another window than the one with a row of its own
 beside_row : (rows : List (List ℕ)) (w : ℕ) (row : List ℕ) (u j : ℕ) → u ≢ w → slice_index (get_or (slice_set rows w row) u []) j ≡ slice_index (get_or rows u []) j
@@ -167,7 +161,7 @@ refills n g code mmu old o frame =
         few = four;
         many = many;
         current = subst (λ x. x < n) (sym back) within;
-        mask = mask_fits n b four many b_within;
+        mask = mask_within n b four many b_within;
         globals = file.globals;
         rows = with_row n (last_rows n old) w (last_row n old) (are_rows n rows u b (saved n old) 16 l (omega arith)) w_within (long n row (2 ^ u) sixteen)
             (λ j. fit n row (2 ^ u) j sixteen (mask_word u (omega arith)) (first_fits n g code mmu old o));
@@ -212,12 +206,12 @@ later_turns n g code mmu old o room =
     let few = o.few.code in
     let high = o.pc_high in
     let spot = pc_spot n g code mmu old o in
-    let same = fetched_same old.memory.ram (code_place cpu.control.pc) (pc_entry n old) false spot in
+    let same = fetched_same old.memory.ram (code_entry_place cpu.control.pc) (pc_entry n old) false spot in
     let parts = first_row_pcs n cpu (file.rows.each (below n cur) (below_within n cur file.few file.many file.current)) in
     handled_by board n g code mmu old.memory.device
     (record { root = o.root; running = o.running; few = file.few; many = file.many; pages = o.few }) (board_doubles old.memory.device)
     (caught cpu.control 6) cpu.regs.words cur cpu.regs.globals (first_row n cpu) (saved n old) cpu.control.pc cpu.control.npc (fetched_ram n old)
-    (mark_keeps n g code old.memory.ram (code_place cpu.control.pc) (pc_entry n old) false o.loaded spot)
+    (mark_keeps n g code old.memory.ram (code_entry_place cpu.control.pc) (pc_entry n old) false o.loaded spot)
     (frame_in n g code mmu old (fetched_ram n old) o room same.words)
     parts.2 parts.0 parts.1 (omega arith) o.npc_word o.pc_whole o.npc_whole
 
@@ -232,7 +226,7 @@ same_ram n g code mmu old o room t =
     let low = room.low in
     let most = o.few.stack in
     let whole_area : at % 4 ≡ 0 = omega arith in
-    let same = fetched_same old.memory.ram (code_place old.cpu.control.pc) (pc_entry n old) false (pc_spot n g code mmu old o) in
+    let same = fetched_same old.memory.ram (code_entry_place old.cpu.control.pc) (pc_entry n old) false (pc_spot n g code mmu old o) in
     record {
       bytes = λ p high.
           let side : (p < at) ⊎ (at + 4 * 0 ≤ p) = search arith in

@@ -3,14 +3,14 @@
 --   low_kept                       the outs, PC and nPC are there still
 --   long, fit                      sixteen words
 --   turned                         the new mask
-use Rattle.std.proofs.Common.{◌≡◌, ◌≢◌, ℕ, ◌-◌, ◌%◌, ◌^◌, ◌<◌, ◌≤◌, Bool, true, false, List, length, refl, ap, ◌∙◌, arith}
-use Rattle.std.specs.Prelude.{slice_index, slice_set, bit_or, bit_xor, ◌==◌}
-use Rattle.std.proofs.lemmas.Bool.Decides.{nat_tests}
+use Rattle.std.proofs.Common.{◌≡◌, ℕ, ◌-◌, ◌%◌, ◌^◌, ◌<◌, ◌≤◌, List, length, ap, ◌∙◌, arith}
+use Rattle.std.specs.Prelude.{slice_index, slice_set, bit_or, bit_xor}
 use Rattle.std.proofs.lemmas.List.{get_or-set_same, get_or-set_other, length-set}
 use Rattle.std.proofs.lemmas.Nat.{or_lt}
 use Rattle.v8_alu.specs.Results.{shifted_left, shifted_right}
 use Rattle.v8_windows.specs.Windows.{above}
 use Rattle.v8_stages.proofs.Windows.{left_bit}
+use Rattle.v8_stages.proofs.Stages.{fit_written}
 
 abbrev pub row_1 : List ℕ → ℕ → List ℕ
 row_1 row mask = slice_set row 11 mask
@@ -72,19 +72,6 @@ turned n m row few many within sixteen = ap (λ x. bit_xor x 0 % 2 ^ n) (joined 
 
 -- ---- words stay words
 
-fit_written : (xs : List ℕ) (k x i : ℕ) → ((j : ℕ) → slice_index xs j < 2 ^ 32) → k < length xs → x < 2 ^ 32 → slice_index (slice_set xs k x) i < 2 ^ 32
-fit_written xs k x i fit there small = by_place (i == k) refl
-  where
-    by_place : (t : Bool) → (i == k) ≡ t → slice_index (slice_set xs k x) i < 2 ^ 32
-    by_place true e =
-        let same : i ≡ k = grind (arith, nat_tests) in
-        let is : slice_index (slice_set xs k x) i ≡ x = rw same (get_or-set_same xs k x 0 there) in
-        rw is small
-    by_place false e =
-        let other : i ≢ k = grind (arith, nat_tests) in
-        let is : slice_index (slice_set xs k x) i ≡ slice_index xs i = get_or-set_other xs k i x 0 other in
-        rw is (fit i)
-
 shifted_fits : (x k : ℕ) → x < 2 ^ 32 → shifted_right x k < 2 ^ 32
 shifted_fits x k small = omega arith
 
@@ -93,8 +80,8 @@ fit n row mask j sixteen small each =
     let size : length (row_1 row mask) ≡ 16 = length-set row 11 mask ∙ sixteen in
     let size_3 = long_3 row mask sixteen in
     let size_4 = long_4 n row mask sixteen in
-    let fit_1 : (i : ℕ) → slice_index (row_1 row mask) i < 2 ^ 32 = λ i. fit_written row 11 mask i each (omega arith) small in
-    let fit_3 : (i : ℕ) → slice_index (row_3 row mask) i < 2 ^ 32 = λ i. fit_written (row_1 row mask) 12 (shifted_left (slice_index (row_1 row mask) 11) 1) i fit_1 (omega (arith, size)) (omega arith) in
-    let fit_4 : (i : ℕ) → slice_index (row_4 n row mask) i < 2 ^ 32 = λ i. fit_written (row_3 row mask) 13 (shifted_right (slice_index (row_3 row mask) 11) (n - 1)) i fit_3 (omega (arith, size_3)) (shifted_fits (slice_index (row_3 row mask) 11) (n - 1) (fit_3 11)) in
-    fit_written (row_4 n row mask) 12 (bit_or (slice_index (row_4 n row mask) 13) (slice_index (row_4 n row mask) 12)) j fit_4 (omega (arith, size_4))
-    (or_lt 32 (slice_index (row_4 n row mask) 13) (slice_index (row_4 n row mask) 12) (fit_4 13) (fit_4 12))
+    let fit_1 : (i : ℕ) → slice_index (row_1 row mask) i < 2 ^ 32 = fit_written row 11 mask each (omega arith) small in
+    let fit_3 : (i : ℕ) → slice_index (row_3 row mask) i < 2 ^ 32 = fit_written (row_1 row mask) 12 (shifted_left (slice_index (row_1 row mask) 11) 1) fit_1 (omega (arith, size)) (omega arith) in
+    let fit_4 : (i : ℕ) → slice_index (row_4 n row mask) i < 2 ^ 32 = fit_written (row_3 row mask) 13 (shifted_right (slice_index (row_3 row mask) 11) (n - 1)) fit_3 (omega (arith, size_3)) (shifted_fits (slice_index (row_3 row mask) 11) (n - 1) (fit_3 11)) in
+    fit_written (row_4 n row mask) 12 (bit_or (slice_index (row_4 n row mask) 13) (slice_index (row_4 n row mask) 12)) fit_4 (omega (arith, size_4))
+    (or_lt 32 (slice_index (row_4 n row mask) 13) (slice_index (row_4 n row mask) 12) (fit_4 13) (fit_4 12)) j

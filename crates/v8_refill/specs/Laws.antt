@@ -7,19 +7,16 @@ use Rattle.v8_meaning.specs.declared.operation.Operation.TheVariants.{Restore}
 use Rattle.v8_mmu.specs.Ram.{entry_of}
 use Rattle.v8_mmu.specs.Walked.{root_of}
 use Rattle.v8_mmu.specs.declared.translation.MmuRegs.{MmuRegs}
-use Rattle.v8_windows.specs.Windows.{Windows, IsFile, word_at, below, above}
+use Rattle.v8_windows.specs.Windows.{Windows, IsFile, word_at, above}
 use Rattle.v8_state.specs.declared.state.Cpu.{Cpu}
 use Rattle.v8_core.specs.declared.turn.Event.TheVariants.{Ran, Trapped}
 use Rattle.v8_core.specs.Accesses.{World}
 use Rattle.v8_layout.specs.Layout.{Pages, AreFew, IsLoaded}
 use Rattle.v8_memory.specs.Board.{Device, board}
 use Rattle.v8_stages.specs.Runs.{after, event_at}
+use Rattle.v8_stages.specs.Places.{entered_window, code_entry_place, stack_entry_place}
 
 -- ---- before
-
--- the window that a trap enters
-abbrev pub entered_window : (n : ℕ) → Cpu n → ℕ
-entered_window n cpu = below n cpu.regs.current
 
 -- the window that a RESTORE enters, whose words the handler loads
 abbrev pub refilled_window : (n : ℕ) → Cpu n → ℕ
@@ -86,13 +83,6 @@ pub record Refills (n : ℕ) (old new : Cpu n) : Type 0 where
       word_at new.regs w j ≡ word_at old.regs w j
   pub file : IsFile n new.regs
   pub control : new.control ≡ record old.control { ps = old.control.s; tt = 6 }
-
--- the entry of the code page of an address, and of the stack page
-abbrev pub code_entry_place : ℕ → ℕ
-code_entry_place va = 0x2A00 + 4 * ((va - 0x40000) / 4096)
-
-abbrev pub stack_entry_place : ℕ → ℕ
-stack_entry_place va = 0x2C00 + 4 * ((va - 0xC0000) / 4096)
 
 -- Above the tables no byte differs; of the tables up to that of system pages no entry but those of the pages of PC and of the 64 bytes.
 pub record SameRam (pc at : ℕ) (old new : List ℕ) : Type 0 where

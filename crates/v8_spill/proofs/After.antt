@@ -1,22 +1,15 @@
 -- The registers after the overflow handler.
-use Rattle.std.proofs.Common.{◌≡◌, ◌≢◌, ℕ, ◌^◌, ◌<◌, ◌≤◌, Bool, true, false, List, [], length, get_or, None, refl, sym, ap, ◌∙◌, subst, arith}
-use Rattle.std.specs.Prelude.{slice_index, slice_set, ◌==◌, nat_lt}
+use Rattle.std.proofs.Common.{◌≡◌, ◌≢◌, ℕ, ◌^◌, ◌<◌, Bool, true, false, List, [], length, get_or, None, refl, sym, ap, ◌∙◌, subst, arith}
+use Rattle.std.specs.Prelude.{slice_index, slice_set, ◌==◌}
 use Rattle.std.proofs.lemmas.Bool.Decides.{nat_tests}
 use Rattle.std.proofs.lemmas.List.{get_or-set_same, get_or-set_other, length-set}
 use Rattle.v8_windows.specs.Windows.{IsFile, AreGlobals, below}
 use Rattle.v8_state.specs.declared.state.Cpu.{Cpu}
-use Rattle.v8_stages.proofs.Upto.{each_window}
-use Rattle.v8_stages.proofs.Windows.{above_below, below_within, mask_word}
+use Rattle.v8_stages.proofs.Windows.{above_below, below_within, mask_within, mask_word}
 use Rattle.v8_stages.proofs.Stages.{finished}
 use Rattle.v8_stages.proofs.Entered.{caught, first_row, first_row_pcs, first_row_kept, finished_control}
 use Rattle.v8_spill.specs.Laws.{Spills}
 use Rattle.v8_spill.proofs.Rows.{row_5, globals_7, row_5_long, row_5_low, row_5_fits, first_row_fits, globals_back}
-
-less : (a b : ℕ) → nat_lt a b ≡ true → a < b
-less a b e = grind (arith, nat_tests)
-
-mask_within : (n w : ℕ) → 4 ≤ n → n ≤ 32 → w < n → 2 ^ w < 2 ^ n
-mask_within n w few many within = less (2 ^ w) (2 ^ n) (each_window (λ k x. nat_lt (2 ^ x) (2 ^ k)) refl n w few many within)
 
 -- a fact about each window's words, where one window's are new
 row_by : (rows : List (List ℕ)) (w : ℕ) (row : List ℕ) (v : ℕ) (P : List ℕ → Type 0) → w < length rows → P row → P (get_or rows v []) → P (get_or (slice_set rows w row) v [])

@@ -5,11 +5,9 @@ use Rattle.std.proofs.lemmas.Bool.Decides.{nat_tests}
 use Rattle.v8_formats.specs.declared.instr.Three.{Three}
 use Rattle.v8_meaning.specs.declared.operation.Operation.TheVariants.{Save}
 use Rattle.v8_mmu.specs.Ram.{entry_of}
-use Rattle.v8_mmu.specs.Paths.{marked, marked_ram}
+use Rattle.v8_mmu.specs.Paths.{marked_ram}
 use Rattle.v8_mmu.specs.declared.access.AccessKind.TheVariants.{Fetch}
 use Rattle.v8_mmu.specs.declared.translation.MmuRegs.{MmuRegs}
-use Rattle.v8_mmu.proofs.RamLemmas.{entry_is}
-use Rattle.v8_mmu.proofs.RamMore.{byte_beside_entry}
 use Rattle.v8_windows.specs.Windows.{below, is_masked, can_enter}
 use Rattle.v8_state.specs.declared.state.Cpu.{Cpu}
 use Rattle.v8_state.specs.Traps.{applies, first_trap, entered}
@@ -19,25 +17,21 @@ use Rattle.v8_core.specs.Accesses.{World, world}
 use Rattle.v8_core.specs.Steps.{next, turn_of, trap_event}
 use Rattle.v8_core.proofs.Turns.{traps_to}
 use Rattle.v8_layout.specs.Layout.{Pages}
-use Rattle.v8_layout.proofs.Marks.{Markable, kept_elsewhere, mark_keeps, marked_is, sides}
+use Rattle.v8_layout.proofs.Marks.{Markable, kept_elsewhere, mark_keeps, sides}
 use Rattle.v8_memory.specs.Board.{Device, board}
 use Rattle.v8_stages.specs.Runs.{after, event_at}
-use Rattle.v8_stages.proofs.Upto.{all_below_at}
-use Rattle.v8_stages.proofs.Windows.{above_below, below_differs, below_within}
-use Rattle.v8_stages.proofs.Fetches.{code_page, code_place, fetches_code}
+use Rattle.v8_stages.specs.Places.{entered_window, code_entry_place}
+use Rattle.v8_stages.proofs.Windows.{above_below, below_differs, below_within, masked}
+use Rattle.v8_stages.proofs.Fetches.{code_page, fetches_code}
 use Rattle.v8_stages.proofs.Stages.{stage, finished}
 use Rattle.v8_stages.proofs.Entered.{caught, first_row, first_row_pcs, entered_is}
-use Rattle.v8_stages.proofs.Turns.{Setting, area, Comes, shifted, later_event}
-use Rattle.v8_spill.specs.Laws.{Overflows, HasRoom, Saves, Spilled, Handled, entered_window, spilled_window, stack_pointer}
+use Rattle.v8_stages.proofs.Turns.{Setting, area, Comes, marked_byte, shifted, later_event}
+use Rattle.v8_spill.specs.Laws.{Overflows, HasRoom, Saves, Spilled, Handled, spilled_window, stack_pointer}
 use Rattle.v8_spill.proofs.Rows.{globals_7, row_5_low}
 use Rattle.v8_spill.proofs.Stores.{Frame, spilled_word}
 use Rattle.v8_spill.proofs.Overflow.{overflow}
 use Rattle.v8_stages.proofs.Doubles.{board_doubles}
 use Rattle.v8_spill.proofs.After.{last_row, last_row_low, last_row_fits, spills}
-
--- the mask's bit forbids its window
-masked : (w : ℕ) → w < 32 → is_masked (2 ^ w) w ≡ true
-masked w small = all_below_at 32 (λ x. is_masked (2 ^ x) x) refl w small
 
 save_traps : (n : ℕ) (cpu : Cpu n) (f : Three) → is_masked cpu.regs.mask (below n cpu.regs.current) ≡ true → first_trap n cpu (Save f) ≡ Some 5
 unfolding applies can_enter
@@ -53,18 +47,11 @@ spilled_high rows u row i big =
     let test : nat_lt i 8 ≡ false = grind (arith, nat_tests) in
     ap (λ (t : Bool). if t then slice_index (get_or rows u []) (8 + i) else slice_index row (i - 8)) test
 
-marked_byte : (ram : List ℕ) (place t : ℕ) (store : Bool) → Markable ram place t → (p : ℕ) → 0x2E00 ≤ p → slice_index (marked_ram ram place store) p ≡ slice_index ram p
-marked_byte ram place t store h p above =
-    let high = h.high in
-    let aligned = h.aligned in
-    ap (λ r. slice_index r p) (marked_is ram place h.entry.word store h.entry.there)
-    ∙ byte_beside_entry ram place (marked h.entry.word store) p (entry_is ram place h.entry.word h.entry.there).0.fits (inr (omega arith))
-
 -- RAM when the trap has been taken: the fetch has marked the page of PC
 abbrev fetched_ram : (n : ℕ) → World n Device → List ℕ
-fetched_ram n old = marked_ram old.memory.ram (code_place old.cpu.control.pc) false
+fetched_ram n old = marked_ram old.memory.ram (code_entry_place old.cpu.control.pc) false
 
-abbrev spot : (n : ℕ) (g : Pages) (code : List ℕ) (mmu : MmuRegs) (old : World n Device) → Overflows n g code mmu old → Markable old.memory.ram (code_place old.cpu.control.pc) (0x1012 + 0x100 * ((old.cpu.control.pc - 0x40000) / 4096))
+abbrev spot : (n : ℕ) (g : Pages) (code : List ℕ) (mmu : MmuRegs) (old : World n Device) → Overflows n g code mmu old → Markable old.memory.ram (code_entry_place old.cpu.control.pc) (0x1012 + 0x100 * ((old.cpu.control.pc - 0x40000) / 4096))
 spot n g code mmu old o = code_page n g code old.memory.ram o.few o.loaded old.cpu.control.pc o.pc_low o.pc_high
 
 abbrev trap_word_at : (n : ℕ) → List ℕ → World n Device → ℕ
@@ -140,7 +127,7 @@ handled n g code mmu old o room =
       fit = fit;
     } in
     let set : Setting board n g code mmu old.memory.device = record { root = o.root; running = o.running; few = few; many = many; pages = o.few } in
-    let loaded = mark_keeps n g code old.memory.ram (code_place cpu.control.pc) (0x1012 + 0x100 * ((cpu.control.pc - 0x40000) / 4096)) false o.loaded (spot n g code mmu old o) in
+    let loaded = mark_keeps n g code old.memory.ram (code_entry_place cpu.control.pc) (0x1012 + 0x100 * ((cpu.control.pc - 0x40000) / 4096)) false o.loaded (spot n g code mmu old o) in
     overflow board n g code mmu old.memory.device set (board_doubles old.memory.device) (caught cpu.control 5) rows w cpu.regs.globals row (stack_pointer n cpu) cpu.control.pc cpu.control.npc (fetched_ram n old) loaded within
     o.file.globals.count pcs.2 frame
     (row_5_low n cpu.regs.globals row (2 ^ w) 9 (omega arith) ∙ pcs.0) (row_5_low n cpu.regs.globals row (2 ^ w) 10 (omega arith) ∙ pcs.1) pc_word o.npc_word o.pc_whole o.npc_whole
@@ -155,7 +142,7 @@ saves_words n g code mmu old o room =
     let sp = stack_pointer n cpu in
     let base = sp - 0x60000 in
     let mark = spot n g code mmu old o in
-    let place = code_place cpu.control.pc in
+    let place = code_entry_place cpu.control.pc in
     let entry = 0x1012 + 0x100 * ((cpu.control.pc - 0x40000) / 4096) in
     let high = mark.high in
     let aligned = mark.aligned in

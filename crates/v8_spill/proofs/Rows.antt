@@ -1,11 +1,11 @@
 -- The words of the trap's window, and %g1, as the overflow handler changes them; and its new mask.
-use Rattle.std.proofs.Common.{◌≡◌, ◌≢◌, ℕ, ◌-◌, ◌%◌, ◌^◌, ◌<◌, ◌≤◌, Bool, true, false, List, length, refl, sym, ap, ◌∙◌, subst, arith}
-use Rattle.std.specs.Prelude.{slice_index, slice_set, bit_or, bit_xor, ◌==◌}
-use Rattle.std.proofs.lemmas.Bool.Decides.{nat_tests}
+use Rattle.std.proofs.Common.{◌≡◌, ℕ, ◌-◌, ◌%◌, ◌^◌, ◌<◌, ◌≤◌, List, length, ap, ◌∙◌, arith}
+use Rattle.std.specs.Prelude.{slice_index, slice_set, bit_or, bit_xor}
 use Rattle.std.proofs.lemmas.List.{get_or-set_same, get_or-set_other, length-set, set-set, set-get_or}
 use Rattle.v8_alu.specs.Results.{shifted_left, shifted_right}
 use Rattle.v8_windows.specs.Windows.{below}
 use Rattle.v8_stages.proofs.Windows.{right_bit}
+use Rattle.v8_stages.proofs.Stages.{fit_written}
 
 -- after rd %wim,%l3 and or %g0,%g1,%l4
 abbrev pub row_3 : List ℕ → List ℕ → ℕ → List ℕ
@@ -76,26 +76,15 @@ globals_back n globals row mask sixteen =
     ∙ set-get_or globals 1 0
 
 -- words stay words
-fit_set : (xs : List ℕ) (k x : ℕ) → ((j : ℕ) → slice_index xs j < 2 ^ 32) → k < length xs → x < 2 ^ 32 → (i : ℕ) → slice_index (slice_set xs k x) i < 2 ^ 32
-fit_set xs k x fit there small i = by_place (i == k) refl
-  where
-    by_place : (t : Bool) → (i == k) ≡ t → slice_index (slice_set xs k x) i < 2 ^ 32
-    by_place true e =
-        let same : i ≡ k = grind (arith, nat_tests) in
-        subst (λ y. y < 2 ^ 32) (sym (ap (slice_index (slice_set xs k x)) same ∙ get_or-set_same xs k x 0 there)) small
-    by_place false e =
-        let other : i ≢ k = grind (arith, nat_tests) in
-        subst (λ y. y < 2 ^ 32) (sym (get_or-set_other xs k i x 0 other)) (fit i)
-
 pub row_5_fits : (n : ℕ) (globals row : List ℕ) (mask : ℕ) → length row ≡ 16 → mask < 2 ^ 32 → slice_index globals 1 < 2 ^ 32 → ((j : ℕ) → slice_index row j < 2 ^ 32) → (i : ℕ) → slice_index (row_5 n globals row mask) i < 2 ^ 32
 row_5_fits n globals row mask sixteen small global fit i =
     let long : length (slice_set row 11 mask) ≡ 16 = length-set row 11 mask ∙ sixteen in
-    let one = fit_set row 11 mask fit (omega arith) small in
-    let two = fit_set (slice_set row 11 mask) 12 (slice_index globals 1) one (omega arith) global in
+    let one = fit_written row 11 mask fit (omega arith) small in
+    let two = fit_written (slice_set row 11 mask) 12 (slice_index globals 1) one (omega arith) global in
     let long_3 = row_3_long globals row mask sixteen in
-    fit_set (row_3 globals row mask) 13 (shifted_left (slice_index (row_3 globals row mask) 11) (n - 1)) two (omega arith) (omega arith) i
+    fit_written (row_3 globals row mask) 13 (shifted_left (slice_index (row_3 globals row mask) 11) (n - 1)) two (omega arith) (omega arith) i
 
 pub first_row_fits : (row : List ℕ) (pc npc : ℕ) → length row ≡ 16 → pc < 2 ^ 32 → npc < 2 ^ 32 → ((j : ℕ) → slice_index row j < 2 ^ 32) → (i : ℕ) → slice_index (slice_set (slice_set row 9 pc) 10 npc) i < 2 ^ 32
 first_row_fits row pc npc sixteen a b fit i =
     let long : length (slice_set row 9 pc) ≡ 16 = length-set row 9 pc ∙ sixteen in
-    fit_set (slice_set row 9 pc) 10 npc (fit_set row 9 pc fit (omega arith) a) (omega arith) b i
+    fit_written (slice_set row 9 pc) 10 npc (fit_written row 9 pc fit (omega arith) a) (omega arith) b i

@@ -14,14 +14,11 @@ use Rattle.v8_core.specs.Accesses.{World}
 use Rattle.v8_layout.specs.Layout.{Pages, AreFew, IsLoaded}
 use Rattle.v8_memory.specs.Board.{Device, board}
 use Rattle.v8_stages.specs.Runs.{after, event_at}
+use Rattle.v8_stages.specs.Places.{entered_window, code_entry_place, stack_entry_place}
 
 -- ---- before
 
--- the window that a SAVE, and a trap, enters
-abbrev pub entered_window : (n : ℕ) → Cpu n → ℕ
-entered_window n cpu = below n cpu.regs.current
-
--- the one below it, whose words the handler stores
+-- the window below the one that the SAVE enters, whose words the handler stores
 abbrev pub spilled_window : (n : ℕ) → Cpu n → ℕ
 spilled_window n cpu = below n (entered_window n cpu)
 
@@ -69,13 +66,6 @@ pub record Spills (n : ℕ) (old new : Cpu n) : Type 0 where
   pub kept : (w j : ℕ) → (w ≡ entered_window n old → j < 8) → word_at new.regs w j ≡ word_at old.regs w j
   pub file : IsFile n new.regs
   pub control : new.control ≡ record old.control { ps = old.control.s; tt = 5 }
-
--- the entry of the code page of an address, and of the stack page
-abbrev pub code_entry_place : ℕ → ℕ
-code_entry_place va = 0x2A00 + 4 * ((va - 0x40000) / 4096)
-
-abbrev pub stack_entry_place : ℕ → ℕ
-stack_entry_place va = 0x2C00 + 4 * ((va - 0xC0000) / 4096)
 
 -- The 64 bytes from a physical address on hold the locals and ins of window u; those ins are the outs of window w above it. Above the
 -- tables no other byte differs; of the entries of code, data and stack pages none but those of the pages of PC and of the 64 bytes.

@@ -3,10 +3,10 @@
 --   computes_local, computes_global     a result to a local (16 to 23) of the trap's window, to %g1
 --   goes_does      ba                   jumps_does   jmpl r,%g0      returns_does   rett r
 --   saves_does, restores_does, nothing_does
---   address_of_local, address_past      the address that a local holds, and the one 4 past it
+--   address_of_local                    the address that a local holds
 --   NAME_calm      no trap applies: compute_calm, set_high_calm, reads_mask_calm, writes_mask_calm, goes_calm, save_calm, restore_calm, jump_calm,
 --                  return_calm, store_double_calm, load_double_calm
-use Rattle.std.proofs.Common.{◌≡◌, ℕ, ◌+◌, ◌-◌, ◌*◌, ◌%◌, ◌^◌, ◌<◌, ◌≤◌, false, List, length, None, refl, ap, ◌∙◌, arith}
+use Rattle.std.proofs.Common.{◌≡◌, ℕ, ◌+◌, ◌-◌, ◌%◌, ◌^◌, ◌<◌, ◌≤◌, false, List, length, None, refl, ap, ◌∙◌, arith}
 use Rattle.std.specs.Prelude.{slice_index, slice_set, bit_or, bit_xor}
 use Rattle.std.proofs.Math.Nat.{mod-eq_of_lt}
 use Rattle.v8_word.specs.declared.Cond.TheVariants.{Always}
@@ -135,12 +135,6 @@ pub nothing_does : (n : ℕ) (c : Control) (rows : List (List ℕ)) (w : ℕ) (g
 unfolding effect written with_reg advanced
 nothing_does n c rows w globals row current mask pc npc = refl
 
--- sethi high,%l3
-pub sets_high_does : (n : ℕ) (c : Control) (rows : List (List ℕ)) (w : ℕ) (globals row : List ℕ) (mask pc npc high : ℕ) → w < length rows →
-    effect n (stage n c rows w globals row w mask pc npc) (SetHigh (record { rd = 19; imm22 = high })) ≡ stage n c rows w globals (slice_set row 11 (high * 2 ^ 10 % 2 ^ 32)) w mask npc (following npc)
-unfolding effect
-sets_high_does n c rows w globals row mask pc npc high there = local_written n c rows w globals row mask pc npc 19 (high * 2 ^ 10 % 2 ^ 32) there (omega arith) (omega arith)
-
 -- ba
 pub goes_does : (n : ℕ) (c : Control) (rows : List (List ℕ)) (w : ℕ) (globals row : List ℕ) (current mask pc npc d : ℕ) →
     effect n (stage n c rows w globals row current mask pc npc) (BranchOnCondition (record { annul = false; cond = Always; displacement = d })) ≡ stage n c rows w globals row current mask npc (target pc d)
@@ -196,13 +190,6 @@ address_of_local n c rows w globals row mask pc npc r x there low high is word =
     ap (λ k. (k + reg_of n (inside rows w globals row w mask) 0) % 2 ^ 32) (read_own n rows w globals row mask r there (omega arith) high ∙ is)
     ∙ ap (λ z. (x + z) % 2 ^ 32) (reads_zero n rows w globals row w mask)
     ∙ ap (λ k. k % 2 ^ 32) none ∙ mod-eq_of_lt word
-
--- and the one 4 past it
-pub address_past : (n : ℕ) (c : Control) (rows : List (List ℕ)) (w : ℕ) (globals row : List ℕ) (mask pc npc r x k : ℕ) → w < length rows → 16 ≤ r → r < 24 → slice_index row (r - 8) ≡ x →
-    address_of n (stage n c rows w globals row w mask pc npc) r (Immediate k) ≡ (x + k) % 2 ^ 32
-unfolding address_of
-address_past n c rows w globals row mask pc npc r x k there low high is =
-    ap (λ a. (a + k) % 2 ^ 32) (read_own n rows w globals row mask r there (omega arith) high ∙ is)
 
 -- ---- no trap applies
 

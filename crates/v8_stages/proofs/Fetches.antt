@@ -1,12 +1,10 @@
 -- Where pages lie on a loaded board, and what is fetched there.
---   table_at, handlers_at, stack_at, code_at     the page of an address, by the address map
---   walk_at                                      the walk to a page, where its ACC permits the access
---   fetches_trap, fetches_handler                the supervisor's fetch of a word of the trap table, of the handlers
---   fetches_code                                 a user's fetch of a word of code
---   trap_page, handler_page, code_page           the entries that these fetches mark
-use Rattle.std.proofs.Common.{◌≡◌, ℕ, ◌+◌, ◌-◌, ◌*◌, ◌/◌, ◌^◌, ◌<◌, ◌≤◌, ◌⊎◌, inl, inr, true, false, List, Some, Ok, refl, ap, ◌∙◌, arith}
+--   walk_at                                the walk to a page, where its ACC permits the access
+--   fetches_trap, fetches_handler          the supervisor's fetch of a word of the trap table, of the handlers
+--   fetches_code                           a user's fetch of a word of code
+--   trap_page, handler_page, code_page     the entries that these fetches mark
+use Rattle.std.proofs.Common.{◌≡◌, ℕ, ◌+◌, ◌-◌, ◌*◌, ◌/◌, ◌^◌, ◌<◌, ◌≤◌, true, false, List, Some, Ok, refl, ap, ◌∙◌, arith}
 use Rattle.std.specs.Prelude.{slice_index}
-use Rattle.std.proofs.lemmas.Bool.Decides.{nat_tests}
 use Rattle.v8_mmu.specs.Ram.{entry_of}
 use Rattle.v8_mmu.specs.Paths.{marked_ram}
 use Rattle.v8_mmu.specs.Permissions.{permits, rights_of}
@@ -18,50 +16,11 @@ use Rattle.v8_core.specs.Memory.{fetches}
 use Rattle.v8_core.proofs.Turns.{fetched}
 use Rattle.v8_handlers.specs.Handlers.{trap_word, handler_word}
 use Rattle.v8_layout.specs.Layout.{Pages, AreFew, HasTables, IsLoaded}
-use Rattle.v8_layout.specs.AddressMap.{mapped, within, page_at, through, reached, translated}
-use Rattle.v8_layout.proofs.Map.{tables_map}
+use Rattle.v8_layout.specs.AddressMap.{mapped, page_at, through, reached, translated}
+use Rattle.v8_layout.proofs.Map.{tables_map, table_at, handlers_at, code_at}
 use Rattle.v8_layout.proofs.Marks.{Markable, mark_keeps, system_markable, code_markable}
+use Rattle.v8_stages.specs.Places.{code_entry_place}
 use Rattle.v8_stages.specs.Laws.{supervisor_fetch}
-
-inside : (first end va : ℕ) → first ≤ va → va < end → within first end va ≡ true
-inside first end va low high = grind (arith, nat_tests)
-
-outside : (first end va : ℕ) → (va < first) ⊎ (end ≤ va) → within first end va ≡ false
-outside first end va (inl low) = grind (arith, nat_tests)
-outside first end va (inr high) = grind (arith, nat_tests)
-
-below_system : (g : Pages) → AreFew g → (va : ℕ) → 0x100000 ≤ va → ((0x40000 + 4096 * g.code_count ≤ va) × (0x80000 + 4096 * g.data_count ≤ va))
-below_system g few va low =
-    let code = few.code in
-    let words = few.data_pages in
-    (omega arith, omega arith)
-
-pub table_at : (g : Pages) (va : ℕ) → AreFew g → 0xF0000000 ≤ va → va < 0xF0001000 → page_at g va ≡ Some (mapped (va - 0xF0000000) 6 0x2D00)
-unfolding page_at
-table_at g va few low high =
-    let past = below_system g few va (omega arith) in
-    rw (outside 0x40000 (0x40000 + 4096 * g.code_count) va (inr past.0)) (rw (outside 0x80000 (0x80000 + 4096 * g.data_count) va (inr past.1))
-    (rw (outside (0x100000 - 4096 * g.stack_count) 0x100000 va (inr (omega arith))) (rw (inside 0xF0000000 0xF0001000 va low high) refl)))
-
-pub handlers_at : (g : Pages) (va : ℕ) → AreFew g → 0xF0001000 ≤ va → va < 0xF0002000 → page_at g va ≡ Some (mapped (va - 0xF0000000) 6 0x2D04)
-unfolding page_at
-handlers_at g va few low high =
-    let past = below_system g few va (omega arith) in
-    rw (outside 0x40000 (0x40000 + 4096 * g.code_count) va (inr past.0)) (rw (outside 0x80000 (0x80000 + 4096 * g.data_count) va (inr past.1))
-    (rw (outside (0x100000 - 4096 * g.stack_count) 0x100000 va (inr (omega arith))) (rw (outside 0xF0000000 0xF0001000 va (inr low)) (rw (inside 0xF0001000 0xF0002000 va low high) refl))))
-
-pub stack_at : (g : Pages) (va : ℕ) → AreFew g → 0x100000 - 4096 * g.stack_count ≤ va → va < 0x100000 → page_at g va ≡ Some (mapped (va - 0x60000) 1 (0x2C00 + 4 * ((va - 0xC0000) / 4096)))
-unfolding page_at
-stack_at g va few low high =
-    let code = few.code in
-    let words = few.data_pages in
-    let stack = few.stack in
-    rw (outside 0x40000 (0x40000 + 4096 * g.code_count) va (inr (omega arith)))
-    (rw (outside 0x80000 (0x80000 + 4096 * g.data_count) va (inr (omega arith))) (rw (inside (0x100000 - 4096 * g.stack_count) 0x100000 va low high) refl))
-
-pub code_at : (g : Pages) (va : ℕ) → 0x40000 ≤ va → va < 0x40000 + 4096 * g.code_count → page_at g va ≡ Some (mapped (va - 0x30000) 4 (0x2A00 + 4 * ((va - 0x40000) / 4096)))
-unfolding page_at
-code_at g va low high = rw (inside 0x40000 (0x40000 + 4096 * g.code_count) va low high) refl
 
 permitted : (a : Access) (pa acc place : ℕ) → permits (rights_of acc a.user) a.kind ≡ true → through a (mapped pa acc place) ≡ Ok (record { pa = pa; level = 3; place = place })
 permitted a pa acc place may = rw may refl
@@ -102,22 +61,18 @@ fetches_handler n g code ram mmu root few loaded k va small is =
 abbrev pub user_fetch : Access
 user_fetch = record { user = true; kind = Fetch }
 
--- the entry of a code address's page
-abbrev pub code_place : ℕ → ℕ
-code_place va = 0x2A00 + 4 * ((va - 0x40000) / 4096)
-
-pub code_page : (n : ℕ) (g : Pages) (code ram : List ℕ) → AreFew g → IsLoaded n g code ram → (va : ℕ) → 0x40000 ≤ va → va < 0x40000 + 4096 * g.code_count → Markable ram (code_place va) (0x1012 + 0x100 * ((va - 0x40000) / 4096))
+pub code_page : (n : ℕ) (g : Pages) (code ram : List ℕ) → AreFew g → IsLoaded n g code ram → (va : ℕ) → 0x40000 ≤ va → va < 0x40000 + 4096 * g.code_count → Markable ram (code_entry_place va) (0x1012 + 0x100 * ((va - 0x40000) / 4096))
 code_page n g code ram few loaded va low high = code_markable g ram loaded.tables few ((va - 0x40000) / 4096) (omega arith)
 
 pub fetches_code : (n : ℕ) (g : Pages) (code ram : List ℕ) (mmu : MmuRegs) → root_of mmu ≡ 0x2000 → AreFew g → IsLoaded n g code ram → (i va : ℕ) → i < 1024 * g.code_count → va ≡ 0x40000 + 4 * i →
-    fetches mmu va user_fetch ram ≡ (Ok (slice_index code i), marked_ram ram (code_place va) false)
+    fetches mmu va user_fetch ram ≡ (Ok (slice_index code i), marked_ram ram (code_entry_place va) false)
 fetches_code n g code ram mmu root few loaded i va small is =
     let most = few.code in
     let low : 0x40000 ≤ va = omega arith in
     let high : va < 0x40000 + 4096 * g.code_count = omega arith in
-    let kept = mark_keeps n g code ram (code_place va) (0x1012 + 0x100 * ((va - 0x40000) / 4096)) false loaded (code_page n g code ram few loaded va low high) in
+    let kept = mark_keeps n g code ram (code_entry_place va) (0x1012 + 0x100 * ((va - 0x40000) / 4096)) false loaded (code_page n g code ram few loaded va low high) in
     let place : va - 0x30000 ≡ 0x10000 + 4 * i = omega arith in
-    fetched mmu va user_fetch ram (record { pa = va - 0x30000; level = 3; place = code_place va }) (slice_index code i) (slice_index code i)
-    (walk_at g ram mmu va user_fetch (va - 0x30000) 4 (code_place va) loaded.tables few root (omega arith) (code_at g va low high) refl)
+    fetched mmu va user_fetch ram (record { pa = va - 0x30000; level = 3; place = code_entry_place va }) (slice_index code i) (slice_index code i)
+    (walk_at g ram mmu va user_fetch (va - 0x30000) 4 (code_entry_place va) loaded.tables few root (omega arith) (code_at g va low high) refl)
     (ap (entry_of ram) place ∙ loaded.code i small)
-    (ap (entry_of (marked_ram ram (code_place va) false)) place ∙ kept.code i small)
+    (ap (entry_of (marked_ram ram (code_entry_place va) false)) place ∙ kept.code i small)

@@ -32,12 +32,14 @@ use Rattle.v8_core.specs.Steps.{acts, ran_event, turn_of}
 use Rattle.v8_core.proofs.Turns.{runs_to}
 use Rattle.v8_handlers.specs.Handlers.{handler_word}
 use Rattle.v8_layout.specs.Layout.{Pages, AreFew, IsLoaded}
+use Rattle.v8_layout.proofs.Map.{stack_at}
 use Rattle.v8_layout.proofs.Marks.{Markable, kept_elsewhere, mark_keeps, stack_markable, store_keeps}
-use Rattle.v8_stages.proofs.Fetches.{handler_page, fetches_handler, stack_at, walk_at}
+use Rattle.v8_stages.specs.Places.{stack_entry_place}
+use Rattle.v8_stages.proofs.Fetches.{handler_page, fetches_handler, walk_at}
 use Rattle.v8_stages.proofs.Words.{at_stack}
 use Rattle.v8_stages.proofs.Stages.{stage}
 use Rattle.v8_stages.proofs.Effects.{load_double_calm, store_double_calm}
-use Rattle.v8_stages.proofs.Turns.{Setting, area, stack_place, Keeps, keeps_marked, keeps_reached, keeps_stored, Comes, one_more}
+use Rattle.v8_stages.proofs.Turns.{Setting, area, Keeps, keeps_marked, keeps_reached, keeps_stored, Comes, one_more}
 
 pub record Doubles {D : Type 0} (m : Meaning D) (device : D) : Type 0 where
   pub store : (ram : List ℕ) (pa v : ℕ) → length ram ≡ 0x100000 → pa % 8 ≡ 0 → pa + 8 ≤ 0x100000 → m.store ram device pa Double v ≡ Some (with_double ram pa v, device)
@@ -52,7 +54,7 @@ pub record OnStack (g : Pages) (va : ℕ) : Type 0 where
 abbrev pub stack_word : ℕ → ℕ
 stack_word va = 0x9006 + 0x100 * ((va - 0xC0000) / 4096 - 48)
 
-pub stack_spot : (n : ℕ) (g : Pages) (code ram : List ℕ) → AreFew g → IsLoaded n g code ram → (va : ℕ) → OnStack g va → Markable ram (stack_place va) (stack_word va)
+pub stack_spot : (n : ℕ) (g : Pages) (code ram : List ℕ) → AreFew g → IsLoaded n g code ram → (va : ℕ) → OnStack g va → Markable ram (stack_entry_place va) (stack_word va)
 stack_spot n g code ram few loaded va on =
     let most = few.stack in
     let low = on.low in
@@ -60,12 +62,12 @@ stack_spot n g code ram few loaded va on =
     stack_markable g ram loaded.tables few ((va - 0xC0000) / 4096) (omega arith) (omega arith)
 
 pub stack_walk : (n : ℕ) (g : Pages) (code ram : List ℕ) (mmu : MmuRegs) → root_of mmu ≡ 0x2000 → AreFew g → IsLoaded n g code ram → (va : ℕ) → OnStack g va → (a : Access) → permits (rights_of 1 a.user) a.kind ≡ true →
-    walked ram (root_of mmu) va a ≡ Ok (record { pa = va - 0x60000; level = 3; place = stack_place va })
+    walked ram (root_of mmu) va a ≡ Ok (record { pa = va - 0x60000; level = 3; place = stack_entry_place va })
 stack_walk n g code ram mmu root few loaded va on a may =
     let most = few.stack in
     let low = on.low in
     let high = on.high in
-    walk_at g ram mmu va a (va - 0x60000) 1 (stack_place va) loaded.tables few root (omega arith) (stack_at g va few (omega arith) (omega arith)) may
+    walk_at g ram mmu va a (va - 0x60000) 1 (stack_entry_place va) loaded.tables few root (omega arith) (stack_at g va few (omega arith) (omega arith)) may
 
 abbrev load_access : Access
 load_access = record { user = false; kind = LoadKind }
@@ -79,18 +81,18 @@ mem_of ram device = record { ram = ram; device = device }
 -- ---- a store
 
 stores_there : {D : Type 0} (m : Meaning D) (n : ℕ) (g : Pages) (code ram : List ℕ) (mmu : MmuRegs) (device : D) → Setting m n g code mmu device → Doubles m device → IsLoaded n g code ram → (va v : ℕ) → OnStack g va →
-    stores m mmu va store_access Double v (record { ram = ram; device = device }) ≡ (Done (va - 0x60000), record { ram = with_double (marked_ram ram (stack_place va) true) (va - 0x60000) v; device = device })
+    stores m mmu va store_access Double v (record { ram = ram; device = device }) ≡ (Done (va - 0x60000), record { ram = with_double (marked_ram ram (stack_entry_place va) true) (va - 0x60000) v; device = device })
 unfolding stores
 stores_there m n g code ram mmu device s d loaded va v on =
     let low = on.low in
     let high = on.high in
     let aligned = on.aligned in
     let most = s.pages.stack in
-    let page : Page = record { pa = va - 0x60000; level = 3; place = stack_place va } in
+    let page : Page = record { pa = va - 0x60000; level = 3; place = stack_entry_place va } in
     let mem : Memory _ = record { ram = ram; device = device } in
-    let kept = mark_keeps n g code ram (stack_place va) (stack_word va) true loaded (stack_spot n g code ram s.pages loaded va on) in
+    let kept = mark_keeps n g code ram (stack_entry_place va) (stack_word va) true loaded (stack_spot n g code ram s.pages loaded va on) in
     ap (λ o. store_through m store_access Double v mem o) (stack_walk n g code ram mmu s.root s.pages loaded va on store_access refl)
-    ∙ ap (λ o. store_answered mem page store_access o) (d.store (marked_ram ram (stack_place va) true) (va - 0x60000) v kept.tables.size (omega arith) (omega arith))
+    ∙ ap (λ o. store_answered mem page store_access o) (d.store (marked_ram ram (stack_entry_place va) true) (va - 0x60000) v kept.tables.size (omega arith) (omega arith))
 
 -- two words joined, and taken apart again
 high_of : (x y : ℕ) → y < 2 ^ 32 → (x * 2 ^ 32 + y) / 2 ^ 32 ≡ x
@@ -136,8 +138,8 @@ in_store m n g code mmu device s d base word stored old j c rows w globals row u
     let marks = marked_ram before.ram 0x2D04 false in
     let loaded = mark_keeps n g code before.ram 0x2D04 0x11A false before.loaded page in
     let spot = stack_spot n g code marks s.pages loaded va on in
-    let marks2 = marked_ram marks (stack_place va) true in
-    let loaded2 = mark_keeps n g code marks (stack_place va) (stack_word va) true loaded spot in
+    let marks2 = marked_ram marks (stack_entry_place va) true in
+    let loaded2 = mark_keeps n g code marks (stack_entry_place va) (stack_word va) true loaded spot in
     let x = word stored in
     let y = word (suc stored) in
     let p = base + 4 * stored in
@@ -148,7 +150,7 @@ in_store m n g code mmu device s d base word stored old j c rows w globals row u
     let mid_size : length mid ≡ 0x100000 = length-with_entry marks2 p x (omega arith) ∙ size in
     let mid_loaded = store_keeps n g code marks2 p x s.pages loaded2 (omega arith) (omega arith) (omega arith) in
     let next_place : p + 4 ≡ base + 4 * suc stored = omega arith in
-    let kept = keeps_reached base word stored stored (suc (suc stored)) stored old.memory.ram marks (stack_place va) (stack_word va) true (keeps_marked (area base word stored stored) old.memory.ram before.ram 0x2D04 0x11A false before.keeps page (omega arith)) spot (ap stack_place place) (omega arith) (omega arith) in
+    let kept = keeps_reached base word stored stored (suc (suc stored)) stored old.memory.ram marks (stack_entry_place va) (stack_word va) true (keeps_marked (area base word stored stored) old.memory.ram before.ram 0x2D04 0x11A false before.keeps page (omega arith)) spot (ap stack_entry_place place) (omega arith) (omega arith) in
     let kept1 = keeps_stored base word stored (suc (suc stored)) old.memory.ram marks2 kept (omega arith) (omega arith) fits in
     let kept2 = keeps_stored base word (suc stored) (suc (suc stored)) old.memory.ram mid kept1 (omega arith) (omega arith) fits_too in
     let is_stored = stores_there m n g code marks mmu device s d loaded va (x * 2 ^ 32 + y) on
@@ -170,21 +172,21 @@ in_store m n g code mmu device s d base word stored old j c rows w globals row u
 
 loads_there : {D : Type 0} (m : Meaning D) (n : ℕ) (g : Pages) (code ram : List ℕ) (mmu : MmuRegs) (device : D) → Setting m n g code mmu device → Doubles m device → IsLoaded n g code ram → (va x y : ℕ) → OnStack g va →
     entry_of ram (va - 0x60000) ≡ Some x → entry_of ram (va - 0x60000 + 4) ≡ Some y →
-    loads m mmu va load_access Double (record { ram = ram; device = device }) ≡ (Value (x * 2 ^ 32 + y) (va - 0x60000), record { ram = marked_ram ram (stack_place va) false; device = device })
+    loads m mmu va load_access Double (record { ram = ram; device = device }) ≡ (Value (x * 2 ^ 32 + y) (va - 0x60000), record { ram = marked_ram ram (stack_entry_place va) false; device = device })
 unfolding loads
 loads_there m n g code ram mmu device s d loaded va x y on first second =
     let low = on.low in
     let high = on.high in
     let aligned = on.aligned in
     let most = s.pages.stack in
-    let page : Page = record { pa = va - 0x60000; level = 3; place = stack_place va } in
+    let page : Page = record { pa = va - 0x60000; level = 3; place = stack_entry_place va } in
     let mem : Memory _ = record { ram = ram; device = device } in
     let spot = stack_spot n g code ram s.pages loaded va on in
-    let marks = marked_ram ram (stack_place va) false in
+    let marks = marked_ram ram (stack_entry_place va) false in
     ap (λ o. load_through m load_access Double mem o) (stack_walk n g code ram mmu s.root s.pages loaded va on load_access refl)
     ∙ ap (λ o. load_answered mem page load_access marks o) (d.load marks (va - 0x60000) x y (omega arith) (omega arith)
-    (kept_elsewhere ram (stack_place va) (stack_word va) false spot (va - 0x60000) (inr (omega arith)) ∙ first)
-    (kept_elsewhere ram (stack_place va) (stack_word va) false spot (va - 0x60000 + 4) (inr (omega arith)) ∙ second))
+    (kept_elsewhere ram (stack_entry_place va) (stack_word va) false spot (va - 0x60000) (inr (omega arith)) ∙ first)
+    (kept_elsewhere ram (stack_entry_place va) (stack_word va) false spot (va - 0x60000 + 4) (inr (omega arith)) ∙ second))
 
 load_acts : {D : Type 0} (m : Meaning D) (n : ℕ) (mmu : MmuRegs) (c : Control) (rows : List (List ℕ)) (w : ℕ) (globals row : List ℕ) (u mask pc npc rd offset va x y : ℕ) (ram new : List ℕ) (device : D) (next_cpu : Cpu n) →
     address_of n (stage n c rows w globals row u mask pc npc) 14 (Immediate offset) ≡ va → y < 2 ^ 32 →
@@ -221,7 +223,7 @@ in_load m n g code mmu device s d base word reached i r old j c rows w globals r
     let marks = marked_ram before.ram 0x2D04 false in
     let loaded = mark_keeps n g code before.ram 0x2D04 0x11A false before.loaded page in
     let spot = stack_spot n g code marks s.pages loaded va on in
-    let marks2 = marked_ram marks (stack_place va) false in
+    let marks2 = marked_ram marks (stack_entry_place va) false in
     let kept = keeps_marked (area base word 0 reached) old.memory.ram before.ram 0x2D04 0x11A false before.keeps page (omega arith) in
     let access : DataAccess = record { va = va; pa = va - 0x60000; size = Double; store = false } in
     let first_there : entry_of marks (va - 0x60000) ≡ Some x = kept.words (va - 0x60000) (omega arith) (inr (omega arith)) ∙ first in
@@ -233,5 +235,5 @@ in_load m n g code mmu device s d base word reached i r old j c rows w globals r
     (load_double_calm n c rows w globals row u mask pc npc rd offset even (ap (λ q. q % 8) address ∙ aligned))
     (load_acts m n mmu c rows w globals row u mask pc npc rd offset va x y marks marks2 device new address fits (loads_there m n g code marks mmu device s d loaded va x y on first_there second_there) does))
     (ap ran_event s.running)
-    (keeps_reached base word 0 reached r i old.memory.ram marks (stack_place va) (stack_word va) false kept spot (ap stack_place place) within more)
-    (mark_keeps n g code marks (stack_place va) (stack_word va) false loaded spot)
+    (keeps_reached base word 0 reached r i old.memory.ram marks (stack_entry_place va) (stack_word va) false kept spot (ap stack_entry_place place) within more)
+    (mark_keeps n g code marks (stack_entry_place va) (stack_word va) false loaded spot)

@@ -3,12 +3,13 @@
 --   rows      the words of all windows, but for window w, whose 16 words are `row`; w is the window that the trap entered
 --   globals   the globals
 --   current, mask, pc, npc
--- Reading: read_own (current = w, registers 8 to 23), read_own_ins (24 to 31 there), read_other (current ≠ w, 8 to 23),
---   read_other_ins (24 to 31, the window above ≠ w), read_trap_ins (24 to 31, the window above = w), read_global.
--- Writing: write_own, write_own_ins, write_other, write_other_ins.
+-- Reading: read_own (current = w, registers 8 to 23), read_other (current ≠ w, 8 to 23), read_trap_ins (24 to 31, the window
+--   above = w), read_global.
+-- Writing: write_own, write_other, write_other_ins (24 to 31, the window above ≠ w).
+-- fit_written: a word written to a list of words leaves words.
 -- The state after an instruction: local_computed, global_computed, local_written, pair_written, pair_written_ins.
-use Rattle.std.proofs.Common.{◌≡◌, ◌≢◌, ℕ, ◌+◌, ◌-◌, ◌%◌, ◌<◌, ◌≤◌, true, false, List, [], length, get_or, None, refl, sym, ap, ◌∙◌, arith}
-use Rattle.std.specs.Prelude.{slice_index, slice_set}
+use Rattle.std.proofs.Common.{◌≡◌, ◌≢◌, ℕ, ◌+◌, ◌-◌, ◌%◌, ◌^◌, ◌<◌, ◌≤◌, Bool, true, false, List, [], length, get_or, None, refl, sym, ap, ◌∙◌, subst, arith}
+use Rattle.std.specs.Prelude.{slice_index, slice_set, ◌==◌}
 use Rattle.std.proofs.lemmas.Bool.Decides.{nat_tests}
 use Rattle.std.proofs.lemmas.List.{get_or-set_same, get_or-set_other, set-set, set_comm}
 use Rattle.v8_alu.specs.Outcomes.{out}
@@ -48,25 +49,11 @@ read_own n rows w globals row mask r there low high =
     let same : get_or (slice_set rows w row) w [] ≡ row = get_or-set_same rows w row [] there in
     grind (arith, nat_tests, same)
 
-pub read_own_ins : (n : ℕ) (rows : List (List ℕ)) (w : ℕ) (globals row : List ℕ) (mask r : ℕ) → above n w ≢ w → 24 ≤ r → r < 32 → reg_of n (inside rows w globals row w mask) r ≡ slice_index (get_or rows (above n w) []) (r - 24)
-unfolding reg_of
-read_own_ins n rows w globals row mask r other low high =
-    let same : get_or (slice_set rows w row) (above n w) [] ≡ get_or rows (above n w) [] = get_or-set_other rows w (above n w) row [] other in
-    let t : slice_index (get_or (slice_set rows w row) (above n w) []) (r - 24) ≡ slice_index (get_or rows (above n w) []) (r - 24) = ap (λ (xs : List ℕ). slice_index xs (r - 24)) same in
-    grind (arith, nat_tests, t)
-
 pub read_other : (n : ℕ) (rows : List (List ℕ)) (w : ℕ) (globals row : List ℕ) (u mask r : ℕ) → u ≢ w → 8 ≤ r → r < 24 → reg_of n (inside rows w globals row u mask) r ≡ slice_index (get_or rows u []) (r - 8)
 unfolding reg_of
 read_other n rows w globals row u mask r other low high =
     let same : get_or (slice_set rows w row) u [] ≡ get_or rows u [] = get_or-set_other rows w u row [] other in
     let t : slice_index (get_or (slice_set rows w row) u []) (r - 8) ≡ slice_index (get_or rows u []) (r - 8) = ap (λ (xs : List ℕ). slice_index xs (r - 8)) same in
-    grind (arith, nat_tests, t)
-
-pub read_other_ins : (n : ℕ) (rows : List (List ℕ)) (w : ℕ) (globals row : List ℕ) (u mask r : ℕ) → above n u ≢ w → 24 ≤ r → r < 32 → reg_of n (inside rows w globals row u mask) r ≡ slice_index (get_or rows (above n u) []) (r - 24)
-unfolding reg_of
-read_other_ins n rows w globals row u mask r other low high =
-    let same : get_or (slice_set rows w row) (above n u) [] ≡ get_or rows (above n u) [] = get_or-set_other rows w (above n u) row [] other in
-    let t : slice_index (get_or (slice_set rows w row) (above n u) []) (r - 24) ≡ slice_index (get_or rows (above n u) []) (r - 24) = ap (λ (xs : List ℕ). slice_index xs (r - 24)) same in
     grind (arith, nat_tests, t)
 
 pub read_trap_ins : (n : ℕ) (rows : List (List ℕ)) (w : ℕ) (globals row : List ℕ) (u mask r : ℕ) → w < length rows → above n u ≡ w → 24 ≤ r → r < 32 → reg_of n (inside rows w globals row u mask) r ≡ slice_index row (r - 24)
@@ -102,12 +89,6 @@ write_own n rows w globals row mask r x there low high =
     let t : re_worded (inside rows w globals row w mask) (with_cell (slice_set rows w row) w (r - 8) x) ≡ inside rows w globals (slice_set row (r - 8) x) w mask = ap (re_worded (inside rows w globals row w mask)) (cell_in_it rows w row (r - 8) x there) in
     grind (arith, nat_tests, t)
 
-pub write_own_ins : (n : ℕ) (rows : List (List ℕ)) (w : ℕ) (globals row : List ℕ) (mask r x : ℕ) → above n w ≢ w → 24 ≤ r → r < 32 → with_reg n (inside rows w globals row w mask) r x ≡ inside (with_cell rows (above n w) (r - 24) x) w globals row w mask
-unfolding with_reg
-write_own_ins n rows w globals row mask r x other low high =
-    let t : re_worded (inside rows w globals row w mask) (with_cell (slice_set rows w row) (above n w) (r - 24) x) ≡ inside (with_cell rows (above n w) (r - 24) x) w globals row w mask = ap (re_worded (inside rows w globals row w mask)) (cell_beside rows w row (above n w) (r - 24) x other) in
-    grind (arith, nat_tests, t)
-
 pub write_other : (n : ℕ) (rows : List (List ℕ)) (w : ℕ) (globals row : List ℕ) (u mask r x : ℕ) → u ≢ w → 8 ≤ r → r < 24 → with_reg n (inside rows w globals row u mask) r x ≡ inside (with_cell rows u (r - 8) x) w globals row u mask
 unfolding with_reg
 write_other n rows w globals row u mask r x other low high =
@@ -119,6 +100,17 @@ unfolding with_reg
 write_other_ins n rows w globals row u mask r x other low high =
     let t : re_worded (inside rows w globals row u mask) (with_cell (slice_set rows w row) (above n u) (r - 24) x) ≡ inside (with_cell rows (above n u) (r - 24) x) w globals row u mask = ap (re_worded (inside rows w globals row u mask)) (cell_beside rows w row (above n u) (r - 24) x other) in
     grind (arith, nat_tests, t)
+
+pub fit_written : (xs : List ℕ) (k x : ℕ) → ((j : ℕ) → slice_index xs j < 2 ^ 32) → k < length xs → x < 2 ^ 32 → (i : ℕ) → slice_index (slice_set xs k x) i < 2 ^ 32
+fit_written xs k x fit there small i = by_place (i == k) refl
+  where
+    by_place : (t : Bool) → (i == k) ≡ t → slice_index (slice_set xs k x) i < 2 ^ 32
+    by_place true e =
+        let same : i ≡ k = grind (arith, nat_tests) in
+        subst (λ y. y < 2 ^ 32) (sym (ap (slice_index (slice_set xs k x)) same ∙ get_or-set_same xs k x 0 there)) small
+    by_place false e =
+        let other : i ≢ k = grind (arith, nat_tests) in
+        subst (λ y. y < 2 ^ 32) (sym (get_or-set_other xs k i x 0 other)) (fit i)
 
 -- ---- the state after a write
 

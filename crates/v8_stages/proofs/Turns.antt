@@ -1,13 +1,14 @@
 -- Turns of a handler in a row, from the state that the trap enters.
 --   Setting            what every turn needs of the machine: the tables' root, a device that hasn't stopped, 4 to 32 windows
 --   Area, Keeps        the save area, and what RAM is beside the old one: the words that were stored there, and else what it was but for marks
+--   marked_byte        the bytes above the tables after a mark
 --   keeps_all, keeps_marked, keeps_reached, keeps_stored      RAM at first; after a mark of a system page, of a page of the save area, after a store there
 --   Comes              after j turns the processor is `new`: its RAM, that all is loaded still, and that the turns ran
 --   starts             no turn yet
 --   one_more           one turn more, whatever it does
 --   in_table, in_handler      one turn more: a word of the trap table, of the handlers, that reaches no memory
 --   shifted, first_event, later_event     turns after a first one
-use Rattle.std.proofs.Common.{◌≡◌, ◌≢◌, ℕ, zero, suc, ◌+◌, ◌-◌, ◌*◌, ◌/◌, ◌%◌, ◌^◌, ◌<◌, ◌≤◌, ◌⊎◌, inl, inr, Bool, false, List, length, Some, None, Ok, refl, sym, ap, ◌∙◌, arith}
+use Rattle.std.proofs.Common.{◌≡◌, ◌≢◌, ℕ, zero, suc, ◌+◌, ◌*◌, ◌%◌, ◌^◌, ◌<◌, ◌≤◌, ◌⊎◌, inl, inr, Bool, false, List, length, Some, None, Ok, refl, sym, ap, ◌∙◌, arith}
 use Rattle.std.specs.Prelude.{slice_index}
 use Rattle.v8_formats.specs.Table.{meaning}
 use Rattle.v8_meaning.specs.Operations.{operation_of}
@@ -19,7 +20,7 @@ use Rattle.v8_mmu.specs.Walked.{root_of}
 use Rattle.v8_mmu.specs.declared.access.AccessKind.TheVariants.{Fetch}
 use Rattle.v8_mmu.specs.declared.translation.MmuRegs.{MmuRegs}
 use Rattle.v8_mmu.proofs.RamLemmas.{Within, entry_is, entry_of-with_entry}
-use Rattle.v8_mmu.proofs.RamMore.{byte_beside_entry}
+use Rattle.v8_mmu.proofs.RamMore.{byte_beside_entry, entry_elsewhere, marked_is}
 use Rattle.v8_state.specs.declared.state.Control.{Control}
 use Rattle.v8_state.specs.declared.state.Cpu.{Cpu}
 use Rattle.v8_state.specs.Effects.{effect}
@@ -32,9 +33,9 @@ use Rattle.v8_core.specs.Steps.{next, acts, ran_event, turn_of}
 use Rattle.v8_core.proofs.Turns.{runs_to}
 use Rattle.v8_handlers.specs.Handlers.{trap_word, handler_word}
 use Rattle.v8_layout.specs.Layout.{Pages, AreFew, IsLoaded}
-use Rattle.v8_layout.proofs.Entries.{entry_elsewhere}
-use Rattle.v8_layout.proofs.Marks.{Markable, kept_elsewhere, mark_keeps, marked_is, sides}
+use Rattle.v8_layout.proofs.Marks.{Markable, kept_elsewhere, mark_keeps, sides}
 use Rattle.v8_stages.specs.Runs.{after, event_at}
+use Rattle.v8_stages.specs.Places.{stack_entry_place}
 use Rattle.v8_stages.proofs.Fetches.{trap_page, handler_page, fetches_trap, fetches_handler}
 use Rattle.v8_stages.proofs.Stages.{stage}
 
@@ -58,10 +59,6 @@ pub record Area : Type 0 where
 abbrev pub area : ℕ → (ℕ → ℕ) → ℕ → ℕ → Area
 area base word stored reached = record { base = base; word = word; stored = stored; reached = reached }
 
--- the entry of the stack's page of a virtual address
-abbrev pub stack_place : ℕ → ℕ
-stack_place va = 0x2C00 + 4 * ((va - 0xC0000) / 4096)
-
 -- The words that were stored are there. Above the tables all else is as it was; below the system's table of pages all but the
 -- entries of pages of the save area.
 pub record Keeps (a : Area) (old new : List ℕ) : Type 0 where
@@ -69,7 +66,7 @@ pub record Keeps (a : Area) (old new : List ℕ) : Type 0 where
   pub stored : (i : ℕ) → i < a.stored → entry_of new (a.base + 4 * i) ≡ Some (a.word i)
   pub words : (p : ℕ) → 0x2E00 ≤ p → (p + 4 ≤ a.base) ⊎ (a.base + 4 * a.stored ≤ p) → entry_of new p ≡ entry_of old p
   pub bytes : (p : ℕ) → 0x2E00 ≤ p → (p < a.base) ⊎ (a.base + 4 * a.stored ≤ p) → slice_index new p ≡ slice_index old p
-  pub entries : (p : ℕ) → p < 0x2D00 → p % 4 ≡ 0 → ((i : ℕ) → i < a.reached → p ≢ stack_place (a.base + 0x60000 + 4 * i)) → entry_of new p ≡ entry_of old p
+  pub entries : (p : ℕ) → p < 0x2D00 → p % 4 ≡ 0 → ((i : ℕ) → i < a.reached → p ≢ stack_entry_place (a.base + 0x60000 + 4 * i)) → entry_of new p ≡ entry_of old p
 
 pub keeps_all : (a : Area) (ram : List ℕ) → 0x2E00 ≤ a.base → a.stored ≡ 0 → Keeps a ram ram
 keeps_all a ram high none = record {
@@ -81,7 +78,7 @@ keeps_all a ram high none = record {
 }
 
 -- the bytes above the tables after a mark
-marked_byte : (ram : List ℕ) (place t : ℕ) (store : Bool) → Markable ram place t → (p : ℕ) → 0x2E00 ≤ p → slice_index (marked_ram ram place store) p ≡ slice_index ram p
+pub marked_byte : (ram : List ℕ) (place t : ℕ) (store : Bool) → Markable ram place t → (p : ℕ) → 0x2E00 ≤ p → slice_index (marked_ram ram place store) p ≡ slice_index ram p
 marked_byte ram place t store h p above =
     let high = h.high in
     let aligned = h.aligned in
@@ -104,7 +101,7 @@ keeps_marked a old ram place t store k h system =
 
 -- a mark of the page in which word i of the save area lies, i < r
 pub keeps_reached : (base : ℕ) (word : ℕ → ℕ) (stored reached r i : ℕ) (old ram : List ℕ) (place t : ℕ) (store : Bool) →
-    Keeps (area base word stored reached) old ram → Markable ram place t → place ≡ stack_place (base + 0x60000 + 4 * i) → i < r → reached ≤ r →
+    Keeps (area base word stored reached) old ram → Markable ram place t → place ≡ stack_entry_place (base + 0x60000 + 4 * i) → i < r → reached ≤ r →
     Keeps (area base word stored r) old (marked_ram ram place store)
 keeps_reached base word stored reached r i old ram place t store k h is within more =
     let high = h.high in

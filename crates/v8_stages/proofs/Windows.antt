@@ -3,10 +3,9 @@
 --   below_within, above_within        they are windows
 --   below_differs, above_differs, two_above_differs, three_above_differs     none of these is the window itself
 --   below_is_not_above                nor are these two the same
---   below_twice                       two below two above
 --   right_bit, left_bit               the mask of one bit as the handlers turn it is that of the window below, or above
---   mask_word                         that mask is a word
---   not_masked                        it forbids no other window
+--   mask_word, mask_within            that mask is a word, and has no bit beyond the windows'
+--   masked, not_masked                it forbids its window, and no other
 use Rattle.std.proofs.Common.{◌≡◌, ◌≢◌, ℕ, ◌-◌, ◌%◌, ◌^◌, ◌<◌, ◌≤◌, Bool, true, false, refl, arith}
 use Rattle.std.specs.Prelude.{◌==◌, bit_or, bit_xor, not, if◌then◌else◌, nat_lt}
 use Rattle.std.proofs.lemmas.Bool.Decides.{nat_tests}
@@ -28,9 +27,6 @@ above_below n w few many within = equals (above n (below n w)) w (each_window (�
 
 pub below_above : (n w : ℕ) → 4 ≤ n → n ≤ 32 → w < n → below n (above n w) ≡ w
 below_above n w few many within = equals (below n (above n w)) w (each_window (λ k x. below k (above k x) == x) refl n w few many within)
-
-pub below_twice : (n w : ℕ) → 4 ≤ n → n ≤ 32 → w < n → below n (below n (above n (above n w))) ≡ w
-below_twice n w few many within = equals (below n (below n (above n (above n w)))) w (each_window (λ k x. below k (below k (above k (above k x))) == x) refl n w few many within)
 
 pub below_within : (n w : ℕ) → 4 ≤ n → n ≤ 32 → w < n → below n w < n
 below_within n w few many within = less (below n w) n (each_window (λ k x. nat_lt (below k x) k) refl n w few many within)
@@ -72,6 +68,12 @@ left_bit n w few many within = equals (turned_left n (2 ^ w)) (2 ^ above n w) (e
 
 pub mask_word : (w : ℕ) → w < 32 → 2 ^ w < 2 ^ 32
 mask_word w small = less (2 ^ w) (2 ^ 32) (all_below_at 32 (λ x. nat_lt (2 ^ x) (2 ^ 32)) refl w small)
+
+pub mask_within : (n w : ℕ) → 4 ≤ n → n ≤ 32 → w < n → 2 ^ w < 2 ^ n
+mask_within n w few many within = less (2 ^ w) (2 ^ n) (each_window (λ k x. nat_lt (2 ^ x) (2 ^ k)) refl n w few many within)
+
+pub masked : (w : ℕ) → w < 32 → is_masked (2 ^ w) w ≡ true
+masked w small = all_below_at 32 (λ x. is_masked (2 ^ x) x) refl w small
 
 abbrev passes_others : ℕ → Bool
 passes_others x = all_below 32 (λ y. if x == y then true else not (is_masked (2 ^ x) y))

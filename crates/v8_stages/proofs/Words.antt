@@ -3,7 +3,6 @@
 --   underflow's vector     reads_mask, goes_underflow, shifts_mask_left
 --   overflow handler       shifts_mask_right, shifts_left, joins, saves, writes_mask, nothing, stores_0 .. stores_7, restores, gives_global, jumps, returns
 --   underflow handler      shifts_right, joins_local, writes_mask_local, nothing, restores, loads_0 .. loads_7, saves, jumps, returns
---   vectors of services    points_at_device, stores_status, loads_input, stores_output, jumps_past, returns_past; stops
 use Rattle.std.proofs.Common.{◌≡◌, ℕ, ◌+◌, ◌-◌, ◌≤◌, false, refl, ap, ◌∙◌, arith}
 use Rattle.std.specs.Prelude.{◌==◌, if◌then◌else◌}
 use Rattle.v8_word.specs.Word.{bits_of}
@@ -17,13 +16,11 @@ use Rattle.v8_formats.specs.declared.instr.Three.{Three}
 use Rattle.v8_formats.specs.declared.instr.Two.{Two}
 use Rattle.v8_alu.specs.declared.Op.TheVariants as ops
 use Rattle.v8_meaning.specs.Operations.{operation_of}
-use Rattle.v8_meaning.specs.declared.operation.Loading.TheVariants as loadings
 use Rattle.v8_meaning.specs.declared.operation.MemoryOperand.{MemoryOperand}
 use Rattle.v8_meaning.specs.declared.operation.Operation.{Operation}
-use Rattle.v8_meaning.specs.declared.operation.Operation.TheVariants.{Compute, SetHigh, ReadState, WriteState, Load, LoadDouble, Store, StoreDouble, Save, Restore, BranchOnCondition, JumpAndLink, ReturnFromTrap}
+use Rattle.v8_meaning.specs.declared.operation.Operation.TheVariants.{Compute, SetHigh, ReadState, WriteState, LoadDouble, StoreDouble, Save, Restore, BranchOnCondition, JumpAndLink, ReturnFromTrap}
 use Rattle.v8_meaning.specs.declared.operation.Space.TheVariants.{Normal}
 use Rattle.v8_meaning.specs.declared.operation.StateRegister.TheVariants.{Wim}
-use Rattle.v8_meaning.specs.declared.operation.Storing.TheVariants as storings
 
 abbrev pub fields : ℕ → ℕ → Operand → Three
 fields d s o = record { rd = d; rs1 = s; operand2 = o }
@@ -193,33 +190,3 @@ loads_6 = refl
 pub loads_7 : Asks 0xFC1BA038 (LoadDouble (at_stack 30 56))
 unfolding meaning operation_of
 loads_7 = refl
-
--- ---- the vectors of the services, and of all other traps
-
-pub points_at_device : Asks 0x273C0040 (SetHigh (record { rd = 19; imm22 = 0x3C0040 }))
-unfolding meaning operation_of
-points_at_device = refl
-
-pub stores_status : Asks 0xF024E008 (Store storings.Word (memory_at 24 19 8))
-unfolding meaning operation_of
-stores_status = refl
-
-pub loads_input : Asks 0xF004E000 (Load loadings.Word (memory_at 24 19 0))
-unfolding meaning operation_of
-loads_input = refl
-
-pub stores_output : Asks 0xF024E004 (Store storings.Word (memory_at 24 19 4))
-unfolding meaning operation_of
-stores_output = refl
-
-pub stops : Asks 0xC024E00C (Store storings.Word (memory_at 0 19 12))
-unfolding meaning operation_of
-stops = refl
-
-pub jumps_past : Asks 0x81C48000 (JumpAndLink (fields 0 18 (Register 0)))
-unfolding meaning operation_of
-jumps_past = refl
-
-pub returns_past : Asks 0x81CCA004 (ReturnFromTrap (source 18 (Immediate 4)))
-unfolding meaning operation_of
-returns_past = refl
