@@ -65,10 +65,15 @@ const BARE: [(&str, &str); 14] = [
 ];
 
 /// Sources behind the line of a function.
-const INSIDE: [(&str, &str); 43] = [
+const INSIDE: [(&str, &str); 48] = [
     (" save %sp,-4096,%sp", "9DE3B000 "),
     (" save %sp,-4104,%sp", "line 2: S3"),
+    (" unimp 4194303", "003FFFFF "),
+    (" unimp 4194304", "line 2: S3"),
     ("", "line 1: A2"),
+    (".fuel 1099511627775\n nop", "01000000 "),
+    (".fuel 1099511627776\n nop", "line 2: X3"),
+    (".fuel -1099511627776\n nop", "line 2: X3"),
     (".fuel 1\n.fuel 2\n", "line 1: A2"),
     (".fuel 1\n.fuel 2\n nop", "line 3: A2"),
     (" nop\n.fuel 1", "line 3: A4"),
@@ -157,11 +162,12 @@ fn newlines(alloc: Global, count: usize) -> Result<Vec<u8>, AllocError> {
     vec![in alloc; b'\n'; count]
 }
 
-/// The first line and the rest of a source, how often it stands, and the fault: once less it has none.
+/// The first line and the rest of a source, how often it stands, and the fault: once less it has none. The first
+/// source has some 2.8 MB.
 const LIMITS: [(&str, &str, &str, usize, &str); 7] = [
     (
         ".function f,leaf,0,0,1\n",
-        " nop!",
+        " nop ! one of many words, all alike: ",
         "",
         65536,
         "line 65538: A3",
