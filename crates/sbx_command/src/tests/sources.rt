@@ -1,5 +1,6 @@
 //! Sources that mean an image, and others.
-use super::{Case, HELLO, Job, is_answered};
+use super::{Case, HELLO, Job, MEMORY, Reader, Writer, command, is_answered};
+use std::io::{self, Write};
 
 const ASM: Job<'static> = Job::Asm {
     source: "a.s",
@@ -40,10 +41,30 @@ fn assembles(rt: HostRuntime) {
             out,
             err,
         };
-        // a case whose growth was refused is run once more
-        assert!(rt;
-            is_answered(alloc, &case) || is_answered(alloc, &case),
-            "at {case:?}"
-        );
+        assert!(rt; is_answered(alloc, &case), "at {case:?}");
     }
+}
+
+/// A writer in memory that has no room left.
+#[derive(Drop)]
+struct Full;
+
+impl Write for Full {
+    fn write(&mut self, _buf: &[u8]) -> io::Result<usize> {
+        Err(io::Error::from(io::ErrorKind::OutOfMemory))
+    }
+
+    fn flush(&mut self) -> io::Result<()> {
+        Ok(())
+    }
+}
+
+#[test]
+fn tells_an_object_without_room_as_memory(rt: HostRuntime) {
+    let mut file = Reader::new(SOURCE, 0);
+    let mut input = Reader::new(b"", 0);
+    let mut err = Writer::new(0);
+    let status = command(rt.alloc(), &ASM, &mut file, &mut input, &mut Full, &mut err);
+    assert_eq!(rt; status, 5);
+    assert!(rt; err.kept.as_slice() == MEMORY);
 }
