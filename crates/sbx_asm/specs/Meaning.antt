@@ -1,5 +1,5 @@
 -- What a source means: the image of its lines, or its first fault.
-use Rattle.std.specs.Prelude.{◌≡◌, ◌≢◌, ℕ, ◌+◌, ◌-◌, ◌%◌, List, [], ◌∷◌, ◌++◌, length, replicate, Option, Some, None, Result, Ok, Err, MatchResult}
+use Rattle.std.specs.Prelude.{◌≡◌, ◌⊎◌, ℕ, ◌+◌, ◌-◌, ◌%◌, List, [], ◌∷◌, ◌++◌, length, replicate, Option, Some, None, Result, Ok, Err, MatchResult}
 use Rattle.std.specs.Option.{unwrap_or}
 use Rattle.std.specs.List.{fold}
 use Rattle.sbx_image.specs.declared.fault.ImageFault.{ImageFault}
@@ -54,6 +54,6 @@ image_in after d = judged after d.fault (parts_in d)
 unfoldable pub source_image : List ℕ → Result Parts AsmFault
 source_image source = image_in (length (lines_of source) + 1) (close_function (draft_in (labels_in source) source))
 
--- what a call gives is this, but want of memory may stand in the place of any answer
+-- what a call gives is this, but want of memory, told at line 0, may stand in the place of any answer
 abbrev pub Gives : Result Parts AsmFault → Result Parts AsmFault → Type 0
-Gives result meant = MatchResult result (λ p. meant ≡ Ok p) (λ f. f.cause ≢ causes.Memory → meant ≡ Err f)
+Gives result meant = MatchResult result (λ p. meant ≡ Ok p) (λ f. (f ≡ at 0 causes.Memory) ⊎ (meant ≡ Err f))
