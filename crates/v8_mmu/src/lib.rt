@@ -9,9 +9,9 @@ mod walks;
 
 pub use access::{Access, AccessKind};
 pub use bus::{Bus, BusFault, PortFault, Stop};
-pub use translation::{Found, MmuFault, MmuRegs};
+pub use translation::{Found, MmuFault, MmuRegs, PageEntry};
 pub use v8_word::Size;
-pub use walks::{mark, mark_saved, walk};
+pub use walks::{find_page, mark, mark_page, walk};
 
 #[cfg(test)]
 mod tests;

@@ -291,8 +291,13 @@ fn marks_and_takes_marks_away(rt: HostRuntime) {
         assert_eq!(rt; bus.entry(0x2a00), Some(marked));
         bus.set_entry(0x2a00, word);
         assert_eq!(rt; bus.entry(0x2a00), Some(word));
-        let before = mark_saved(&mut bus, &found, store);
-        assert_eq!(rt; before, word);
+        let page = PageEntry {
+            pa: 0,
+            level: 3,
+            place: 0x2a00,
+            word,
+        };
+        mark_page(&mut bus, &page, store);
         assert_eq!(rt; bus.entry(0x2a00), Some(marked));
     }
 }

@@ -20,6 +20,17 @@ pub struct Found {
     pub ghost in_path: { level ≤ 3 },
 }
 
+/// The entry of a page that an access may use: the physical address that is accessed, the entry's level (0 to 3), where the entry
+/// lies, and its word.
+#[derive(Clone, Copy, PartialEq, Eq, Debug)]
+pub struct PageEntry {
+    pub pa: u64,
+    pub level: usize,
+    pub place: u64,
+    pub word: u32,
+    pub ghost in_path: { level ≤ 3 },
+}
+
 /// Why there is no translation: fault type, level of the entry where the path ended, and access type (appendix H, "fault
 /// status register").
 #[derive(Clone, Copy, PartialEq, Eq, Debug)]
