@@ -61,6 +61,7 @@ impl Ram {
         ensures answer { result ≡ (pa % count == 0 && nat_le (pa + count) (length self.now)) }
         ensures size { length self.now ≡ 0x100000 }
     {
+        // That there are 1 MiB of bytes is known where they are looked at.
         let _ = &self.bytes;
         if pa % count != 0 || pa > 0x10_0000 {
             return false;
@@ -142,7 +143,6 @@ impl Ram {
         ensures value { result ≡ double_of self.now pa }
         ensures small { IfSome result (λ v. v < 2 ^ 64) }
     {
-        let _ = &self.bytes;
         if pa % 8 != 0 {
             return None;
         }
@@ -161,6 +161,7 @@ impl Ram {
         requires { IsSome (double_of self.old pa) }
         ensures { self.new ≡ with_double self.old pa value }
     {
+        // That there are 1 MiB of bytes is known where they are looked at.
         let _ = &self.bytes;
         self.set_entry(pa, (value >> 32) as u32);
         self.set_entry(pa + 4, (value % (1 << 32)) as u32);
@@ -234,6 +235,7 @@ impl Ram {
         ensures placed { HasWords at words.now count self.old self.new }
         ensures size { length self.new ≡ 0x100000 }
     {
+        // That there are 1 MiB of bytes is known where they are looked at.
         let _ = &self.bytes;
         for k in 0..count {
             self.place_word(at + 4 * k, word_or_zero(words, k as usize));
@@ -246,6 +248,7 @@ impl Ram {
         ensures placed { HasBytesOf at bytes.now count self.old self.new }
         ensures size { length self.new ≡ 0x100000 }
     {
+        // That there are 1 MiB of bytes is known where they are looked at.
         let _ = &self.bytes;
         for k in 0..count {
             self.place_byte(at + k, byte_or_zero(bytes, k as usize));
@@ -260,6 +263,7 @@ impl Ram {
         ensures value { self.new ≡ with_entry self.old at word }
         ensures size { length self.new ≡ 0x100000 }
     {
+        // That there are 1 MiB of bytes is known where they are looked at.
         let _ = &self.bytes;
         self.set_entry(at, word);
     }
