@@ -1,3 +1,4 @@
 pub mod Placed
 pub mod Running
 pub mod MarkSums
+pub mod Joined

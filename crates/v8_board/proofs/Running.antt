@@ -1,5 +1,5 @@
 -- Turns of a board, one after the other.
-use Rattle.std.proofs.Common.{◌≡◌, ℕ, suc, ◌+◌, ◌<◌, ◌≤◌, ◌⊎◌, inl, inr, None, refl, sym, ap, subst, ◌∙◌, arith}
+use Rattle.std.proofs.Common.{◌≡◌, ℕ, suc, ◌+◌, ◌<◌, ◌≤◌, ◌⊎◌, inl, inr, None, refl, sym, ap, ◌∙◌, arith}
 use Rattle.v8_core.specs.declared.turn.Turn.{Turn}
 use Rattle.v8_board.specs.Seen.{State, ending_of, turned}
 use Rattle.v8_board.specs.Runs.{Turns, IsRun, after}
@@ -25,10 +25,6 @@ one_turn_more n k old mid new turn (t, so_many) going is = (
   },
   omega arith,
 )
-
--- a fault of the port changes nothing of the state
-pub turns_to : (n k : ℕ) (old mid new : State n) → Counted n old mid k → new ≡ mid → Turns n old new
-turns_to n k old mid new (t, so_many) same = subst (λ (s : State n). Turns n old s) (sym same) t
 
 pub ended_run : (n limit k : ℕ) (old new : State n) → Counted n old new k → k ≤ limit → (ending_of n new.world ≡ None → ⊥) → IsRun n limit old new
 ended_run n limit k old new (t, so_many) within over = record { turns = t; within = omega arith; whole = λ none. absurd (over none) }

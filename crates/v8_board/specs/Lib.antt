@@ -3,3 +3,4 @@ pub mod Seen
 pub mod Runs
 pub mod Start
 pub mod Marks
+pub mod Laws

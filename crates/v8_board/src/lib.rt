@@ -2,6 +2,7 @@
 #![tactic(auto)]
 
 mod board;
+pub mod laws;
 mod outcome;
 mod page_use;
 mod placing;

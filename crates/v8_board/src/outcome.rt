@@ -61,5 +61,5 @@ impl Counts {
 fn counted(count: u64) -> u64
     ensures { result ≡ counted count }
 {
-    if count == u64::MAX { count } else { count + 1 }
+    count.saturating_add(1)
 }

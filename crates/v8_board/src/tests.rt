@@ -8,15 +8,25 @@ use v8_core::{DataAccess, Event};
 use v8_mmu::{PortFault, Size};
 use v8_word::{Reg, TrapType};
 
-/// A port without input that keeps what is put, and fails at its first call if it is told to.
+/// A port without input that keeps what is put. It fails once, at the call of this number from here on, or never if that is 0.
 #[derive(Drop)]
 struct Sink {
     kept: Vec<u8>,
-    fails: bool,
+    fails: u64,
     failures: u64,
 }
 
 impl Sink {
+    /// Counts a call, and tells whether it is to fail.
+    fn is_to_fail(&mut self) -> bool
+        ensures kept { self.new.kept ≡ self.old.kept }
+        ensures failures { self.new.failures ≡ self.old.failures }
+    {
+        let now = self.fails == 1;
+        self.fails = self.fails.saturating_sub(1);
+        now
+    }
+
     fn fail(&mut self, fault: PortFault) -> PortFault
         ensures fault { result ≡ fault }
         ensures kept { self.new.kept ≡ self.old.kept }
@@ -40,12 +50,14 @@ impl Port for Sink {
     ghost failed = { λ s. s.failures };
 
     fn get(&mut self) -> Result<Option<u8>, PortFault> {
+        if self.is_to_fail() {
+            return Err(self.fail(PortFault::Reader));
+        }
         Ok(None)
     }
 
     fn put(&mut self, byte: u8) -> Result<(), PortFault> {
-        if self.fails {
-            self.fails = false;
+        if self.is_to_fail() {
             return Err(self.fail(PortFault::Writer));
         }
         match self.kept.push(byte) {
@@ -74,7 +86,7 @@ fn raw_image(alloc: Global, words: &[u32]) -> Result<Image, Fail> {
     Ok(parse(alloc, &bytes)?)
 }
 
-fn board(alloc: Global, fails: bool) -> Result<Board<4, Sink>, Fail> {
+fn board(alloc: Global, fails: u64) -> Result<Board<4, Sink>, Fail> {
     let kept = Vec::new(alloc);
     Ok(Board::new(
         alloc,
@@ -100,7 +112,7 @@ const GREETING: [u32; 6] = [
 #[test]
 fn raw_words_end_as_worked_out(rt: HostRuntime) -> Result<(), Fail> {
     let alloc = rt.alloc();
-    let mut plain = board(alloc, false)?;
+    let mut plain = board(alloc, 0)?;
     let trapped = Ending::Trapped(TrapType::new(0x09));
     let error = Ending::ErrorMode(TrapType::new(0x09));
     for (words, ending, turns, overflows, status) in [
@@ -156,7 +168,7 @@ fn raw_words_end_as_worked_out(rt: HostRuntime) -> Result<(), Fail> {
 #[test]
 fn turns_are_told_one_by_one(rt: HostRuntime) -> Result<(), Fail> {
     let alloc = rt.alloc();
-    let mut bare = board(alloc, false)?;
+    let mut bare = board(alloc, 0)?;
     let first = bare.step()?;
     assert_eq!(rt; first.event, Event::Trapped(TrapType::new(0x01)));
     assert_eq!(rt; bare.fault_status(), 0x46);
@@ -172,7 +184,7 @@ fn turns_are_told_one_by_one(rt: HostRuntime) -> Result<(), Fail> {
     assert_eq!(rt; refused.event, Event::Trapped(TrapType::new(0x09)));
     assert_eq!(rt; bare.fault_status(), 0x30E);
 
-    let mut failing = board(alloc, true)?;
+    let mut failing = board(alloc, 1)?;
     failing.load(&raw_image(alloc, &GREETING)?);
     assert_eq!(rt; failing.run(100), Err(PortFault::Writer));
     let before = (failing.psr(), failing.wim(), failing.page_use());
@@ -187,7 +199,7 @@ fn turns_are_told_one_by_one(rt: HostRuntime) -> Result<(), Fail> {
 #[test]
 fn refused_accesses_trap_in_their_turn(rt: HostRuntime) -> Result<(), Fail> {
     let alloc = rt.alloc();
-    let mut plain = board(alloc, false)?;
+    let mut plain = board(alloc, 0)?;
     for (words, before, status) in [
         (&[0x033C_0000, 0xC400_4000][..], 1, 0x30E),
         (&[0x0300_0100, 0xC020_4000][..], 1, 0x38A),
@@ -214,7 +226,7 @@ fn refused_accesses_trap_in_their_turn(rt: HostRuntime) -> Result<(), Fail> {
 #[test]
 fn annulled_slots_are_turns_without_effect(rt: HostRuntime) -> Result<(), Fail> {
     let alloc = rt.alloc();
-    let mut plain = board(alloc, false)?;
+    let mut plain = board(alloc, 0)?;
     for (words, before) in [
         (&[0x3080_0002, 0x9DE3_BFA0, 0x0100_0000][..], 1),
         (&[0x80A0_0000, 0x3280_0002, 0xDC23_A000, 0x0100_0000][..], 2),
@@ -256,7 +268,7 @@ fn registers(alloc: Global, board: &Board<4, Sink>) -> Result<Vec<u32>, Fail> {
 #[test]
 fn failed_store_is_done_again(rt: HostRuntime) -> Result<(), Fail> {
     let alloc = rt.alloc();
-    let mut failing = board(alloc, false)?;
+    let mut failing = board(alloc, 0)?;
     failing.load(&raw_image(alloc, &GREETING)?);
     for _ in 0..3 {
         let _told = failing.step()?;
@@ -264,7 +276,7 @@ fn failed_store_is_done_again(rt: HostRuntime) -> Result<(), Fail> {
     let words = registers(alloc, &failing)?;
     let before = (failing.psr(), failing.wim(), failing.page_use());
     assert_eq!(rt; failing.entry(0x2D40), Some(0x1000_001E));
-    failing.port_mut().fails = true;
+    failing.port_mut().fails = 1;
     assert_eq!(rt; failing.step(), Err(PortFault::Writer));
     let again = registers(alloc, &failing)?;
     assert_eq!(rt; again.as_slice(), words.as_slice());
@@ -284,5 +296,83 @@ fn failed_store_is_done_again(rt: HostRuntime) -> Result<(), Fail> {
     assert_eq!(rt; failing.entry(0x2D40), Some(0x1000_007E));
     assert_eq!(rt; failing.port().kept.as_slice(), b"H".as_slice());
     assert_eq!(rt; failing.ending(), None);
+    Ok(())
+}
+
+/// The port fails at its first, second or third call. The run goes on with that call, and ends as if the port had not failed.
+#[test]
+fn a_run_goes_on_after_each_failed_call(rt: HostRuntime) -> Result<(), Fail> {
+    let alloc = rt.alloc();
+    // ta 1; ta 2; mov 72,%o0; ta 2; ta 0
+    let words = [
+        0x91D0_2001,
+        0x91D0_2002,
+        0x9010_2048,
+        0x91D0_2002,
+        0x91D0_2000,
+    ];
+    let image = raw_image(alloc, &words)?;
+    for (fails, fault) in [
+        (1, PortFault::Reader),
+        (2, PortFault::Writer),
+        (3, PortFault::Writer),
+    ] {
+        let mut failing = board(alloc, fails)?;
+        failing.load(&image);
+        assert_eq!(rt; failing.run(100), Err(fault), "{fails}");
+        assert_eq!(rt; failing.port().failures(), 1, "{fails}");
+        let told = failing.run(100)?;
+        // 5 turns for each get and put, 1 for the OR, 3 for the exit
+        let wanted = (Ending::Exit(0x48), 19);
+        assert_eq!(rt; (told.ending, told.turns), wanted, "{fails}");
+        assert_eq!(rt;
+            failing.port().kept.as_slice(),
+            b"\xFFH".as_slice(),
+            "{fails}"
+        );
+    }
+    Ok(())
+}
+
+/// A word of RAM; within the page tables without what R and M (hexadecimal 60) show.
+fn unmarked(board: &Board<4, Sink>, place: u64) -> Option<u32> {
+    let marks = if (0x2A00..0x2E00).contains(&place) {
+        0x60
+    } else {
+        0
+    };
+    board.entry(place).map(|word| word | marks)
+}
+
+/// A run leaves the trap table, the handlers, the tables, the code and the data as they were loaded, but for R and M.
+#[test]
+fn a_run_changes_nothing_below_the_stack(rt: HostRuntime) -> Result<(), Fail> {
+    let alloc = rt.alloc();
+    let mut words = Vec::new(alloc);
+    // save %sp,-96,%sp, of which the third overflows
+    words.extend_from_slice(&[0x9DE3_BFA0; 3])?;
+    words.extend_from_slice(&GREETING)?;
+    let image = raw_image(alloc, &words)?;
+    let mut loaded = board(alloc, 0)?;
+    loaded.load(&image);
+    let mut ran = board(alloc, 0)?;
+    ran.load(&image);
+    let told = ran.run(100)?;
+    let counted = (told.ending, told.turns, told.overflows);
+    assert_eq!(rt; counted, (Ending::Exit(0), 43, 1));
+    assert_eq!(rt; loaded.page_use().modified, [0, 0, 0]);
+    assert_eq!(rt; ran.page_use().modified, [0, 0, 1 << 63]);
+    for k in 0..0x2_4000u64 {
+        assert_eq!(rt; unmarked(&ran, 4 * k), unmarked(&loaded, 4 * k), "{k}");
+    }
+    // the first code page and the last stack page, marked
+    assert_eq!(rt;
+        (loaded.entry(0x2A00), ran.entry(0x2A00)),
+        (Some(0x1012), Some(0x1032))
+    );
+    assert_eq!(rt;
+        (loaded.entry(0x2CFC), ran.entry(0x2CFC)),
+        (Some(0x9F06), Some(0x9F66))
+    );
     Ok(())
 }

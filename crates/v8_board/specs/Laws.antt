@@ -1,0 +1,16 @@
+-- Laws of runs: calls that follow one another make one run of the board.
+use Rattle.std.specs.Prelude.{ℕ, ◌≡◌, ◌+◌, None}
+use Rattle.v8_board.specs.Seen.{State, ending_of, turned}
+use Rattle.v8_board.specs.Runs.{Turns, IsRun}
+
+-- turns, and turns from where they lead to, are turns
+abbrev pub TurnsJoin : Type 0
+TurnsJoin = (n : ℕ) (s m e : State n) → Turns n s m → Turns n m e → Turns n s e
+
+-- a run, and a run from where it stops, are one run, whose limit is the sum of theirs
+abbrev pub RunsJoin : Type 0
+RunsJoin = (n a b : ℕ) (s m e : State n) → IsRun n a s m → IsRun n b m e → IsRun n (a + b) s e
+
+-- a turn of a machine that has not ended is a run of at most one turn
+abbrev pub StepRuns : Type 0
+StepRuns = (n : ℕ) (s : State n) → ending_of n s.world ≡ None → IsRun n 1 s (turned n s).1
