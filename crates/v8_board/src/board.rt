@@ -111,6 +111,7 @@ impl<const N: usize, P: Port> Board<N, P> {
 
     /// A turn of a machine that has not ended.
     #[tactic(auto, unfolding(crate::specs::Seen::turned))]
+    #[inline(always)]
     fn turn(&mut self) -> Result<Turn, PortFault>
         requires { ending_of N self.old.state.world ≡ None }
         ensures turn { IfOk result (λ turn. turned N self.old.state ≡ (turn, self.new.state)) }

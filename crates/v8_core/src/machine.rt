@@ -52,6 +52,7 @@ impl<const N: usize, B: Bus> Machine<N, B> {
     /// access, and changes nothing. On a fault of the bus's port nothing has changed either, page bits included, and the port's
     /// count of failures rose; it never falls.
     #[tactic(auto, unfolding(crate::specs::Steps::next))]
+    #[inline(always)]
     pub fn step(&mut self) -> Result<Turn, PortFault>
         ensures step { IfOk result (λ turn. next B.meaning N self.old.mmu
             (world N self.old.cpu (B.ram self.old.bus) (B.device self.old.bus))
