@@ -16,6 +16,8 @@ use Rattle.v8_board.specs.Counting.{counted, counts_after, with_turn}
 use Rattle.v8_board.specs.Runs.{IsRun, after}
 use Rattle.v8_board.specs.Seen.{State, counts_unless, ending_by, ending_of, error_ending, turned}
 use Rattle.v8_board.proofs.Running.{Counted, one_turn_more}
+use Rattle.sbx_image.specs.declared.parts.Parts.{Parts}
+use Rattle.sbx_run.specs.Traps.{IsOwnEvent, OwnTraps}
 
 -- so many turns, and no traps into window handlers
 abbrev pub turns_alone : ℕ → Counts
@@ -50,19 +52,46 @@ turned_is n mmu w new event k t plain less =
     ∙ ap (λ j. F (turns_alone j)) (counted_is k less)
     ∙ ap (λ (w : World n Device). (turn, stands n w mmu (k + 1))) t.is
 
+-- So many turns lead here, with no trap but the image's own.
+pub record Came (n : ℕ) (parts : Parts) (start new : State n) (k : ℕ) : Type 0 where
+  pub turns : Counted n start new k
+  pub own : OwnTraps n parts start k
+
+event_at : (n : ℕ) (parts : Parts) (start mid : State n) (k : ℕ) (turn : Turn) (new : State n) → Counted n start mid k → turned n mid ≡ (turn, new) → IsOwnEvent parts turn.event → IsOwnEvent parts (turned n (after n k start)).0.event
+event_at n parts start mid k turn new (t, so_many) is own =
+    let here : mid ≡ after n k start = t.is ∙ ap (λ j. after n j start) so_many in
+    let same : (turned n (after n k start)).0.event ≡ turn.event = ap (λ (s : State n). (turned n s).0.event) (sym here) ∙ ap (λ (p : Turn × State n). p.0.event) is in
+    subst (IsOwnEvent parts) (sym same) own
+
+own_more : (n : ℕ) (parts : Parts) (start : State n) (k : ℕ) → OwnTraps n parts start k → IsOwnEvent parts (turned n (after n k start)).0.event → OwnTraps n parts start (k + 1)
+own_more n parts start k before here j less =
+    let split : (j < k) ⊎ (j ≡ k) = search arith in
+    elim split [
+      | inl earlier ↦ before j earlier
+      | inr same ↦ subst (λ i. IsOwnEvent parts (turned n (after n i start)).0.event) (sym same) here
+    ]
+
+came_more : (n : ℕ) (parts : Parts) (start mid new : State n) (k : ℕ) (turn : Turn) → Came n parts start mid k → ending_of n mid.world ≡ None → turned n mid ≡ (turn, new) → IsOwnEvent parts turn.event → Came n parts start new (k + 1)
+came_more n parts start mid new k turn c going is own =
+    record {
+      turns = one_turn_more n k start mid new turn c.turns going is;
+      own = own_more n parts start k c.own (event_at n parts start mid k turn new c.turns is own);
+    }
+
 -- turns one after the other
-pub along : (n : ℕ) (mmu : MmuRegs) (start : State n) (events : List Event) (k : ℕ) (w new : World n Device) → Counted n start (stands n w mmu k) k → Leads n mmu w events new → AllByRecursion IsPlain events → k + length events ≤ 2 ^ 64 - 1 →
-    Counted n start (stands n new mmu (k + length events)) (k + length events)
-along n mmu start [] k w new before leads plain few =
+pub along : (n : ℕ) (parts : Parts) (mmu : MmuRegs) (start : State n) (events : List Event) (k : ℕ) (w new : World n Device) → Came n parts start (stands n w mmu k) k → Leads n mmu w events new → AllByRecursion IsPlain events → AllByRecursion (IsOwnEvent parts) events → k + length events ≤ 2 ^ 64 - 1 →
+    Came n parts start (stands n new mmu (k + length events)) (k + length events)
+along n parts mmu start [] k w new before leads plain own few =
     let none : k ≡ k + 0 = omega arith in
-    let here = subst (λ (v : World n Device). Counted n start (stands n v mmu k) k) leads before in
-    subst (λ j. Counted n start (stands n new mmu j) j) none here
-along n mmu start (event ∷ events) k w new before leads plain few =
+    let here = subst (λ (v : World n Device). Came n parts start (stands n v mmu k) k) leads before in
+    subst (λ j. Came n parts start (stands n new mmu j) j) none here
+along n parts mmu start (event ∷ events) k w new before leads plain own few =
     let mid = leads.0 in
-    let one = one_turn_more n k start (stands n w mmu k) (stands n mid mmu (k + 1)) (next board n mmu w).0 before (not_ended n w leads.1.running leads.1.sane) (turned_is n mmu w mid event k leads.1 plain.0 (omega arith)) in
-    let rest = along n mmu start events (k + 1) mid new one leads.2 plain.1 (omega arith) in
+    let tells : IsOwnEvent parts (next board n mmu w).0.event = subst (IsOwnEvent parts) (sym leads.1.tells) own.0 in
+    let one = came_more n parts start (stands n w mmu k) (stands n mid mmu (k + 1)) k (next board n mmu w).0 before (not_ended n w leads.1.running leads.1.sane) (turned_is n mmu w mid event k leads.1 plain.0 (omega arith)) tells in
+    let rest = along n parts mmu start events (k + 1) mid new one leads.2 plain.1 own.1 (omega arith) in
     let sum : k + 1 + length events ≡ k + suc (length events) = omega arith in
-    subst (λ j. Counted n start (stands n new mmu j) j) sum rest
+    subst (λ j. Came n parts start (stands n new mmu j) j) sum rest
 
 -- a run that may go on to an end ends there
 pub same_end : (n limit k : ℕ) (start last stop : State n) → IsRun n limit start last → Counted n start stop k → k ≤ limit → (ending_of n stop.world ≡ None → ⊥) → last ≡ stop

@@ -10,13 +10,13 @@ use Rattle.v8_board.specs.declared.outcome.Ending.TheVariants.{Exit}
 use Rattle.v8_board.specs.Runs.{IsRun, ending_or_limit, outcome_of}
 use Rattle.v8_board.specs.Seen.{State as BoardState, ending_by, ending_of}
 use Rattle.v8_board.specs.Start.{IsNew, IsStart}
-use Rattle.v8_board.proofs.Running.{Counted}
 use Rattle.sbx_image.specs.declared.parts.Parts.{Parts}
 use Rattle.sbx_flat.specs.Runs.{AreBytes, FlatRun, FlatSafe, Place, Run, budget, place_of, weight, weight_at, weight_of}
 use Rattle.sbx_flat.specs.States.{State}
 use Rattle.sbx_flat.specs.Turns.{Step, asked}
 use Rattle.sbx_flat.proofs.Turns.{operation_weighs, weight_at_word}
-use Rattle.sbx_run.proofs.Chains.{along, same_end, stands}
+use Rattle.sbx_run.specs.Traps.{OwnTraps}
+use Rattle.sbx_run.proofs.Chains.{Came, along, same_end, stands}
 use Rattle.sbx_run.proofs.Shows.{Over, Shows}
 use Rattle.sbx_run.proofs.Start.{begins}
 use Rattle.sbx_run.proofs.Steps.{AreAccepted, step}
@@ -34,7 +34,7 @@ weight_more parts (q ∷ path) p = let i = weight_more parts path p in omega ari
 record Reached (n : ℕ) (parts : Parts) (input : List ℕ) (start : BoardState n) (k : ℕ) (x : World n Device) (s : State) : Type 0 where
   path : List Place
   run : FlatRun parts input path s
-  turns : Counted n start (stands n x start.mmu k) k
+  came : Came n parts start (stands n x start.mmu k) k
   weighs : k ≡ weight parts path
 
 -- Both have ended.
@@ -45,7 +45,7 @@ pub record Finishes (n : ℕ) (parts : Parts) (input : List ℕ) (start : BoardS
   pub status : ℕ
   pub path : List Place
   pub run : FlatRun parts input path state
-  pub turns : Counted n start (stands n last start.mmu count) count
+  pub came : Came n parts start (stands n last start.mmu count) count
   pub weighs : count ≡ weight parts path
   pub over : Over n last state status
 
@@ -77,7 +77,7 @@ module _ (n : ℕ) (parts : Parts) (input : List ℕ) (start : BoardState n) (sa
       let total : k + w ≡ weight parts path = omega arith in
       let top = within path can.0 run in
       let count = st.count in
-      let turns = along n start.mmu start st.events k x st.new r.turns st.leads st.plain (omega arith) in
+      let came = along n parts start.mmu start st.events k x st.new r.came st.leads st.plain st.own (omega arith) in
       record {
         weight_here = w;
         some = operation_weighs (asked g.word);
@@ -86,7 +86,7 @@ module _ (n : ℕ) (parts : Parts) (input : List ℕ) (start : BoardState n) (sa
         reached = record {
           path = path;
           run = run;
-          turns = subst (λ j. Counted n start (stands n st.new start.mmu (k + j)) (k + j)) count turns;
+          came = subst (λ j. Came n parts start (stands n st.new start.mmu (k + j)) (k + j)) count came;
           weighs = total;
         };
         shows = st.shows;
@@ -106,7 +106,7 @@ module _ (n : ℕ) (parts : Parts) (input : List ℕ) (start : BoardState n) (sa
           status = end.0;
           path = g.reached.path;
           run = g.reached.run;
-          turns = g.reached.turns;
+          came = g.reached.came;
           weighs = g.reached.weighs;
           over = end.1;
         }
@@ -117,7 +117,7 @@ pub finishes : (n : ℕ) (parts : Parts) (input : List ℕ) (made start : BoardS
     IsNew n input [] made → IsStart n parts made start → Finishes n parts input start
 finishes n parts input made start few many safe bytes short accepted bound new loaded =
     let b = begins n parts input made start few many bytes new loaded in
-    let at_start : Reached n parts input start 0 start.world b.state = record { path = []; run = (b.state, b.flat, refl); turns = b.turns; weighs = refl } in
+    let at_start : Reached n parts input start 0 start.world b.state = record { path = []; run = (b.state, b.flat, refl); came = record { turns = b.turns; own = λ j none. absurd (omega arith) }; weighs = refl } in
     ends_from n parts input start safe bytes short accepted b.root bound (suc (budget parts)) 0 start.world b.state at_start b.shows (omega arith)
 
 -- ---- what is told of it
@@ -130,7 +130,7 @@ some_not_none : (o : Option Ending) (e : Ending) → o ≡ Some e → o ≡ None
 some_not_none o e p q = cc
 
 -- The last state of the run, and what is told of it.
-pub record Told (n : ℕ) (parts : Parts) (input : List ℕ) (last : BoardState n) : Type 0 where
+pub record Told (n : ℕ) (parts : Parts) (input : List ℕ) (start last : BoardState n) : Type 0 where
   pub path : List Place
   pub state : State
   pub status : ℕ
@@ -138,19 +138,20 @@ pub record Told (n : ℕ) (parts : Parts) (input : List ℕ) (last : BoardState 
   pub exit : state.exit ≡ Some status
   pub output : last.world.memory.device.output ≡ state.output
   pub outcome : outcome_of n last ≡ record { ending = Exit status; turns = weight parts path; overflows = 0; underflows = 0 }
+  pub own : OwnTraps n parts start (weight parts path)
 
 told_of : (n k status : ℕ) (mmu : MmuRegs) (w : World n Device) → ending_of n w ≡ Some (Exit status) → outcome_of n (stands n w mmu k) ≡ record { ending = Exit status; turns = k; overflows = 0; underflows = 0 }
 unfolding outcome_of
 told_of n k status mmu w e = ap (λ (o : Option Ending). record { ending = ending_or_limit o; turns = k; overflows = 0; underflows = 0 }) e
 
 pub told : (n : ℕ) (parts : Parts) (input : List ℕ) (made start last : BoardState n) → 4 ≤ n → n ≤ 32 → FlatSafe parts → AreBytes input → length parts.words ≤ 65536 → AreAccepted parts.words → budget parts < 2 ^ 64 →
-    IsNew n input [] made → IsStart n parts made start → IsRun n (budget parts) start last → Told n parts input last
+    IsNew n input [] made → IsStart n parts made start → IsRun n (budget parts) start last → Told n parts input start last
 told n parts input made start last few many safe bytes short accepted bound new loaded run =
     let f = finishes n parts input made start few many safe bytes short accepted bound new loaded in
     let top = (safe input bytes).3.within_budget f.path f.state f.run in
     let so_many = f.weighs in
     let end = ended_as n f.last f.state f.status f.over in
-    let same : last ≡ stands n f.last start.mmu f.count = same_end n (budget parts) f.count start last (stands n f.last start.mmu f.count) run f.turns (omega arith) (some_not_none (ending_of n f.last) (Exit f.status) end) in
+    let same : last ≡ stands n f.last start.mmu f.count = same_end n (budget parts) f.count start last (stands n f.last start.mmu f.count) run f.came.turns (omega arith) (some_not_none (ending_of n f.last) (Exit f.status) end) in
     record {
       path = f.path;
       state = f.state;
@@ -159,4 +160,5 @@ told n parts input made start last few many safe bytes short accepted bound new 
       exit = f.over.exit;
       output = ap (λ (b : BoardState n). b.world.memory.device.output) same ∙ f.over.output;
       outcome = ap (outcome_of n) same ∙ told_of n f.count f.status start.mmu f.last end ∙ ap (λ k. record { ending = Exit f.status; turns = k; overflows = 0; underflows = 0 }) f.weighs;
+      own = subst (OwnTraps n parts start) f.weighs f.came.own;
     }

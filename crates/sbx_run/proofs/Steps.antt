@@ -44,6 +44,7 @@ use Rattle.sbx_flat.specs.Turns.{asked, fetches, goes_on, turn, word_at}
 use Rattle.sbx_flat.proofs.Turns.{performs_admitted, turn_at}
 use Rattle.sbx_verify.specs.Rules.{is_accepted, is_accepted_op}
 use Rattle.sbx_verify.proofs.Both.{admitted}
+use Rattle.sbx_run.specs.Traps.{IsOwnEvent}
 use Rattle.sbx_run.proofs.Chains.{IsPlain}
 use Rattle.sbx_run.proofs.Fields.{FieldsIn, SecondIn, ThreeIn, fields_in}
 use Rattle.sbx_run.proofs.Plain.{board_outcome, calm_compute, calm_high, computes, sets_high, with_result, with_value}
@@ -54,13 +55,15 @@ use Rattle.sbx_run.proofs.Written.{reads_word}
 abbrev pub AreAccepted : List ℕ → Type 0
 AreAccepted words = (i : ℕ) → i < length words → is_accepted (asked (slice_index words i)) ≡ true
 
--- The board goes on as the flat machine does, in so many turns, none of which is a trap into a window handler.
+-- The board goes on as the flat machine does, in so many turns, none of which is a trap into a window handler, or one that the image
+-- may not take.
 pub record Stepped (n : ℕ) (parts : Parts) (mmu : MmuRegs) (x : World n Device) (next : State) (weight : ℕ) : Type 0 where
   pub events : List Event
   pub new : World n Device
   pub leads : Leads n mmu x events new
   pub count : length events ≡ weight
   pub plain : AllByRecursion IsPlain events
+  pub own : AllByRecursion (IsOwnEvent parts) events
   pub shows : Shows n parts new next ⊎ ((status : ℕ) × Over n new next status)
 
 -- ---- the word that is fetched
@@ -181,6 +184,7 @@ module _ (n : ℕ) (parts : Parts) (mmu : MmuRegs) (x : World n Device) (s : Sta
         leads = (new, subst (λ c. TurnsTo n mmu x Ran (world n c ram x.memory.device)) (computes n x.cpu op f) turned, refl);
         count = refl;
         plain = (λ c. refl, tt);
+        own = (tt, tt);
         shows = inl (subst (λ (t : State). Shows n parts new t) to (subst P same shown));
       }
 
@@ -201,6 +205,7 @@ module _ (n : ℕ) (parts : Parts) (mmu : MmuRegs) (x : World n Device) (s : Sta
         leads = (new, subst (λ c. TurnsTo n mmu x Ran (world n c ram x.memory.device)) (sets_high n x.cpu f) turned, refl);
         count = refl;
         plain = (λ c. refl, tt);
+        own = (tt, tt);
         shows = inl (subst (λ (t : State). Shows n parts new t) (ap (λ (t : State). advanced (with_reg f.rd v t)) same ∙ to) shown);
       }
 
@@ -212,6 +217,10 @@ module _ (n : ℕ) (parts : Parts) (mmu : MmuRegs) (x : World n Device) (s : Sta
   declared_goes true a e = cc
   declared_goes false a e = absurd (cc)
 
+  is_declared : (b : Bool) (a : State) → (if b then Goes a else Fails NoService) ≡ Goes next → b ≡ true
+  is_declared true a e = refl
+  is_declared false a e = absurd (cc)
+
   service_step : (i k : ℕ) → RunsUser n (pages_of parts) parts.words mmu x i → operation_of (meaning (slice_index parts.words i)) ≡ calls k → serves parts.services (Some k) s ≡ Goes next → Stepped n parts mmu x next (weight_of (calls k))
   service_step i zero u is goes =
       let to = declared_goes (declares parts.services 0) (advanced (served 0 s)) goes in
@@ -222,6 +231,7 @@ module _ (n : ℕ) (parts : Parts) (mmu : MmuRegs) (x : World n Device) (s : Sta
         leads = exit_law n (pages_of parts) parts.words mmu x i u is;
         count = refl;
         plain = (λ c. refl, (λ c. refl, (λ c. refl, tt)));
+        own = (is_declared (declares parts.services 0) (advanced (served 0 s)) goes, (tt, (tt, tt)));
         shows = inr (v, subst (λ (t : State). Over n (exited n x i) t v) to (exit_over n parts mmu x s i h u));
       }
   service_step i (suc zero) u is goes =
@@ -232,6 +242,7 @@ module _ (n : ℕ) (parts : Parts) (mmu : MmuRegs) (x : World n Device) (s : Sta
         leads = get_law n (pages_of parts) parts.words mmu x i u is;
         count = refl;
         plain = (λ c. refl, (λ c. refl, (λ c. refl, (λ c. refl, (λ c. refl, tt)))));
+        own = (is_declared (declares parts.services 1) (advanced (served 1 s)) goes, (tt, (tt, (tt, (tt, tt)))));
         shows = inl (subst (λ (t : State). Shows n parts (got n x i) t) to (got_shows n parts mmu x s i h u));
       }
   service_step i (suc (suc zero)) u is goes =
@@ -242,6 +253,7 @@ module _ (n : ℕ) (parts : Parts) (mmu : MmuRegs) (x : World n Device) (s : Sta
         leads = put_law n (pages_of parts) parts.words mmu x i u is;
         count = refl;
         plain = (λ c. refl, (λ c. refl, (λ c. refl, (λ c. refl, (λ c. refl, tt)))));
+        own = (is_declared (declares parts.services 2) (advanced (served 2 s)) goes, (tt, (tt, (tt, (tt, tt)))));
         shows = inl (subst (λ (t : State). Shows n parts (put n x i) t) to (put_shows n parts mmu x s i h u));
       }
   service_step i (suc (suc (suc k))) u is goes = absurd (let no : Fails NoService ≡ Goes next = goes in cc)

@@ -1,1 +1,2 @@
+pub mod Traps
 pub mod Answer
