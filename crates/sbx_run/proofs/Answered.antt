@@ -16,7 +16,7 @@ use Rattle.sbx_raw.specs.declared.raw.Raw.{Raw}
 use Rattle.sbx_raw.specs.Runs.{IsRaw}
 use Rattle.sbx_run.specs.declared.runner.Finished.{Finished}
 use Rattle.sbx_run.specs.Answer.{IsAnswer}
-use Rattle.sbx_run.specs.Traps.{OwnTraps}
+use Rattle.sbx_run.specs.Turns.{OwnTurns}
 use Rattle.sbx_run.proofs.Finish.{Told, told}
 use Rattle.sbx_run.proofs.Steps.{AreAccepted, located}
 
@@ -111,7 +111,7 @@ module _ (parts : Parts) (n : ℕ) (input : List ℕ) (few : 4 ≤ n) (many : n 
         overflows = ap (λ (o : Outcome). o.overflows) is ∙ sym (ap (λ (t : Traffic). t.overflows) quiet);
         underflows = ap (λ (o : Outcome). o.underflows) is ∙ sym (ap (λ (t : Traffic). t.underflows) quiet);
         within = omega arith;
-        board_run = record { raw = raw; run = run; told = outcome_told; output = output; pages = pages; traps = subst (OwnTraps n parts run.start) (sym so_many) t.own };
+        board_run = record { raw = raw; run = run; told = outcome_told; output = output; pages = pages; own = subst (OwnTurns n parts run.start) (sym so_many) t.own };
       }
 
 -- ---- the run of the image that was accepted, with its budget

@@ -15,7 +15,7 @@ use Rattle.sbx_flat.specs.Runs.{AreBytes, FlatRun, FlatSafe, Place, Run, budget,
 use Rattle.sbx_flat.specs.States.{State}
 use Rattle.sbx_flat.specs.Turns.{Step, asked}
 use Rattle.sbx_flat.proofs.Turns.{operation_weighs, weight_at_word}
-use Rattle.sbx_run.specs.Traps.{OwnTraps}
+use Rattle.sbx_run.specs.Turns.{OwnTurns}
 use Rattle.sbx_run.proofs.Chains.{Came, along, same_end, stands}
 use Rattle.sbx_run.proofs.Shows.{Over, Shows}
 use Rattle.sbx_run.proofs.Start.{begins}
@@ -77,7 +77,7 @@ module _ (n : ℕ) (parts : Parts) (input : List ℕ) (start : BoardState n) (sa
       let total : k + w ≡ weight parts path = omega arith in
       let top = within path can.0 run in
       let count = st.count in
-      let came = along n parts start.mmu start st.events k x st.new r.came st.leads st.plain st.own (omega arith) in
+      let came = along n parts start.mmu start st.events k x st.new r.came st.leads st.plain st.own few (omega arith) in
       record {
         weight_here = w;
         some = operation_weighs (asked g.word);
@@ -138,7 +138,7 @@ pub record Told (n : ℕ) (parts : Parts) (input : List ℕ) (start last : Board
   pub exit : state.exit ≡ Some status
   pub output : last.world.memory.device.output ≡ state.output
   pub outcome : outcome_of n last ≡ record { ending = Exit status; turns = weight parts path; overflows = 0; underflows = 0 }
-  pub own : OwnTraps n parts start (weight parts path)
+  pub own : OwnTurns n parts start (weight parts path)
 
 told_of : (n k status : ℕ) (mmu : MmuRegs) (w : World n Device) → ending_of n w ≡ Some (Exit status) → outcome_of n (stands n w mmu k) ≡ record { ending = Exit status; turns = k; overflows = 0; underflows = 0 }
 unfolding outcome_of
@@ -160,5 +160,5 @@ told n parts input made start last few many safe bytes short accepted bound new 
       exit = f.over.exit;
       output = ap (λ (b : BoardState n). b.world.memory.device.output) same ∙ f.over.output;
       outcome = ap (outcome_of n) same ∙ told_of n f.count f.status start.mmu f.last end ∙ ap (λ k. record { ending = Exit f.status; turns = k; overflows = 0; underflows = 0 }) f.weighs;
-      own = subst (OwnTraps n parts start) f.weighs f.came.own;
+      own = subst (OwnTurns n parts start) f.weighs f.came.own;
     }

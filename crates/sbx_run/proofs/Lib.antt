@@ -2,6 +2,7 @@ pub mod Fields
 pub mod Written
 pub mod Plain
 pub mod Shows
+pub mod Within
 pub mod Chains
 pub mod Steps
 pub mod Start

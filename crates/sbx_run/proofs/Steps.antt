@@ -44,7 +44,7 @@ use Rattle.sbx_flat.specs.Turns.{asked, fetches, goes_on, turn, word_at}
 use Rattle.sbx_flat.proofs.Turns.{performs_admitted, turn_at}
 use Rattle.sbx_verify.specs.Rules.{is_accepted, is_accepted_op}
 use Rattle.sbx_verify.proofs.Both.{admitted}
-use Rattle.sbx_run.specs.Traps.{IsOwnEvent}
+use Rattle.sbx_run.specs.Turns.{IsOwnEvent}
 use Rattle.sbx_run.proofs.Chains.{IsPlain}
 use Rattle.sbx_run.proofs.Fields.{FieldsIn, SecondIn, ThreeIn, fields_in}
 use Rattle.sbx_run.proofs.Plain.{board_outcome, calm_compute, calm_high, computes, sets_high, with_result, with_value}
@@ -60,7 +60,7 @@ AreAccepted words = (i : ℕ) → i < length words → is_accepted (asked (slice
 pub record Stepped (n : ℕ) (parts : Parts) (mmu : MmuRegs) (x : World n Device) (next : State) (weight : ℕ) : Type 0 where
   pub events : List Event
   pub new : World n Device
-  pub leads : Leads n mmu x events new
+  pub leads : Leads n (pages_of parts) mmu x events new
   pub count : length events ≡ weight
   pub plain : AllByRecursion IsPlain events
   pub own : AllByRecursion (IsOwnEvent parts) events
@@ -181,7 +181,7 @@ module _ (n : ℕ) (parts : Parts) (mmu : MmuRegs) (x : World n Device) (s : Sta
       record {
         events = Ran ∷ [];
         new = new;
-        leads = (new, subst (λ c. TurnsTo n mmu x Ran (world n c ram x.memory.device)) (computes n x.cpu op f) turned, refl);
+        leads = (new, subst (λ c. TurnsTo n (pages_of parts) mmu x Ran (world n c ram x.memory.device)) (computes n x.cpu op f) turned, refl);
         count = refl;
         plain = (λ c. refl, tt);
         own = (tt, tt);
@@ -202,7 +202,7 @@ module _ (n : ℕ) (parts : Parts) (mmu : MmuRegs) (x : World n Device) (s : Sta
       record {
         events = Ran ∷ [];
         new = new;
-        leads = (new, subst (λ c. TurnsTo n mmu x Ran (world n c ram x.memory.device)) (sets_high n x.cpu f) turned, refl);
+        leads = (new, subst (λ c. TurnsTo n (pages_of parts) mmu x Ran (world n c ram x.memory.device)) (sets_high n x.cpu f) turned, refl);
         count = refl;
         plain = (λ c. refl, tt);
         own = (tt, tt);

@@ -7,17 +7,17 @@ use Rattle.sbx_raw.specs.Runs.{IsRaw}
 use Rattle.sbx_flat.specs.Runs.{Behaves, Place, budget}
 use Rattle.sbx_flat.specs.Traffic.{traffic}
 use Rattle.sbx_run.specs.declared.runner.Finished.{Finished}
-use Rattle.sbx_run.specs.Traps.{OwnTraps}
+use Rattle.sbx_run.specs.Turns.{OwnTurns}
 
 -- The raw run of the image, with its budget as the limit: it exits, and the status, the counts, the output and the pages' use are
--- its own. Each trap of it is one that the image may take.
+-- its own. Its turns take no trap but the image's own, and touch no page but the image's own, those of the supervisor and the device.
 pub record IsBoardRun (parts : Parts) (n : ℕ) (input : List ℕ) (finished : Finished) : Type 0 where
   pub raw : Raw
   pub run : IsRaw n parts input (budget parts) raw
   pub told : raw.outcome ≡ record { ending = Exit finished.status; turns = finished.turns; overflows = finished.overflows; underflows = finished.underflows }
   pub output : finished.output.items ≡ raw.output.items
   pub pages : finished.pages ≡ raw.pages
-  pub traps : OwnTraps n parts run.start finished.turns
+  pub own : OwnTurns n parts run.start finished.turns
 
 -- The output and the status are those of every flat run, and turns, overflows and underflows are the window traffic of
 -- its path with n windows. The turns are within the budget. All are those of the board run.

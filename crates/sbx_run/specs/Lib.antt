@@ -1,2 +1,2 @@
-pub mod Traps
+pub mod Turns
 pub mod Answer
