@@ -7,3 +7,4 @@ pub mod Steps
 pub mod Start
 pub mod Finish
 pub mod Answered
+pub mod Pages
