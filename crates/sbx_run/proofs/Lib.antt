@@ -8,3 +8,4 @@ pub mod Steps
 pub mod Start
 pub mod Finish
 pub mod Answered
+pub mod Pages
