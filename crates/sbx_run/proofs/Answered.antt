@@ -16,6 +16,8 @@ use Rattle.sbx_raw.specs.declared.raw.Raw.{Raw}
 use Rattle.sbx_raw.specs.Runs.{IsRaw}
 use Rattle.sbx_run.specs.declared.runner.Finished.{Finished}
 use Rattle.sbx_run.specs.Answer.{IsAnswer}
+use Rattle.sbx_run.specs.Turns.{OwnTurns}
+use Rattle.sbx_run.specs.Pages.{UsesOwnPages}
 use Rattle.sbx_run.proofs.Finish.{Told, told}
 use Rattle.sbx_run.proofs.Steps.{AreAccepted, located}
 
@@ -77,7 +79,7 @@ module _ (parts : Parts) (n : ℕ) (input : List ℕ) (few : 4 ≤ n) (many : n 
   all : AreAccepted parts.words
   all = all_accepted parts accepted
 
-  abbrev told_so : Told n parts input run.end
+  abbrev told_so : Told n parts input run.start run.end
   told_so = told n parts input run.begun.made run.start run.end few many safe bytes accepted.few all bound run.begun.new run.begun.loaded run.run
 
   abbrev outcome : Outcome
@@ -110,7 +112,7 @@ module _ (parts : Parts) (n : ℕ) (input : List ℕ) (few : 4 ≤ n) (many : n 
         overflows = ap (λ (o : Outcome). o.overflows) is ∙ sym (ap (λ (t : Traffic). t.overflows) quiet);
         underflows = ap (λ (o : Outcome). o.underflows) is ∙ sym (ap (λ (t : Traffic). t.underflows) quiet);
         within = omega arith;
-        board_run = record { raw = raw; run = run; told = outcome_told; output = output; pages = pages };
+        board_run = record { raw = raw; run = run; told = outcome_told; output = output; pages = pages; own = subst (OwnTurns n parts run.start) (sym so_many) t.own; own_pages = subst (UsesOwnPages parts) (sym (pages ∙ run.pages)) t.pages };
       }
 
 -- ---- the run of the image that was accepted, with its budget

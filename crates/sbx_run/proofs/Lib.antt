@@ -2,8 +2,10 @@ pub mod Fields
 pub mod Written
 pub mod Plain
 pub mod Shows
+pub mod Within
 pub mod Chains
 pub mod Steps
 pub mod Start
 pub mod Finish
 pub mod Answered
+pub mod Pages

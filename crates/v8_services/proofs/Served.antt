@@ -162,28 +162,28 @@ module _ (n : ℕ) (g : Pages) (words : List ℕ) (mmu : MmuRegs) (x : World n D
 
   -- sethi %hi(device),%l3, at the word k of the trap table
   set_turn : (t k a : ℕ) → k < 1024 → a ≡ 0xF0000000 + 4 * k → operation_of (meaning (trap_word k)) ≡ set_device →
-      TurnsTo n mmu (world n (in_vector n c t (trapped n v pc npc) a (following a)) ram1 d) Ran (world n (in_vector n c t vector (following a) (following (following a))) ram2 d)
+      TurnsTo n g mmu (world n (in_vector n c t (trapped n v pc npc) a (following a)) ram1 d) Ran (world n (in_vector n c t vector (following a) (following (following a))) ram2 d)
   set_turn t k a small at is =
       vector_turn n g words mmu c t (trapped n v pc npc) a (following a) k ram1 d set_device None (world n (in_vector n c t vector (following a) (following (following a))) ram2 d) Ran setting loaded1 u.running small at is
-      (calm_set n (in_vector n c t (trapped n v pc npc) a (following a))) (sets_device n mmu c t v pc npc a (following a) ram2 d) (ap ran_event u.running)
+      (calm_set n (in_vector n c t (trapped n v pc npc) a (following a))) (sets_device n mmu c t v pc npc a (following a) ram2 d) (ap ran_event u.running) tt
 
   device_at : (t a b offset va : ℕ) → (0xF0010000 + offset) % 2 ^ 32 ≡ va → address_of n (in_vector n c t vector a b) 19 (Immediate offset) ≡ va
   device_at t a b offset va is = address_is n c t vector a b 19 0xF0010000 offset (reads_address n v pc npc u.file pc_word u.npc_word) ∙ is
 
   -- jmpl %l2,%g0 and rett %l2+4, in these registers
   jump_turn : (t k a : ℕ) (regs : Windows) (ram : List ℕ) (e : Device) → IsLoaded n g words ram → e.stopped ≡ None → reg_of n regs 18 ≡ npc → k < 1024 → a ≡ 0xF0000000 + 4 * k → operation_of (meaning (trap_word k)) ≡ jump_back →
-      TurnsTo n mmu (world n (in_vector n c t regs a (following a)) ram e) Ran (world n (in_vector n c t regs (following a) npc) (table_marked ram) e)
+      TurnsTo n g mmu (world n (in_vector n c t regs a (following a)) ram e) Ran (world n (in_vector n c t regs (following a) npc) (table_marked ram) e)
   jump_turn t k a regs ram e loaded running reads small at is =
       let to = register_address_is n c t regs a (following a) 18 npc reads u.npc_word in
       vector_turn n g words mmu c t regs a (following a) k ram e jump_back None (world n (in_vector n c t regs (following a) npc) (table_marked ram) e) Ran setting loaded running small at is
-      (calm_jump n (in_vector n c t regs a (following a)) (record { rd = 0; rs1 = 18; operand2 = Register 0 }) npc to (whole_test npc u.npc_whole)) (jumps_back n mmu c t regs a (following a) npc (table_marked ram) e to) (ap ran_event running)
+      (calm_jump n (in_vector n c t regs a (following a)) (record { rd = 0; rs1 = 18; operand2 = Register 0 }) npc to (whole_test npc u.npc_whole)) (jumps_back n mmu c t regs a (following a) npc (table_marked ram) e to) (ap ran_event running) tt
 
   return_turn : (t k a : ℕ) (regs : Windows) (ram : List ℕ) (e : Device) → IsLoaded n g words ram → e.stopped ≡ None → reg_of n regs 18 ≡ npc → can_enter regs (above n regs.current) ≡ true → k < 1024 → a ≡ 0xF0000000 + 4 * k → operation_of (meaning (trap_word k)) ≡ return_back →
-      TurnsTo n mmu (world n (in_vector n c t regs a npc) ram e) Ran (world n (resumed n c t (moved regs (above n regs.current)) npc (following npc)) (table_marked ram) e)
+      TurnsTo n g mmu (world n (in_vector n c t regs a npc) ram e) Ran (world n (resumed n c t (moved regs (above n regs.current)) npc (following npc)) (table_marked ram) e)
   return_turn t k a regs ram e loaded running reads free small at is =
       let to = address_is n c t regs a npc 18 npc 4 reads in
       vector_turn n g words mmu c t regs a npc k ram e return_back None (world n (resumed n c t (moved regs (above n regs.current)) npc (following npc)) (table_marked ram) e) Ran setting loaded running small at is
-      (calm_return n c t regs a npc (record { rs1 = 18; operand2 = Immediate 4 }) (following npc) free to (next_whole npc u.npc_whole)) (returns_back n mmu c t regs a npc (following npc) (table_marked ram) e to) (ap ran_event running)
+      (calm_return n c t regs a npc (record { rs1 = 18; operand2 = Immediate 4 }) (following npc) free to (next_whole npc u.npc_whole)) (returns_back n mmu c t regs a npc (following npc) (table_marked ram) e to) (ap ran_event running) tt
 
   -- the end, with these registers
   ends_with : (t : ℕ) (regs windows : Windows) (ram : List ℕ) (e : Device) → windows ≡ regs → world n (resumed n c t windows npc (following npc)) ram e ≡ world n (record { regs = regs; control = returned_from c.control t }) ram e
@@ -201,7 +201,7 @@ module _ (n : ℕ) (g : Pages) (words : List ℕ) (mmu : MmuRegs) (x : World n D
   loaded_before = table_kept n g words ram2 loaded2
 
   -- st %i0,[%l3+8]
-  stop_turn : TurnsTo n mmu (world n (in_vector n c 0x80 vector 0xF0000804 0xF0000808) ram2 d) (Stopped (Exit word)) (exited n x i)
+  stop_turn : TurnsTo n g mmu (world n (in_vector n c 0x80 vector 0xF0000804 0xF0000808) ram2 d) (Stopped (Exit word)) (exited n x i)
   stop_turn =
       let e : Device = record d { stopped = Some (Exit word) } in
       let at = device_at 0x80 0xF0000804 0xF0000808 8 0xF0010008 refl in
@@ -209,9 +209,9 @@ module _ (n : ℕ) (g : Pages) (words : List ℕ) (mmu : MmuRegs) (x : World n D
       setting loaded2 u.running (omega arith) refl exit_1
       (calm_store n (in_vector n c 0x80 vector 0xF0000804 0xF0000808) 8 0xF0010008 at refl)
       (stores_word n mmu c 0x80 vector 0xF0000804 0xF0000808 8 (table_marked ram2) (ram3 true) d e 0xF0010008 0x100000008 word at reads (word_stopped n g words mmu c (table_marked ram2) d word setting loaded_before))
-      refl
+      refl refl
 
-  pub exits_so : Calls words i 0 → Leads n mmu x (exit_events word) (exited n x i)
+  pub exits_so : Calls words i 0 → Leads n g mmu x (exit_events word) (exited n x i)
   exits_so asks = (
     world n (in_vector n c 0x80 (trapped n v pc npc) 0xF0000800 0xF0000804) ram1 d,
     trap_turn n g words mmu x i (calls 0) 0x80 u asks (exit_traps n c),
@@ -225,7 +225,7 @@ module _ (n : ℕ) (g : Pages) (words : List ℕ) (mmu : MmuRegs) (x : World n D
   abbrev given : Windows
   given = answered n v pc npc (gets d).0
 
-  get_turn : TurnsTo n mmu (world n (in_vector n c 0x81 vector 0xF0000814 0xF0000818) ram2 d) Ran (world n (in_vector n c 0x81 given 0xF0000818 0xF000081C) (ram3 false) after_get)
+  get_turn : TurnsTo n g mmu (world n (in_vector n c 0x81 vector 0xF0000814 0xF0000818) ram2 d) Ran (world n (in_vector n c 0x81 given 0xF0000818 0xF000081C) (ram3 false) after_get)
   get_turn =
       let at = device_at 0x81 0xF0000814 0xF0000818 0 0xF0010000 refl in
       vector_turn n g words mmu c 0x81 vector 0xF0000814 0xF0000818 517 ram2 d load_input (Some (record { va = 0xF0010000; pa = 0x100000000; size = Word; store = false })) (world n (in_vector n c 0x81 given 0xF0000818 0xF000081C) (ram3 false) after_get) Ran
@@ -233,9 +233,9 @@ module _ (n : ℕ) (g : Pages) (words : List ℕ) (mmu : MmuRegs) (x : World n D
       (calm_load n (in_vector n c 0x81 vector 0xF0000814 0xF0000818) 0xF0010000 at refl)
       (loads_input n mmu c 0x81 vector 0xF0000814 0xF0000818 (table_marked ram2) (ram3 false) d after_get 0xF0010000 0x100000000 (gets d).0 at (input_loaded n g words mmu c (table_marked ram2) d setting loaded_before)
       ∙ ap (λ (r : Windows). (moving 0xF0010000 0x100000000 Word false, world n (in_vector n c 0x81 r 0xF0000818 0xF000081C) (ram3 false) after_get)) (answered_is n v pc npc (gets d).0))
-      (ap ran_event (gets_running d u.running))
+      (ap ran_event (gets_running d u.running)) refl
 
-  pub gets_so : Calls words i 1 → Leads n mmu x (served_events 0x81) (got n x i)
+  pub gets_so : Calls words i 1 → Leads n g mmu x (served_events 0x81) (got n x i)
   gets_so asks =
       let running = gets_running d u.running in
       let here = reads_npc_after n v pc npc u.file pc_word u.npc_word (gets d).0 in
@@ -265,16 +265,16 @@ module _ (n : ℕ) (g : Pages) (words : List ℕ) (mmu : MmuRegs) (x : World n D
   abbrev after_put : Device
   after_put = record d { output = d.output ++ (word % 2 ^ 8) ∷ [] }
 
-  put_turn : TurnsTo n mmu (world n (in_vector n c 0x82 vector 0xF0000824 0xF0000828) ram2 d) Ran (world n (in_vector n c 0x82 vector 0xF0000828 0xF000082C) (ram3 true) after_put)
+  put_turn : TurnsTo n g mmu (world n (in_vector n c 0x82 vector 0xF0000824 0xF0000828) ram2 d) Ran (world n (in_vector n c 0x82 vector 0xF0000828 0xF000082C) (ram3 true) after_put)
   put_turn =
       let at = device_at 0x82 0xF0000824 0xF0000828 4 0xF0010004 refl in
       vector_turn n g words mmu c 0x82 vector 0xF0000824 0xF0000828 521 ram2 d (store_word 4) (Some (record { va = 0xF0010004; pa = 0x100000004; size = Word; store = true })) (world n (in_vector n c 0x82 vector 0xF0000828 0xF000082C) (ram3 true) after_put) Ran
       setting loaded2 u.running (omega arith) refl put_1
       (calm_store n (in_vector n c 0x82 vector 0xF0000824 0xF0000828) 4 0xF0010004 at refl)
       (stores_word n mmu c 0x82 vector 0xF0000824 0xF0000828 4 (table_marked ram2) (ram3 true) d after_put 0xF0010004 0x100000004 word at reads (word_put n g words mmu c (table_marked ram2) d word setting loaded_before))
-      (ap ran_event u.running)
+      (ap ran_event u.running) refl
 
-  pub puts_so : Calls words i 2 → Leads n mmu x (served_events 0x82) (put n x i)
+  pub puts_so : Calls words i 2 → Leads n g mmu x (served_events 0x82) (put n x i)
   puts_so asks =
       let here = reads_npc n v pc npc u.file pc_word u.npc_word in
       let free = may_return n v pc npc u.file pc_word u.npc_word u.free in (

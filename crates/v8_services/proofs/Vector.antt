@@ -1,5 +1,5 @@
 -- One turn: the trap that a call makes, and each word of a vector.
-use Rattle.std.proofs.Common.{◌≡◌, ℕ, ◌+◌, ◌*◌, ◌%◌, ◌^◌, ◌<◌, Bool, true, false, List, [], ◌∷◌, ◌++◌, Option, Some, None, Ok, refl, ap, ◌∙◌, arith}
+use Rattle.std.proofs.Common.{◌≡◌, ℕ, ◌+◌, ◌*◌, ◌%◌, ◌^◌, ◌/◌, ◌<◌, ◌≤◌, Bool, true, false, List, [], ◌∷◌, ◌++◌, Option, Some, None, Ok, refl, sym, ap, ◌∙◌, subst, arith}
 use Rattle.std.specs.Prelude.{slice_index, ◌==◌, not, if◌then◌else◌}
 use Rattle.v8_word.specs.declared.Size.TheVariants.{Word}
 use Rattle.v8_formats.specs.Table.{meaning}
@@ -34,11 +34,11 @@ use Rattle.v8_core.specs.declared.turn.Outcome.{Outcome}
 use Rattle.v8_core.specs.declared.turn.Turn.{Turn}
 use Rattle.v8_core.specs.Accesses.{World, world, moving, quiet, load_does, load_ends, store_does, store_ends}
 use Rattle.v8_core.specs.Memory.{Memory, fetches, loads, load_through, stores, store_through}
-use Rattle.v8_core.specs.Steps.{acts, ran_event}
+use Rattle.v8_core.specs.Steps.{acts, next, ran_event, trap_event, turn_of}
 use Rattle.v8_core.proofs.Turns.{Ready, runs_to, traps_to}
 use Rattle.v8_layout.specs.Layout.{Pages, AreFew, IsLoaded}
 use Rattle.v8_memory.specs.Board.{Device, board, board_load, board_store, device_load, device_store, gets}
-use Rattle.v8_services.specs.Services.{RunsUser, TurnsTo, code_marked, device_marked, in_vector, table_marked, vector_registers}
+use Rattle.v8_services.specs.Services.{ReachesDevice, RunsUser, Touches, TurnsTo, code_marked, device_marked, in_vector, table_marked, vector_registers}
 use Rattle.v8_services.proofs.Places.{by_supervisor, fetches_code, fetches_table, reaches_device, reaches_input, user_fetch}
 
 -- ---- a turn in user code
@@ -53,11 +53,21 @@ user_fetches n g words mmu x i u =
 pub user_ready : (n : ℕ) (g : Pages) (words : List ℕ) (mmu : MmuRegs) (x : World n Device) (i : ℕ) → RunsUser n g words mmu x i → Ready board n x.cpu x.memory.device
 user_ready n g words mmu x i u = record { running = u.running; sane = u.sane; straight = u.straight }
 
+-- user code is fetched from the code's pages
+user_touches : (n : ℕ) (g : Pages) (words : List ℕ) (mmu : MmuRegs) (x : World n Device) (i : ℕ) (t : Turn) (event : Event) (word : Option ℕ) → RunsUser n g words mmu x i → t ≡ turn_of n x.cpu event word None → Touches g t.user t.pc t.access
+user_touches n g words mmu x i t event word u is =
+    let less = u.within in
+    let at = u.place in
+    let low : 0x40 ≤ x.cpu.control.pc / 4096 = omega arith in
+    let high : x.cpu.control.pc / 4096 < 0x40 + g.code_count = omega arith in
+    let here : Touches g true x.cpu.control.pc None = (low, high, refl) in
+    subst (λ (o : Turn). Touches g o.user o.pc o.access) (sym is) (subst (λ b. Touches g (not b) x.cpu.control.pc None) (sym u.user) here)
+
 -- a plain instruction: the processor goes on as its operation says, and the code page is marked
 pub plain_turn : (n : ℕ) (g : Pages) (words : List ℕ) (mmu : MmuRegs) (x : World n Device) (i : ℕ) (op : Operation) → RunsUser n g words mmu x i →
     operation_of (meaning (slice_index words i)) ≡ op → first_trap n x.cpu op ≡ None →
     ((y : World n Device) → acts board n mmu op y ≡ (quiet, record y { cpu = effect n y.cpu op })) →
-    TurnsTo n mmu x Ran (world n (effect n x.cpu op) (code_marked i x.memory.ram) x.memory.device)
+    TurnsTo n g mmu x Ran (world n (effect n x.cpu op) (code_marked i x.memory.ram) x.memory.device)
 plain_turn n g words mmu x i op u is calm plain =
     let marks = code_marked i x.memory.ram in
     let d = x.memory.device in
@@ -67,6 +77,7 @@ plain_turn n g words mmu x i op u is calm plain =
       running = u.running;
       sane = u.sane;
       tells = ap (λ (p : Turn × World n Device). p.0.event) turn ∙ ap ran_event u.running;
+      touches = user_touches n g words mmu x i (next board n mmu x).0 (ran_event d.stopped) (Some (slice_index words i)) u (ap (λ (p : Turn × World n Device). p.0) turn);
       is = ap (λ (p : Turn × World n Device). p.1) turn;
     }
 
@@ -80,7 +91,7 @@ entered_is n c t traps table =
 
 pub trap_turn : (n : ℕ) (g : Pages) (words : List ℕ) (mmu : MmuRegs) (x : World n Device) (i : ℕ) (op : Operation) (t : ℕ) → RunsUser n g words mmu x i →
     operation_of (meaning (slice_index words i)) ≡ op → first_trap n x.cpu op ≡ Some t →
-    TurnsTo n mmu x (Trapped t) (world n (in_vector n x.cpu t (trapped n x.cpu.regs x.cpu.control.pc x.cpu.control.npc) ((0xF0000000 + t * 16) % 2 ^ 32) ((0xF0000000 + t * 16 + 4) % 2 ^ 32)) (code_marked i x.memory.ram) x.memory.device)
+    TurnsTo n g mmu x (Trapped t) (world n (in_vector n x.cpu t (trapped n x.cpu.regs x.cpu.control.pc x.cpu.control.npc) ((0xF0000000 + t * 16) % 2 ^ 32) ((0xF0000000 + t * 16 + 4) % 2 ^ 32)) (code_marked i x.memory.ram) x.memory.device)
 trap_turn n g words mmu x i op t u is meets =
     let marks = code_marked i x.memory.ram in
     let d = x.memory.device in
@@ -89,6 +100,7 @@ trap_turn n g words mmu x i op t u is meets =
       running = u.running;
       sane = u.sane;
       tells = ap (λ (p : Turn × World n Device). p.0.event) turn ∙ ap (λ (b : Bool). if b then Trapped t else ErrorMode t) u.traps;
+      touches = user_touches n g words mmu x i (next board n mmu x).0 (trap_event n x.cpu t) (Some (slice_index words i)) u (ap (λ (p : Turn × World n Device). p.0) turn);
       is = ap (λ (p : Turn × World n Device). p.1) turn ∙ ap (λ (c : Cpu n). world n c marks d) (entered_is n x.cpu t u.traps u.table);
     }
 
@@ -105,16 +117,19 @@ pub vector_turn : (n : ℕ) (g : Pages) (words : List ℕ) (mmu : MmuRegs) (c : 
     operation_of (meaning (trap_word k)) ≡ op → first_trap n (in_vector n c t regs pc npc) op ≡ None →
     acts board n mmu op (world n (in_vector n c t regs pc npc) (table_marked ram) d) ≡ (record { access = access; trap = None }, new) →
     ran_event new.memory.device.stopped ≡ event →
-    TurnsTo n mmu (world n (in_vector n c t regs pc npc) ram d) event new
-vector_turn n g words mmu c t regs pc npc k ram d op access new event s loaded running small at is calm does tells =
+    ReachesDevice access →
+    TurnsTo n g mmu (world n (in_vector n c t regs pc npc) ram d) event new
+vector_turn n g words mmu c t regs pc npc k ram d op access new event s loaded running small at is calm does tells device =
     let cpu = in_vector n c t regs pc npc in
     let fetch = ap (λ p. fetches mmu p (by_supervisor kinds.Fetch) ram) at ∙ fetches_table n g words ram mmu k s.few loaded s.root small in
     let ready : Ready board n cpu d = record { running = running; sane = s.sane; straight = refl } in
+    let page : pc / 4096 ≡ 0xF0000 = omega arith in
     let turn = runs_to board n mmu cpu ram (table_marked ram) d (trap_word k) op access new ready fetch is calm does in
     record {
       running = running;
       sane = s.sane;
       tells = ap (λ (p : Turn × World n Device). p.0.event) turn ∙ tells;
+      touches = subst (λ (o : Turn). Touches g o.user o.pc o.access) (sym (ap (λ (p : Turn × World n Device). p.0) turn)) (page, device);
       is = ap (λ (p : Turn × World n Device). p.1) turn;
     }
 

@@ -1,5 +1,5 @@
 -- What a call of a service does: the turn of the trap, and those of the words of its vector (chapter 7 and the trap table).
-use Rattle.std.specs.Prelude.{ℕ, ◌≡◌, ◌+◌, ◌*◌, ◌/◌, ◌%◌, ◌^◌, ◌<◌, Bool, true, false, List, [], ◌∷◌, ◌++◌, slice_index, Some, None}
+use Rattle.std.specs.Prelude.{ℕ, ◌≡◌, ◌+◌, ◌*◌, ◌/◌, ◌%◌, ◌^◌, ◌<◌, ◌≤◌, Bool, true, false, List, [], ◌∷◌, ◌++◌, slice_index, Option, Some, None}
 use Rattle.v8_word.specs.declared.Cond.TheVariants.{Always}
 use Rattle.v8_formats.specs.Table.{meaning}
 use Rattle.v8_formats.specs.declared.instr.Operand.TheVariants.{Immediate}
@@ -14,6 +14,7 @@ use Rattle.v8_mmu.specs.declared.bus.Stop.TheVariants.{Exit}
 use Rattle.v8_mmu.specs.declared.translation.MmuRegs.{MmuRegs}
 use Rattle.v8_state.specs.declared.state.Control.{Control}
 use Rattle.v8_state.specs.declared.state.Cpu.{Cpu}
+use Rattle.v8_core.specs.declared.turn.DataAccess.{DataAccess}
 use Rattle.v8_core.specs.declared.turn.Event.{Event}
 use Rattle.v8_core.specs.declared.turn.Event.TheVariants.{Ran, Trapped, Stopped}
 use Rattle.v8_core.specs.Accesses.{World, world}
@@ -23,17 +24,29 @@ use Rattle.v8_memory.specs.Board.{Device, board, gets}
 
 -- ---- turns of a board that had not ended
 
+-- the device's page and no other
+abbrev pub ReachesDevice : Option DataAccess → Type 0
+ReachesDevice None = Unit
+ReachesDevice (Some access) = access.va / 4096 ≡ 0xF0010
+
+-- what a turn touches, by its mode, place and access: user code is fetched from the code's pages, and reaches no data; a vector is
+-- fetched from the page of the trap table, and reaches the device alone
+abbrev pub Touches : Pages → Bool → ℕ → Option DataAccess → Type 0
+Touches g true pc access = (0x40 ≤ pc / 4096) × (pc / 4096 < 0x40 + g.code_count) × (access ≡ None)
+Touches g false pc access = (pc / 4096 ≡ 0xF0000) × ReachesDevice access
+
 -- one turn, with this event
-pub record TurnsTo (n : ℕ) (mmu : MmuRegs) (old : World n Device) (event : Event) (new : World n Device) : Type 0 where
+pub record TurnsTo (n : ℕ) (g : Pages) (mmu : MmuRegs) (old : World n Device) (event : Event) (new : World n Device) : Type 0 where
   pub running : old.memory.device.stopped ≡ None
   pub sane : old.cpu.control.error ≡ None
   pub tells : (next board n mmu old).0.event ≡ event
+  pub touches : Touches g (next board n mmu old).0.user (next board n mmu old).0.pc (next board n mmu old).0.access
   pub is : (next board n mmu old).1 ≡ new
 
 -- turns with these events, one after the other
-abbrev pub Leads : (n : ℕ) → MmuRegs → World n Device → List Event → World n Device → Type 0
-Leads n mmu old [] new = old ≡ new
-Leads n mmu old (event ∷ events) new = (mid : World n Device) × TurnsTo n mmu old event mid × Leads n mmu mid events new
+abbrev pub Leads : (n : ℕ) → Pages → MmuRegs → World n Device → List Event → World n Device → Type 0
+Leads n g mmu old [] new = old ≡ new
+Leads n g mmu old (event ∷ events) new = (mid : World n Device) × TurnsTo n g mmu old event mid × Leads n g mmu mid events new
 
 -- ---- user code
 
@@ -137,7 +150,7 @@ exit_events status = Trapped 0x80 ∷ Ran ∷ Stopped (Exit status) ∷ []
 
 abbrev pub ExitLaw : Type 0
 ExitLaw = (n : ℕ) (g : Pages) (words : List ℕ) (mmu : MmuRegs) (x : World n Device) (i : ℕ) → RunsUser n g words mmu x i → Calls words i 0 →
-    Leads n mmu x (exit_events (reg_of n x.cpu.regs service_register)) (exited n x i)
+    Leads n g mmu x (exit_events (reg_of n x.cpu.regs service_register)) (exited n x i)
 
 -- the trap t, and four words
 abbrev pub served_events : ℕ → List Event
@@ -145,8 +158,8 @@ served_events t = Trapped t ∷ Ran ∷ Ran ∷ Ran ∷ Ran ∷ []
 
 abbrev pub GetLaw : Type 0
 GetLaw = (n : ℕ) (g : Pages) (words : List ℕ) (mmu : MmuRegs) (x : World n Device) (i : ℕ) → RunsUser n g words mmu x i → Calls words i 1 →
-    Leads n mmu x (served_events 0x81) (got n x i)
+    Leads n g mmu x (served_events 0x81) (got n x i)
 
 abbrev pub PutLaw : Type 0
 PutLaw = (n : ℕ) (g : Pages) (words : List ℕ) (mmu : MmuRegs) (x : World n Device) (i : ℕ) → RunsUser n g words mmu x i → Calls words i 2 →
-    Leads n mmu x (served_events 0x82) (put n x i)
+    Leads n g mmu x (served_events 0x82) (put n x i)
