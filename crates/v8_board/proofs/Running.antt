@@ -2,7 +2,7 @@
 use Rattle.std.proofs.Common.{◌≡◌, ℕ, suc, ◌+◌, ◌<◌, ◌≤◌, ◌⊎◌, inl, inr, None, refl, sym, ap, ◌∙◌, arith}
 use Rattle.v8_core.specs.declared.turn.Turn.{Turn}
 use Rattle.v8_board.specs.Seen.{State, ending_of, turned}
-use Rattle.v8_board.specs.Runs.{Turns, IsRun, after}
+use Rattle.v8_board.specs.Runs.{Turns, IsRun, IsCutShort, after}
 
 -- so many turns
 abbrev pub Counted : (n : ℕ) → State n → State n → ℕ → Type 0
@@ -31,3 +31,6 @@ ended_run n limit k old new (t, so_many) within over = record { turns = t; withi
 
 pub whole_run : (n limit k : ℕ) (old new : State n) → Counted n old new k → k ≡ limit → IsRun n limit old new
 whole_run n limit k old new (t, so_many) all = record { turns = t; within = omega arith; whole = λ none. omega arith }
+
+pub cut_short : (n limit k : ℕ) (old new : State n) → Counted n old new k → k < limit → ending_of n new.world ≡ None → IsCutShort n limit old new
+cut_short n limit k old new (t, so_many) less none = record { turns = t; within = omega arith; going = none }

@@ -53,7 +53,7 @@ impl<const N: usize, P: Port> Model for Board<N, P> {
 impl<const N: usize, P: Port> Board<N, P> {
     ghost use Rattle.v8_board.specs.Seen.{ending_of, turned, with_port};
     ghost use Rattle.v8_board.specs.contracts.board.Board.{the_row};
-    ghost use Rattle.v8_board.specs.Runs.{IsRun, Turns, ending_or_limit, outcome_of};
+    ghost use Rattle.v8_board.specs.Runs.{IsCutShort, IsRun, ending_or_limit, outcome_of};
     ghost use Rattle.v8_board.specs.Start.{IsNew, IsStart, pages_of};
     ghost use Rattle.v8_board.specs.Marks.{page_use_of};
 
@@ -141,7 +141,8 @@ impl<const N: usize, P: Port> Board<N, P> {
     }
 
     /// One turn, which is counted unless the machine has ended. On a fault of the port nothing has changed, page bits included, and
-    /// the port's count of failures rose. Where no word of the page tables changes but in R and M, addresses translate as before.
+    /// the port's count of failures rose. Where no word of the page tables changes but in R and M, addresses translate as before:
+    /// that is the law `v8_layout::laws::tables_stay`.
     pub fn step(&mut self) -> Result<Turn, PortFault>
         ensures turn { IfOk result (λ turn. turned N self.old.state ≡ (turn, self.new.state)) }
         ensures state { OnErr result (self.new.state ≡ self.old.state) }
@@ -173,11 +174,12 @@ impl<const N: usize, P: Port> Board<N, P> {
     }
 
     /// Runs to an end, but at most so many turns. After an end it tells that end again. On a fault of the port the board stands
-    /// after the last whole turn, and may go on from there; the port's count of failures rose.
+    /// after the last whole turn, with fewer turns made than were allowed and no end met, and may go on from there; the port's
+    /// count of failures rose.
     pub fn run(&mut self, limit: u64) -> Result<Outcome, PortFault>
         ensures run { IfOk result (λ told. IsRun N limit self.old.state self.new.state) }
         ensures told { IfOk result (λ told. told ≡ outcome_of N self.new.state) }
-        ensures stands { OnErr result (Turns N self.old.state self.new.state) }
+        ensures stands { OnErr result (IsCutShort N limit self.old.state self.new.state) }
         ensures count { self.old.failed ≤ self.new.failed }
         ensures cause { OnErr result (Rose self.old.failed self.new.failed) }
     {

@@ -344,6 +344,24 @@ fn unmarked(board: &Board<4, Sink>, place: u64) -> Option<u32> {
     board.entry(place).map(|word| word | marks)
 }
 
+/// A board that was loaded with these words.
+fn loaded_with(alloc: Global, words: &[u32]) -> Result<Board<4, Sink>, Fail> {
+    let image = raw_image(alloc, words)?;
+    let mut loaded = board(alloc, 0)?;
+    loaded.load(&image);
+    Ok(loaded)
+}
+
+/// Whether two boards have the same trap table, handlers, tables, code and data, but for R and M.
+fn are_alike_below_the_stack(one: &Board<4, Sink>, other: &Board<4, Sink>) -> bool {
+    for k in 0..0x2_4000u64 {
+        if unmarked(one, 4 * k) != unmarked(other, 4 * k) {
+            return false;
+        }
+    }
+    true
+}
+
 /// A run leaves the trap table, the handlers, the tables, the code and the data as they were loaded, but for R and M.
 #[test]
 fn a_run_changes_nothing_below_the_stack(rt: HostRuntime) -> Result<(), Fail> {
@@ -352,19 +370,14 @@ fn a_run_changes_nothing_below_the_stack(rt: HostRuntime) -> Result<(), Fail> {
     // save %sp,-96,%sp, of which the third overflows
     words.extend_from_slice(&[0x9DE3_BFA0; 3])?;
     words.extend_from_slice(&GREETING)?;
-    let image = raw_image(alloc, &words)?;
-    let mut loaded = board(alloc, 0)?;
-    loaded.load(&image);
-    let mut ran = board(alloc, 0)?;
-    ran.load(&image);
+    let loaded = loaded_with(alloc, &words)?;
+    let mut ran = loaded_with(alloc, &words)?;
     let told = ran.run(100)?;
     let counted = (told.ending, told.turns, told.overflows);
     assert_eq!(rt; counted, (Ending::Exit(0), 43, 1));
     assert_eq!(rt; loaded.page_use().modified, [0, 0, 0]);
     assert_eq!(rt; ran.page_use().modified, [0, 0, 1 << 63]);
-    for k in 0..0x2_4000u64 {
-        assert_eq!(rt; unmarked(&ran, 4 * k), unmarked(&loaded, 4 * k), "{k}");
-    }
+    assert!(rt; are_alike_below_the_stack(&loaded, &ran));
     // the first code page and the last stack page, marked
     assert_eq!(rt;
         (loaded.entry(0x2A00), ran.entry(0x2A00)),
@@ -374,5 +387,36 @@ fn a_run_changes_nothing_below_the_stack(rt: HostRuntime) -> Result<(), Fail> {
         (loaded.entry(0x2CFC), ran.entry(0x2CFC)),
         (Some(0x9F06), Some(0x9F66))
     );
+    Ok(())
+}
+
+/// SAVEs with the stack pointer at the device, whose first spill is refused: the machine ends in error mode, nothing is put out, and
+/// below the stack nothing but R of pages that were fetched from has changed.
+#[test]
+fn a_refused_spill_changes_nothing(rt: HostRuntime) -> Result<(), Fail> {
+    let alloc = rt.alloc();
+    // sethi 0x3C0040,%sp; ba .+0; save %sp,0,%sp
+    let words = [0x1D3C_0040, 0x1080_0000, 0x9DE3_A000];
+    let loaded = loaded_with(alloc, &words)?;
+    let mut ran = loaded_with(alloc, &words)?;
+    let told = ran.run(100)?;
+    let wanted = Outcome {
+        ending: Ending::ErrorMode(TrapType::new(0x09)),
+        turns: 19,
+        overflows: 1,
+        underflows: 0,
+    };
+    assert_eq!(rt; told, wanted);
+    assert_eq!(rt; ran.fault_status(), 0x3B6);
+    assert_eq!(rt; ran.port().kept.len(), 0);
+    let used = PageUse {
+        referenced: [1, 0, 0],
+        modified: [0, 0, 0],
+    };
+    assert_eq!(rt; ran.page_use(), used);
+    assert!(rt; are_alike_below_the_stack(&loaded, &ran));
+    // the entries of the last stack page and of the device, without a mark
+    assert_eq!(rt; ran.entry(0x2CFC), Some(0x9F06));
+    assert_eq!(rt; ran.entry(0x2D40), Some(0x1000_001E));
     Ok(())
 }

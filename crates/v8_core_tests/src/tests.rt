@@ -509,7 +509,7 @@ struct Trapping {
     status: u32,
 }
 
-const TRAPS: [Trapping; 37] = [
+const TRAPS: [Trapping; 41] = [
     // sethi 0x20000,%g1; jmpl %g1,%g0; nop
     Trapping {
         psr: 0x20,
@@ -547,6 +547,38 @@ const TRAPS: [Trapping; 37] = [
         psr: 0x20,
         acc: 3,
         words: &[0x81B00000],
+        trap: 0x24,
+        status: 0x0,
+    },
+    // ldf [%g0+%g0],%f0
+    Trapping {
+        psr: 0x20,
+        acc: 3,
+        words: &[0xC1000000],
+        trap: 0x04,
+        status: 0x0,
+    },
+    // ldc [%g0+%g0],%c0
+    Trapping {
+        psr: 0x20,
+        acc: 3,
+        words: &[0xC1800000],
+        trap: 0x24,
+        status: 0x0,
+    },
+    // fba .+0
+    Trapping {
+        psr: 0x20,
+        acc: 3,
+        words: &[0x11800000],
+        trap: 0x04,
+        status: 0x0,
+    },
+    // cba .+0
+    Trapping {
+        psr: 0x20,
+        acc: 3,
+        words: &[0x11C00000],
         trap: 0x24,
         status: 0x0,
     },
@@ -959,6 +991,49 @@ fn turns_tell_what_moved(rt: HostRuntime) {
         };
         assert_eq!(rt; machine.step(), Ok(turn));
     }
+}
+
+// Accesses of the entry that maps them: %g1 before and after, and the entry after. A page entry of ACC 3 is E, R is 20 and M is 40
+// (hexadecimal). The fetch of the word has set R.
+const OWN_ENTRY: [(u32, u32, u32, u32); 7] = [
+    // ld [%g0+0xFFC],%g1
+    (0xC2002FFC, 0, 0x2E, 0x2E),
+    // stb %g0,[%g0+0xFFC]
+    (0xC0282FFC, 0, 0, 0x6E),
+    // stb %g1,[%g0+0xFFC]
+    (0xC2282FFC, 0x12, 0x12, 0x1200006E),
+    // stb %g0,[%g0+0xFFF]
+    (0xC0282FFF, 0, 0, 0),
+    // st %g0,[%g0+0xFFC]
+    (0xC0202FFC, 0, 0, 0),
+    // swap [%g0+0xFFC],%g1
+    (0xC2782FFC, 0, 0x6E, 0),
+    // ldstub [%g0+0xFFF],%g1
+    (0xC2682FFF, 0, 0x6E, 0xFF),
+];
+
+/// R and M are set before the bytes of an access move.
+#[test]
+fn marks_come_before_the_bytes(rt: HostRuntime) -> Result<(), PortFault> {
+    for (word, before, after, entry) in OWN_ENTRY {
+        let mut machine = machine(3, 0x20, &[word]);
+        assert_eq!(rt; root_entry(&machine), Some(0xE));
+        if let Some(first) = Reg::new(1) {
+            machine.set_reg(first, before);
+        }
+        assert_eq!(rt; machine.step()?.event, Event::Ran);
+        assert_eq!(rt; global(&machine, 1), after);
+        assert_eq!(rt; root_entry(&machine), Some(entry));
+    }
+    // a fetch of the entry, which is then an UNIMP
+    let mut machine = machine(3, 0x20, &[]);
+    machine.set_pc(0xFFC);
+    machine.set_npc(CODE);
+    let turn = machine.step()?;
+    assert_eq!(rt; turn.event, Event::Trapped(TrapType::new(0x02)));
+    assert_eq!(rt; turn.word, Some(0x2E));
+    assert_eq!(rt; root_entry(&machine), Some(0x2E));
+    Ok(())
 }
 
 #[test]

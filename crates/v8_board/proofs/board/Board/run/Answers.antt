@@ -1,5 +1,5 @@
 use Rattle.std.proofs.Common.{sym, ◌∙◌, arith}
-use Rattle.v8_board.proofs.Running.{no_turns, one_turn_more, ended_run, whole_run}
+use Rattle.v8_board.proofs.Running.{no_turns, one_turn_more, ended_run, whole_run, cut_short}
 use Rattle.v8_board.proofs.board.Board.run.Goals as goal
 
 pub loop-done-init : goal.loop-done-init
@@ -17,3 +17,8 @@ returns-in_default-clause-run g c =
 
 pub returns-clause-run : goal.returns-clause-run
 returns-clause-run g c = whole_run g.row.N c.args.limit c.loop-done.done c.args.self.now.state c.loop-done.self.state c.loop-done.invariant.0 (omega arith)
+
+pub returns-in-Err-clause-stands : goal.returns-in-Err-clause-stands
+returns-in-Err-clause-stands g c =
+    let stands = cut_short g.row.N c.args.limit c.loop-done.done c.args.self.now.state c.loop-done.self.state c.loop-done.invariant.0 (omega arith) (sym c.ending.ensures ∙ c.in-None.is) in
+    rw c.in-Err.ensures.state stands
