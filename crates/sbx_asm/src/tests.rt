@@ -236,7 +236,7 @@ const BARE: [(&str, &str); 15] = [
 ];
 
 /// Sources behind the line of a function.
-const INSIDE: [(&str, &str); 48] = [
+const INSIDE: [(&str, &str); 51] = [
     (" save %sp,-4096,%sp", "9DE3B000 "),
     (" save %sp,-4104,%sp", "line 2: S3"),
     (" unimp 4194303", "003FFFFF "),
@@ -281,6 +281,9 @@ const INSIDE: [(&str, &str); 48] = [
     (" nop\n.data\n nop", "line 4: A2"),
     (" nop\n.data\n.byte 256", "line 4: A2"),
     (" nop\n.data\n.byte 256,x", "line 4: S4"),
+    (".data\n.byte x", "line 3: S4"),
+    (".data\n.byte 256", "line 1: A2"),
+    (" nop\n.block b\n.data\n.byte x\n.block c", "line 5: S4"),
     (" nop\n.data\n.skip 262145", "line 4: A3"),
     (" nop\n.data\n.skip 262144\n.align 8\n.byte 1", "line 6: A3"),
     (" nop\n.data\n.skip 262144\n.byte 1,x", "line 5: S4"),
