@@ -211,6 +211,10 @@ stack_by None n d = record d { stack = Some n }
 unfoldable pub add_stack : ℕ → Draft → Draft
 add_stack n d = stack_by d.stack n d
 
+-- the open block has an instruction
+abbrev pub begun : Draft → Draft
+begun d = record d { block = record d.block { begun = true } }
+
 -- data stand in the data section, within its limit
 abbrev pub is_code : Section → Bool
 is_code sections.Code = true
@@ -219,9 +223,10 @@ is_code sections.Data = false
 abbrev pub data_checked : ℕ → Draft → Draft
 data_checked n d = noted_where (not (has_room data_end d.place.next_byte n)) causes.Limit (noted_where (is_code d.place.section) causes.Directive d)
 
+-- a line with a fault of its syntax counts as an instruction
 abbrev pub with_data : Result (List ℕ) DataFault → Draft → Draft
 with_data (Ok bytes) d = record d { bytes = d.bytes ++ bytes }
-with_data (Err data_faults.UnknownSymbol) d = noted (causes.Syntax UnknownSymbol) d
+with_data (Err data_faults.UnknownSymbol) d = begun (noted (causes.Syntax UnknownSymbol) d)
 with_data (Err data_faults.Malformed) d = noted causes.Directive d
 with_data (Err data_faults.Memory) d = d
 
@@ -240,9 +245,6 @@ abbrev pub instruction_checked : List ℕ → List Token → Draft → Draft
 instruction_checked line ts d =
     noted_where (not (has_room code_end d.place.next_word (4 * statement_length line ts))) causes.Limit
     (noted_where (not (is_code d.place.section && is_some d.function.head)) causes.Directive d)
-
-abbrev pub begun : Draft → Draft
-begun d = record d { block = record d.block { begun = true } }
 
 abbrev pub with_words : Result (List Instr) SyntaxFault → Draft → Draft
 with_words (Ok is) d = record d { words = d.words ++ map spelling is }

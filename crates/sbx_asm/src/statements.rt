@@ -67,7 +67,10 @@ impl Draft {
         let scope = Scope { table, here: 0 };
         match self.bytes.push_values(width, &scope, line, tokens) {
             Ok(()) => {}
-            Err(DataFault::UnknownSymbol) => self.note(Cause::Syntax(SyntaxFault::UnknownSymbol)),
+            Err(DataFault::UnknownSymbol) => {
+                self.note(Cause::Syntax(SyntaxFault::UnknownSymbol));
+                self.block.begun = true;
+            }
             Err(DataFault::Malformed) => self.note(Cause::Directive),
             Err(DataFault::Memory) => return Err(AllocError),
         }

@@ -1,6 +1,6 @@
 //! Worked sources, the order of faults, and each limit.
 use super::*;
-use sbx_image::write;
+use sbx_image::{Block, Function, Image, Kind, Range, write};
 use std::alloc::{AllocError, Global};
 use std::test::Fail;
 
@@ -14,6 +14,46 @@ const HELLO: [u8; 86] = [
 
 const HELLO_SOURCE: &str =
     ".services exit,put\n.function main,leaf,0,0,16\n.fuel 16\n mov 72,%o0\n ta 2\n mov 105,%o0\n ta 2\n mov 0,%o0\n ta 0\n";
+
+/// The example echo without its comments.
+const ECHO_SOURCE: &str = ".services exit,get,put
+.function main,framed,96,96,16030
+.fuel 16030
+    save %sp,-96,%sp
+    mov 1000,%l0
+.block loop
+.cell %l0,1,1000,0
+.fuel 4
+.term %l0,16
+    ta 1
+    cmp %o0,-1
+    be done
+    nop
+.block body
+.cell %o0,0,255,0
+.cell %l0,1,1000,0
+.fuel -4
+.term %l0,16
+    ta 2
+    deccc %l0
+    bne loop
+    nop
+.block done
+.fuel 4
+    mov 0,%o0
+    ta 0
+";
+
+/// The bytes of its image by the format's fields: the header, the words, the function, and its four blocks.
+const ECHO: [&str; 7] = [
+    "53425838000100070000000c0000000000010001",
+    "9de3bfa0a01023e891d0200180a23fff028000060100000091d02002a0a4200112bffffa010000009010200091d02000",
+    "010000000004000000000060000000600000000000003e9e0004",
+    "00040000000000000000000000003e9e",
+    "00040008000100010000000000000004001000000001000003e800001000000010",
+    "0004001800020001fffffffffffffffc000800000000000000ff00001000000001000003e800001000000010",
+    "00040028000000000000000000000004",
+];
 
 /// The words and the data of a source's image, or its fault.
 fn shown(alloc: Global, source: &[u8]) -> Result<String, Fail> {
@@ -46,8 +86,138 @@ fn writes_hello(rt: HostRuntime) -> Result<(), Fail> {
     Ok(())
 }
 
+#[test]
+fn writes_echo(rt: HostRuntime) -> Result<(), Fail> {
+    match assemble(rt.alloc(), ECHO_SOURCE.as_bytes()) {
+        Ok(image) => {
+            let mut wanted = String::new(rt.alloc());
+            for piece in ECHO {
+                wanted.push_str(piece)?;
+            }
+            let mut text = String::new(rt.alloc());
+            for byte in write(&image, rt.alloc())?.as_slice() {
+                let piece = format!(in rt.alloc(); "{byte:02x}")?;
+                text.push_str(piece.as_str())?;
+            }
+            assert_eq!(rt; text.as_str(), wanted.as_str());
+        }
+        Err(fault) => assert!(rt; false, "{fault}"),
+    }
+    Ok(())
+}
+
+/// Two functions with each annotation, and pages of stack.
+const ANNOTATED_SOURCE: &str = ".stack 3
+.services put
+.function main,framed,104,200,77
+.result 0,0,3
+.fuel 5
+    nop
+.function helper,leaf,8,16,1099511627775
+.param -5,7,0
+.result -16,16,2
+.param -2147483648,2147483647,3
+.cell %o1,1,2,0
+.fuel -1099511627775
+    nop
+.block again
+.cell %g1,-1,1,0
+.cell slot 3,0,40,2
+.term %g1,2
+.term slot 3,-7
+.fuel 11
+    nop
+.block last
+.term slot 1007,2147483647
+    ta 0
+";
+
+/// What its image says: of each function the kind, the entry, the frame, the stack, the budget and the ranges, and of each
+/// block the address, the fuel, the cells and the terms.
+const ANNOTATED: &str = "services 4, stack 3
+framed 00040000 104 200 77 params results (0 0 3)
+block 00040000 5 cells terms
+leaf 00040004 8 16 1099511627775 params (-5 7 0) (-2147483648 2147483647 3) results (-16 16 2)
+block 00040004 -1099511627775 cells 9 (1 2 0) terms
+block 00040008 11 cells 1 (-1 1 0) 35 (0 40 2) terms 1 (2) 35 (-7)
+block 0004000C 0 cells terms 1039 (2147483647)
+";
+
+fn push_range(alloc: Global, text: &mut String, range: &Range) -> Result<(), Fail> {
+    let (lo, hi, alignment) = (range.lo, range.hi, range.alignment);
+    let piece = format!(in alloc; " ({lo} {hi} {alignment})")?;
+    text.push_str(piece.as_str())?;
+    Ok(())
+}
+
+fn push_function(alloc: Global, text: &mut String, function: &Function) -> Result<(), Fail> {
+    let kind = match function.kind {
+        Kind::Leaf => "leaf",
+        Kind::Framed => "framed",
+    };
+    let (entry, frame) = (function.entry, function.frame);
+    let (room, budget) = (function.stack_room, function.budget);
+    let piece = format!(in alloc; "{kind} {entry:08X} {frame} {room} {budget} params")?;
+    text.push_str(piece.as_str())?;
+    for range in function.params.as_slice() {
+        push_range(alloc, text, range)?;
+    }
+    text.push_str(" results")?;
+    for range in function.results.as_slice() {
+        push_range(alloc, text, range)?;
+    }
+    text.push_str("\n")?;
+    Ok(())
+}
+
+fn push_block(alloc: Global, text: &mut String, block: &Block) -> Result<(), Fail> {
+    let (address, fuel) = (block.address, block.fuel);
+    let piece = format!(in alloc; "block {address:08X} {fuel} cells")?;
+    text.push_str(piece.as_str())?;
+    for cell in block.cells.as_slice() {
+        let location = cell.location;
+        let piece = format!(in alloc; " {location}")?;
+        text.push_str(piece.as_str())?;
+        push_range(alloc, text, &cell.range)?;
+    }
+    text.push_str(" terms")?;
+    for term in block.terms.as_slice() {
+        let (location, coefficient) = (term.location, term.coefficient);
+        let piece = format!(in alloc; " {location} ({coefficient})")?;
+        text.push_str(piece.as_str())?;
+    }
+    text.push_str("\n")?;
+    Ok(())
+}
+
+/// What an image says beside its words and its data.
+fn told(alloc: Global, image: &Image) -> Result<String, Fail> {
+    let services = image.services().0;
+    let pages = image.stack_pages();
+    let mut text = format!(in alloc; "services {services}, stack {pages}\n")?;
+    for function in image.functions() {
+        push_function(alloc, &mut text, function)?;
+        for block in function.blocks.as_slice() {
+            push_block(alloc, &mut text, block)?;
+        }
+    }
+    Ok(text)
+}
+
+#[test]
+fn keeps_annotations(rt: HostRuntime) -> Result<(), Fail> {
+    match assemble(rt.alloc(), ANNOTATED_SOURCE.as_bytes()) {
+        Ok(image) => {
+            let text = told(rt.alloc(), &image)?;
+            assert_eq!(rt; text.as_str(), ANNOTATED);
+        }
+        Err(fault) => assert!(rt; false, "{fault}"),
+    }
+    Ok(())
+}
+
 /// Sources behind nothing at all.
-const BARE: [(&str, &str); 14] = [
+const BARE: [(&str, &str); 15] = [
     ("", "line 1: A2"),
     ("\n", "line 2: A2"),
     ("x", "line 1: S1"),
@@ -61,11 +231,12 @@ const BARE: [(&str, &str); 14] = [
     (".fuel 1", "line 1: A4"),
     (".param 0,1,0", "line 1: A4"),
     (".services exit\n.services put", "line 2: A2"),
+    (".stack 1\n.stack 1", "line 2: A2"),
     (".stack 17", "line 1: A2"),
 ];
 
 /// Sources behind the line of a function.
-const INSIDE: [(&str, &str); 48] = [
+const INSIDE: [(&str, &str); 51] = [
     (" save %sp,-4096,%sp", "9DE3B000 "),
     (" save %sp,-4104,%sp", "line 2: S3"),
     (" unimp 4194303", "003FFFFF "),
@@ -110,6 +281,9 @@ const INSIDE: [(&str, &str); 48] = [
     (" nop\n.data\n nop", "line 4: A2"),
     (" nop\n.data\n.byte 256", "line 4: A2"),
     (" nop\n.data\n.byte 256,x", "line 4: S4"),
+    (".data\n.byte x", "line 3: S4"),
+    (".data\n.byte 256", "line 1: A2"),
+    (" nop\n.block b\n.data\n.byte x\n.block c", "line 5: S4"),
     (" nop\n.data\n.skip 262145", "line 4: A3"),
     (" nop\n.data\n.skip 262144\n.align 8\n.byte 1", "line 6: A3"),
     (" nop\n.data\n.skip 262144\n.byte 1,x", "line 5: S4"),

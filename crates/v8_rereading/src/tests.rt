@@ -29,8 +29,8 @@ impl Symbols for Fixed {
     }
 }
 
-/// Words, their texts, and the words that these texts are: the first five from worked examples of the manual's suggested
-/// syntax, the others as GNU as gives them.
+/// Words, their texts, and the words that these texts are: the first five from worked examples, the others as GNU as
+/// gives them.
 const WORDS: [(u32, &str, u32); 23] = [
     (0xD008_4000, "ldub [%g1+%g0],%o0", 0xD008_4000),
     (0x12BF_FFFD, "bne .-12", 0x12BF_FFFD),

@@ -15,9 +15,6 @@ use arrayvec::ArrayString;
 use v8_formats::{Branch, Instr, Operand, Three, encode};
 use v8_word::Reg;
 
-/// The room for a text, in bytes.
-pub const ROOM: usize = 64;
-
 fn push_digit(out: &mut ArrayString<64>, digit: u32)
     requires room { array_string_len out.old + 1 ≤ 64 }
     requires small { digit < 16 }

@@ -56,7 +56,8 @@ fn read(alloc: Global, statement: &str, word: Option<u32>) -> Result<String, Fai
     Ok(text)
 }
 
-/// Statements and their words, as GNU as gives them.
+/// Statements and their words, as GNU as gives them but for `tst`, `btst` and the plain `restore`: these have the operands
+/// of this language's own forms.
 const ENCODINGS: [(&str, &str); 148] = [
     ("add %o7,%i7,%sp", "9C03C01F "),
     ("addcc %g0,%o7,%i7", "BE80000F "),
@@ -208,6 +209,42 @@ const ENCODINGS: [(&str, &str); 148] = [
     ("restore %o0,1,%o0", "91EA2001 "),
 ];
 
+/// Statements and their words, worked out by hand from the formats and the synthetic forms.
+const BY_HAND: [(&str, &str); 32] = [
+    ("add %o0,5,%o1", "92022005 "),
+    ("lda [%l0+%l1] 10,%l2", "E4840151 "),
+    ("lduha [%o0+%o1] 10,%o2", "D4920149 "),
+    ("ldsha [%o0+%o1] 10,%o2", "D4D20149 "),
+    ("ldstuba [%o0+%o1] 10,%o2", "D4EA0149 "),
+    ("sta %o2,[%o0+%o1] 10", "D4A20149 "),
+    ("stha %o2,[%o0+%o1] 10", "D4B20149 "),
+    ("b .+8", "10800002 "),
+    ("bgeu .+8", "1A800002 "),
+    ("tn 0", "81D02000 "),
+    ("tle 16", "85D02010 "),
+    ("tleu 32", "89D02020 "),
+    ("tneg 48", "8DD02030 "),
+    ("tg 80", "95D02050 "),
+    ("tgu 96", "99D02060 "),
+    ("tpos 112", "9DD02070 "),
+    ("rd %y,%o0", "91400000 "),
+    ("rd %wim,%o0", "91500000 "),
+    ("wr %o0,%o1,%wim", "81920009 "),
+    ("save", "81E00000 "),
+    ("not %o0", "903A0000 "),
+    ("neg %o0", "90200008 "),
+    ("inc %o0", "90022001 "),
+    ("inccc %o0", "90822001 "),
+    ("dec %o0", "90222001 "),
+    ("deccc %o0", "90A22001 "),
+    ("clr %o0", "90100000 "),
+    ("clrh [%o0]", "C0320000 "),
+    ("mov %psr,%o0", "91480000 "),
+    ("mov %tbr,%o0", "91580000 "),
+    ("mov %o0,%wim", "81900008 "),
+    ("nop", "01000000 "),
+];
+
 /// Words and their text.
 const TEXTS: [(u32, &str); 19] = [
     (0xD0084000, "ldub [%g1+%g0],%o0"),
@@ -232,7 +269,7 @@ const TEXTS: [(u32, &str); 19] = [
 ];
 
 /// What each statement gives where every symbol is worth 0x12345678, at the address 0x40000.
-const OTHERS: [(&str, &str); 53] = [
+const OTHERS: [(&str, &str); 64] = [
     ("", "S1 "),
     ("%o0", "S1 "),
     ("frob %o0", "S1 "),
@@ -263,11 +300,14 @@ const OTHERS: [(&str, &str); 53] = [
     ("ta 0", "91D02000 "),
     ("ta 127", "91D0207F "),
     ("ta 128", "S3 "),
+    ("ta -1", "S3 "),
     ("ta %g1-5", "S3 "),
     ("sll %o0,31,%o0", "912A201F "),
     ("sll %o0,32,%o0", "S3 "),
+    ("sll %o0,-1,%o0", "S3 "),
     ("lda [%o0] 255,%o1", "D2821FE0 "),
     ("lda [%o0] 256,%o1", "S3 "),
+    ("lda [%o0] -1,%o1", "S3 "),
     ("lda [%o0+4] 10,%o1", "S2 "),
     ("ld [%o0--4],%o1", "S2 "),
     ("ld [%o0+-4],%o1", "D2023FFC "),
@@ -283,9 +323,17 @@ const OTHERS: [(&str, &str); 53] = [
     ("bne , a 0x40008", "32800002 "),
     ("add,a %o0,5,%o0", "S2 "),
     ("call 8", "7FFF0002 "),
+    ("call 0", "7FFF0000 "),
+    ("call -4", "S5 "),
+    ("call 4294967292", "7FFEFFFF "),
+    ("call 4294967296", "S5 "),
+    ("call .+2147483644", "5FFFFFFF "),
     ("call .+2147483648", "S5 "),
+    ("call .-2147483652", "S5 "),
     ("mov %o0,%psr", "81880008 "),
     ("sethi 4194304,%o0", "S3 "),
+    ("sethi -1,%o0", "S3 "),
+    ("unimp -1", "S3 "),
 ];
 
 fn gives<R: Abort>(
@@ -339,6 +387,9 @@ fn statements(rt: HostRuntime) -> Result<(), Fail> {
     for (statement, words) in &ENCODINGS {
         gives(&rt, rt.alloc(), statement, None, words)?;
     }
+    for (statement, words) in &BY_HAND {
+        gives(&rt, rt.alloc(), statement, None, words)?;
+    }
     for (statement, words) in &OTHERS {
         gives(&rt, rt.alloc(), statement, Some(0x1234_5678), words)?;
     }
@@ -352,6 +403,9 @@ fn texts(rt: HostRuntime) -> Result<(), Fail> {
         prints(&rt, *word, wanted);
     }
     for (statement, words) in &ENCODINGS {
+        goes_round(&rt, rt.alloc(), statement, words)?;
+    }
+    for (statement, words) in &BY_HAND {
         goes_round(&rt, rt.alloc(), statement, words)?;
     }
     Ok(())
