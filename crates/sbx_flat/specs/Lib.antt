@@ -5,3 +5,4 @@ pub mod Effects
 pub mod Turns
 pub mod Runs
 pub mod Traffic
+pub mod Examples

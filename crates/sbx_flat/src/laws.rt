@@ -1,9 +1,11 @@
 //! Laws of the flat machine's definitions. Each is the contract of a function that does nothing.
-ghost use Rattle.std.specs.Prelude.{◌≡◌, ◌≢◌, ℕ, ◌≤◌, ◌==◌, if◌then◌else◌, Some};
+ghost use Rattle.std.specs.Prelude.{◌≡◌, ◌≢◌, ℕ, ◌≤◌, ◌==◌, if◌then◌else◌, [], ◌∷◌, Some, false, true};
 ghost use Rattle.sbx_image.specs.declared.parts.Parts.{Parts};
+ghost use Rattle.sbx_flat.specs.Examples.{at_restore, at_save, save_and_restore};
 ghost use Rattle.sbx_flat.specs.Registers.{Fresh, Registers, popped, pushed};
 ghost use Rattle.sbx_flat.specs.Runs.{Place, weight_at};
 ghost use Rattle.sbx_flat.specs.States.{State, reg, with_reg};
+ghost use Rattle.sbx_flat.specs.Traffic.{is_own_code_page, is_own_data_page, traffic};
 
 /// A register reads what was written to it, and the others what they read before; register 0 reads 0.
 #[tactic(auto, using(crate::proofs::Registers::reg_with_reg, crate::proofs::Registers::reg_zero))]
@@ -21,4 +23,25 @@ pub fn frames_come_and_go()
 #[tactic(auto, using(crate::proofs::Turns::weighs_some))]
 pub fn each_step_counts()
     ensures { (parts : Parts) (place : Place) → 1 ≤ weight_at parts place }
+{}
+
+/// Three of four windows hold frames, one of them the first: so the last of three calls spills that frame, and the last of three
+/// returns fills it again. Four steps count 1, and these two count 25.
+#[tactic(auto, using(crate::proofs::Examples::traffic_of_three))]
+pub fn three_calls_overflow_four_windows()
+    ensures { (parts : Parts) → traffic (record parts { words = save_and_restore }) 4 (at_save ∷ at_save ∷ at_save ∷ at_restore ∷ at_restore ∷ at_restore ∷ []) ≡ record { windows = 1; overflows = 1; underflows = 1; turns = 54 } }
+{}
+
+/// Two words are on the first page of the code alone, and eight bytes on the first of the data; two stack pages are the last below
+/// the stack's end.
+pub fn pages_are_own_to_their_bounds()
+    ensures code { (parts : Parts) → is_own_code_page (record parts { words = save_and_restore }) 0x40 ≡ true }
+    ensures before_code { (parts : Parts) → is_own_code_page parts 0x3F ≡ false }
+    ensures after_code { (parts : Parts) → is_own_code_page (record parts { words = save_and_restore }) 0x41 ≡ false }
+    ensures data { (parts : Parts) → is_own_data_page (record parts { bytes = 0 ∷ 0 ∷ 0 ∷ 0 ∷ 0 ∷ 0 ∷ 0 ∷ 0 ∷ []; stack_pages = 2 }) 0x80 ≡ true }
+    ensures after_data { (parts : Parts) → is_own_data_page (record parts { bytes = 0 ∷ 0 ∷ 0 ∷ 0 ∷ 0 ∷ 0 ∷ 0 ∷ 0 ∷ []; stack_pages = 2 }) 0x81 ≡ false }
+    ensures before_stack { (parts : Parts) → is_own_data_page (record parts { bytes = []; stack_pages = 2 }) 0xFD ≡ false }
+    ensures stack { (parts : Parts) → is_own_data_page (record parts { bytes = []; stack_pages = 2 }) 0xFE ≡ true }
+    ensures last { (parts : Parts) → is_own_data_page (record parts { bytes = []; stack_pages = 2 }) 0xFF ≡ true }
+    ensures after_stack { (parts : Parts) → is_own_data_page (record parts { bytes = []; stack_pages = 2 }) 0x100 ≡ false }
 {}

@@ -215,3 +215,80 @@ fn parts(rt: HostRuntime) {
         }
     }
 }
+
+/// Parts of one function of one block: so many params of a range, a frame, and so many cells of that range, at the
+/// registers from 1 up, or down to 1.
+fn small_parts(
+    alloc: Global,
+    params: usize,
+    range: Range,
+    frame: u32,
+    cells: u16,
+    up: bool,
+) -> Result<Parts, ImageFault> {
+    let mut places = Vec::new(alloc);
+    for i in 0..cells {
+        let location = if up {
+            i.wrapping_add(1)
+        } else {
+            cells.wrapping_sub(i)
+        };
+        places.push(Cell { location, range })?;
+    }
+    let mut blocks = Vec::new(alloc);
+    blocks.push(Block {
+        address: 0x40000,
+        fuel: 0,
+        cells: Items::new(places),
+        terms: Items::new(Vec::new(alloc)),
+    })?;
+    let mut functions = Vec::new(alloc);
+    functions.push(Function {
+        kind: Kind::Leaf,
+        params: Items::new(vec![in alloc; range; params]?),
+        results: Items::new(Vec::new(alloc)),
+        entry: 0x40000,
+        frame,
+        stack_room: 0,
+        budget: 0,
+        blocks: Items::new(blocks),
+    })?;
+    Ok(Parts {
+        services: Services(0),
+        words: Items::new(vec![in alloc; 0; 1]?),
+        bytes: Items::new(Vec::new(alloc)),
+        stack_pages: 1,
+        functions: Items::new(functions),
+    })
+}
+
+#[test]
+fn parts_of_functions(rt: HostRuntime) {
+    let range = |lo, hi, alignment| Range { lo, hi, alignment };
+    let good = range(5, 5, 3);
+    let bad = range(5, 4, 0);
+    let rows: [(usize, Range, u32, u16, bool, Option<ImageFault>); 17] = [
+        (0, good, 4096, 0, true, None),
+        (6, good, 0, 64, true, None),
+        (1, bad, 0, 0, true, Some(ImageFault::Range)),
+        (1, range(4, 5, 4), 0, 0, true, Some(ImageFault::Range)),
+        (0, bad, 0, 1, true, Some(ImageFault::Range)),
+        (7, good, 0, 0, true, Some(ImageFault::Limit)),
+        (257, good, 0, 0, true, Some(ImageFault::Limit)), // its count is one byte
+        (256, good, 0, 0, true, Some(ImageFault::Limit)),
+        (0, good, 4097, 0, true, Some(ImageFault::Limit)),
+        (0, good, 0, 65, true, Some(ImageFault::Limit)),
+        (0, good, 0, 2, false, Some(ImageFault::Order)),
+        (0, good, 0, 65, false, Some(ImageFault::Limit)), // their number stands before them
+        (7, bad, 0, 0, true, Some(ImageFault::Limit)),
+        (1, bad, 4097, 0, true, Some(ImageFault::Limit)), // the frame stands before the params
+        (1, bad, 0, 65, true, Some(ImageFault::Range)), // and the params before the blocks
+        (0, bad, 0, 65, true, Some(ImageFault::Limit)),
+        (0, bad, 0, 2, false, Some(ImageFault::Range)), // of the first cell, before the second's location
+    ];
+    for (params, range, frame, cells, up, wanted) in rows {
+        if let Ok(parts) = small_parts(rt.alloc(), params, range, frame, cells, up) {
+            told_of_parts(&rt, parts, 1, 1, wanted);
+        }
+    }
+}

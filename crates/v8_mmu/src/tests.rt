@@ -149,6 +149,17 @@ fn translates_at_each_level(rt: HostRuntime) {
             }
             Err(fault) => panic!(rt; "{fault:?} of {va}"),
         }
+        match find_page(&bus, &REGS, va, USER_LOAD) {
+            Ok(page) => {
+                assert_eq!(rt; page.pa, pa, "of {va}");
+                assert_eq!(rt; page.level, level, "of {va}");
+                let want = places[level];
+                assert_eq!(rt; page.place, want, "of {va}");
+                let want = [context, first, second, third][level];
+                assert_eq!(rt; page.word, want, "of {va}");
+            }
+            Err(fault) => panic!(rt; "{fault:?} of {va}"),
+        }
     }
 }
 
@@ -223,6 +234,10 @@ fn refuses_where_the_path_ends(rt: HostRuntime) {
         let bus = ram(&rt, &entries);
         match walk(&bus, &REGS, va, USER_LOAD) {
             Ok(found) => panic!(rt; "{found:?} of {va}"),
+            Err(fault) => assert_eq!(rt; fault, MmuFault { ft, level, at: 0 }, "of {va}"),
+        }
+        match find_page(&bus, &REGS, va, USER_LOAD) {
+            Ok(page) => panic!(rt; "{page:?} of {va}"),
             Err(fault) => assert_eq!(rt; fault, MmuFault { ft, level, at: 0 }, "of {va}"),
         }
     }
