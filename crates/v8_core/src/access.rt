@@ -15,4 +15,4 @@ pub enum Fetched {
 
 mod moves;
 
-pub use moves::{fetch, load, store, swap};
+pub use moves::{fetch, move_bytes};
