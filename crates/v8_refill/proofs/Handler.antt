@@ -11,13 +11,16 @@ use Rattle.std.proofs.Math.Nat.{mod-eq_of_lt}
 use Rattle.v8_word.specs.declared.Cond.TheVariants.{Always}
 use Rattle.v8_formats.specs.declared.instr.Operand.TheVariants.{Register, Immediate}
 use Rattle.v8_alu.specs.declared.Op.TheVariants as ops
-use Rattle.v8_meaning.specs.declared.operation.Operation.TheVariants.{Compute, SetHigh, ReadState, WriteState, LoadDouble, Save, Restore, BranchOnCondition, JumpAndLink, ReturnFromTrap}
+use Rattle.v8_meaning.specs.Operations.{load}
+use Rattle.v8_word.specs.declared.Size.TheVariants.{Double}
+use Rattle.v8_meaning.specs.declared.operation.Extension.TheVariants.{Zero}
+use Rattle.v8_meaning.specs.declared.operation.Operation.TheVariants.{Compute, SetHigh, ReadState, WriteState, Save, Restore, BranchOnCondition, JumpAndLink, ReturnFromTrap}
 use Rattle.v8_meaning.specs.declared.operation.StateRegister.TheVariants.{Wim}
 use Rattle.v8_mmu.specs.Ram.{entry_of}
 use Rattle.v8_mmu.specs.Meaning.{Meaning}
 use Rattle.v8_mmu.specs.declared.translation.MmuRegs.{MmuRegs}
 use Rattle.v8_windows.specs.Windows.{AreRows, below, above, is_masked}
-use Rattle.v8_state.specs.Effects.{address_of, written_pair}
+use Rattle.v8_state.specs.Effects.{address_of}
 use Rattle.v8_state.specs.declared.state.Control.{Control}
 use Rattle.v8_state.specs.declared.state.Cpu.{Cpu}
 use Rattle.v8_core.specs.Accesses.{World, world}
@@ -25,7 +28,7 @@ use Rattle.v8_handlers.specs.Handlers.{handler_word}
 use Rattle.v8_layout.specs.Layout.{Pages, IsLoaded}
 use Rattle.v8_stages.proofs.Words.{Asks, fields, source, at_stack}
 use Rattle.v8_stages.proofs.Windows.{above_below, below_above, below_within, above_within, above_differs, two_above_differs, three_above_differs, not_masked}
-use Rattle.v8_stages.proofs.Stages.{stage, finished, read_other, pair_written, pair_written_ins}
+use Rattle.v8_stages.proofs.Stages.{stage, finished, read_other, pair_written, pair_written_ins, written_pair}
 use Rattle.v8_stages.proofs.Effects.{reads_mask_does, goes_does, shifts_mask_left_does, shifts_right_does, joins_local_does, writes_mask_local_does, nothing_does, restores_does, saves_does, jumps_does, returns_does, address_of_local, reads_mask_calm, goes_calm, compute_calm, writes_mask_calm, set_high_calm, restore_calm, save_calm, jump_calm, return_calm}
 use Rattle.v8_stages.proofs.Turns.{Setting, Area, area, Comes, starts, in_table, in_handler}
 use Rattle.v8_stages.proofs.Stack.{Doubles, in_load}
@@ -112,7 +115,7 @@ area_address n c rows w globals row m a mask pc npc v k offset l other few small
 loads_pair : {D : Type 0} (m : Meaning D) (n : ℕ) (g : Pages) (code : List ℕ) (mmu : MmuRegs) (device : D) → Setting m n g code mmu device → Doubles m device →
     (old : World n D) (t : ℕ) (c : Control) (rows : List (List ℕ)) (cur : ℕ) (globals row : List ℕ) (mask : ℕ) (v : ℕ → ℕ) (j pc npc rd : ℕ) (new : Cpu n) → Frame n g old.memory.ram rows cur v →
     Comes m n g code mmu device (area (pointer rows (above n cur) - 0x60000) v 0 (2 * j)) t old (stage n c (refilled rows (above n cur) (above n (above n cur)) v (2 * j)) (below n cur) globals row (above n cur) mask pc npc) →
-    j < 8 → pc ≡ 0xF0001000 + 4 * (40 + j) → rd % 2 ≡ 0 → Asks (handler_word n (40 + j)) (LoadDouble (at_stack rd (8 * j))) →
+    j < 8 → pc ≡ 0xF0001000 + 4 * (40 + j) → rd % 2 ≡ 0 → Asks (handler_word n (40 + j)) (load Double Zero (at_stack rd (8 * j))) →
     written_pair n (stage n c (refilled rows (above n cur) (above n (above n cur)) v (2 * j)) (below n cur) globals row (above n cur) mask pc npc) rd (v (2 * j)) (v (2 * j + 1)) ≡ new →
     Comes m n g code mmu device (area (pointer rows (above n cur) - 0x60000) v 0 (2 * j + 2)) (suc t) old new
 loads_pair m n g code mmu device s d old t c rows cur globals row mask v j pc npc rd new f before small place even asks written =

@@ -3,7 +3,9 @@ use Rattle.std.proofs.Common.{ℕ, ◌-◌, ◌≤◌, false}
 use Rattle.v8_word.specs.declared.Cond.TheVariants.{Always}
 use Rattle.v8_formats.specs.declared.instr.Operand.TheVariants.{Register, Immediate}
 use Rattle.v8_alu.specs.declared.Op.TheVariants as ops
-use Rattle.v8_meaning.specs.declared.operation.Operation.TheVariants.{Compute, SetHigh, ReadState, WriteState, StoreDouble, Save, Restore, BranchOnCondition, JumpAndLink, ReturnFromTrap}
+use Rattle.v8_meaning.specs.Operations.{store}
+use Rattle.v8_word.specs.declared.Size.TheVariants.{Double}
+use Rattle.v8_meaning.specs.declared.operation.Operation.TheVariants.{Compute, SetHigh, ReadState, WriteState, Save, Restore, BranchOnCondition, JumpAndLink, ReturnFromTrap}
 use Rattle.v8_meaning.specs.declared.operation.StateRegister.TheVariants.{Wim}
 use Rattle.v8_handlers.specs.Handlers.{trap_word, handler_word, page_word}
 use Rattle.v8_stages.proofs.Words.{Asks, fields, source, at_stack, reads_mask, goes_overflow, saves_global, shifts_mask_right, shifts_left, joins, saves, writes_mask, nothing, stores_0, stores_1, stores_2, stores_3, stores_4, stores_5, stores_6, stores_7, restores, gives_global, jumps, returns}
@@ -52,35 +54,35 @@ pub word_7 : (n : ℕ) → Asks (handler_word n 7) (SetHigh (record { rd = 0; im
 unfolding page_word
 word_7 n = nothing
 
-pub word_8 : (n : ℕ) → Asks (handler_word n 8) (StoreDouble (at_stack 16 0))
+pub word_8 : (n : ℕ) → Asks (handler_word n 8) (store Double (at_stack 16 0))
 unfolding page_word
 word_8 n = stores_0
 
-pub word_9 : (n : ℕ) → Asks (handler_word n 9) (StoreDouble (at_stack 18 8))
+pub word_9 : (n : ℕ) → Asks (handler_word n 9) (store Double (at_stack 18 8))
 unfolding page_word
 word_9 n = stores_1
 
-pub word_10 : (n : ℕ) → Asks (handler_word n 10) (StoreDouble (at_stack 20 16))
+pub word_10 : (n : ℕ) → Asks (handler_word n 10) (store Double (at_stack 20 16))
 unfolding page_word
 word_10 n = stores_2
 
-pub word_11 : (n : ℕ) → Asks (handler_word n 11) (StoreDouble (at_stack 22 24))
+pub word_11 : (n : ℕ) → Asks (handler_word n 11) (store Double (at_stack 22 24))
 unfolding page_word
 word_11 n = stores_3
 
-pub word_12 : (n : ℕ) → Asks (handler_word n 12) (StoreDouble (at_stack 24 32))
+pub word_12 : (n : ℕ) → Asks (handler_word n 12) (store Double (at_stack 24 32))
 unfolding page_word
 word_12 n = stores_4
 
-pub word_13 : (n : ℕ) → Asks (handler_word n 13) (StoreDouble (at_stack 26 40))
+pub word_13 : (n : ℕ) → Asks (handler_word n 13) (store Double (at_stack 26 40))
 unfolding page_word
 word_13 n = stores_5
 
-pub word_14 : (n : ℕ) → Asks (handler_word n 14) (StoreDouble (at_stack 28 48))
+pub word_14 : (n : ℕ) → Asks (handler_word n 14) (store Double (at_stack 28 48))
 unfolding page_word
 word_14 n = stores_6
 
-pub word_15 : (n : ℕ) → Asks (handler_word n 15) (StoreDouble (at_stack 30 56))
+pub word_15 : (n : ℕ) → Asks (handler_word n 15) (store Double (at_stack 30 56))
 unfolding page_word
 word_15 n = stores_7
 

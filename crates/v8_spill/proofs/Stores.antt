@@ -4,13 +4,15 @@ use Rattle.std.specs.Prelude.{slice_index, nat_lt, if◌then◌else◌}
 use Rattle.std.proofs.lemmas.Bool.Decides.{nat_tests}
 use Rattle.std.proofs.Math.Nat.{mod-eq_of_lt}
 use Rattle.v8_formats.specs.declared.instr.Operand.TheVariants.{Immediate}
+use Rattle.v8_meaning.specs.Operations.{store}
+use Rattle.v8_word.specs.declared.Size.TheVariants.{Double}
 use Rattle.v8_meaning.specs.Operands.{following}
-use Rattle.v8_meaning.specs.declared.operation.Operation.TheVariants.{StoreDouble}
 use Rattle.v8_mmu.specs.Meaning.{Meaning}
 use Rattle.v8_mmu.specs.declared.translation.MmuRegs.{MmuRegs}
 use Rattle.v8_windows.specs.Windows.{reg_of, below, above}
 use Rattle.v8_state.specs.declared.state.Control.{Control}
-use Rattle.v8_state.specs.Effects.{address_of, odd_of, reg}
+use Rattle.v8_meaning.specs.Transfers.{odd_of}
+use Rattle.v8_state.specs.Effects.{address_of, reg}
 use Rattle.v8_core.specs.Accesses.{World}
 use Rattle.v8_handlers.specs.Handlers.{handler_word}
 use Rattle.v8_layout.specs.Layout.{Pages}
@@ -64,7 +66,7 @@ stack_address n c rows w globals row u mask pc npc offset sp other is small =
 -- std of words 2 j and 2 j + 1
 pub in_spill : {D : Type 0} (m : Meaning D) (n : ℕ) (g : Pages) (code : List ℕ) (mmu : MmuRegs) (device : D) → Setting m n g code mmu device → Doubles m device →
     (old : World n D) (t : ℕ) (c : Control) (rows : List (List ℕ)) (w : ℕ) (globals row : List ℕ) (mask sp j pc npc : ℕ) → Frame n g rows w row sp → j < 8 → pc ≡ 0xF0001020 + 4 * j →
-    Asks (handler_word n (8 + j)) (StoreDouble (at_stack (16 + 2 * j) (8 * j))) →
+    Asks (handler_word n (8 + j)) (store Double (at_stack (16 + 2 * j) (8 * j))) →
     Comes m n g code mmu device (area (sp - 0x60000) (spilled_word rows (below n w) row) (2 * j) (2 * j)) t old (stage n c rows w globals row (below n w) mask pc npc) →
     Comes m n g code mmu device (area (sp - 0x60000) (spilled_word rows (below n w) row) (suc (suc (2 * j))) (suc (suc (2 * j)))) (suc t) old (stage n c rows w globals row (below n w) mask npc (following npc))
 in_spill m n g code mmu device s d old t c rows w globals row mask sp j pc npc fr small at is before =

@@ -8,10 +8,12 @@ use Rattle.std.proofs.Common.{◌≡◌, ℕ, suc, ◌+◌, ◌-◌, ◌*◌, �
 use Rattle.v8_word.specs.declared.Size.TheVariants.{Double}
 use Rattle.v8_formats.specs.Table.{meaning}
 use Rattle.v8_formats.specs.declared.instr.Operand.TheVariants.{Immediate}
+use Rattle.v8_meaning.specs.declared.operation.Extension.TheVariants.{Zero}
 use Rattle.v8_meaning.specs.Operands.{following}
-use Rattle.v8_meaning.specs.Operations.{operation_of}
-use Rattle.v8_meaning.specs.declared.operation.Operation.TheVariants.{LoadDouble, StoreDouble}
-use Rattle.v8_mmu.specs.Meaning.{Meaning}
+use Rattle.v8_meaning.specs.Operations.{operation_of, load, store}
+use Rattle.v8_meaning.specs.Transfers.{odd_of}
+use Rattle.v8_meaning.specs.declared.operation.Transfer.TheVariants.{Load, Store}
+use Rattle.v8_mmu.specs.Meaning.{Meaning, stored_after}
 use Rattle.v8_mmu.specs.Ram.{entry_of, with_entry, with_double}
 use Rattle.v8_mmu.specs.Paths.{marked_ram}
 use Rattle.v8_mmu.specs.Walked.{Page, walked, root_of}
@@ -22,12 +24,11 @@ use Rattle.v8_mmu.specs.Permissions.{permits, rights_of}
 use Rattle.v8_mmu.proofs.RamLemmas.{length-with_entry}
 use Rattle.v8_state.specs.declared.state.Control.{Control}
 use Rattle.v8_state.specs.declared.state.Cpu.{Cpu}
-use Rattle.v8_state.specs.Effects.{address_of, advanced, odd_of, reg, written_pair}
-use Rattle.v8_core.specs.declared.access.Loaded.TheVariants.{Value}
-use Rattle.v8_core.specs.declared.access.Stored.TheVariants.{Done}
+use Rattle.v8_state.specs.Effects.{address_of, advanced, reg, taken}
+use Rattle.v8_core.specs.declared.access.Moved.TheVariants.{Done}
 use Rattle.v8_core.specs.declared.turn.DataAccess.{DataAccess}
-use Rattle.v8_core.specs.Memory.{Memory, loads, load_through, load_answered, stores, store_through, store_answered}
-use Rattle.v8_core.specs.Accesses.{World, world, load_double_does, load_ends, store_double_does, store_ends}
+use Rattle.v8_core.specs.Memory.{Memory, loaded_from, moves, move_through, move_answered}
+use Rattle.v8_core.specs.Accesses.{World, world, transfer_ends, transfers}
 use Rattle.v8_core.specs.Steps.{acts, ran_event, turn_of}
 use Rattle.v8_core.proofs.Turns.{runs_to}
 use Rattle.v8_handlers.specs.Handlers.{handler_word}
@@ -37,7 +38,7 @@ use Rattle.v8_layout.proofs.Marks.{Markable, kept_elsewhere, mark_keeps, stack_m
 use Rattle.v8_stages.specs.Places.{stack_entry_place}
 use Rattle.v8_stages.proofs.Fetches.{handler_page, fetches_handler, walk_at}
 use Rattle.v8_stages.proofs.Words.{at_stack}
-use Rattle.v8_stages.proofs.Stages.{stage}
+use Rattle.v8_stages.proofs.Stages.{stage, written_pair}
 use Rattle.v8_stages.proofs.Effects.{load_double_calm, store_double_calm}
 use Rattle.v8_stages.proofs.Turns.{Setting, area, Keeps, keeps_marked, keeps_reached, keeps_stored, Comes, one_more}
 
@@ -81,8 +82,8 @@ mem_of ram device = record { ram = ram; device = device }
 -- ---- a store
 
 stores_there : {D : Type 0} (m : Meaning D) (n : ℕ) (g : Pages) (code ram : List ℕ) (mmu : MmuRegs) (device : D) → Setting m n g code mmu device → Doubles m device → IsLoaded n g code ram → (va v : ℕ) → OnStack g va →
-    stores m mmu va store_access Double v (record { ram = ram; device = device }) ≡ (Done (va - 0x60000), record { ram = with_double (marked_ram ram (stack_entry_place va) true) (va - 0x60000) v; device = device })
-unfolding stores
+    moves m mmu va store_access (Store Double) v (record { ram = ram; device = device }) ≡ (Done 0 (va - 0x60000), record { ram = with_double (marked_ram ram (stack_entry_place va) true) (va - 0x60000) v; device = device })
+unfolding moves
 stores_there m n g code ram mmu device s d loaded va v on =
     let low = on.low in
     let high = on.high in
@@ -91,8 +92,8 @@ stores_there m n g code ram mmu device s d loaded va v on =
     let page : Page = record { pa = va - 0x60000; level = 3; place = stack_entry_place va } in
     let mem : Memory _ = record { ram = ram; device = device } in
     let kept = mark_keeps n g code ram (stack_entry_place va) (stack_word va) true loaded (stack_spot n g code ram s.pages loaded va on) in
-    ap (λ o. store_through m store_access Double v mem o) (stack_walk n g code ram mmu s.root s.pages loaded va on store_access refl)
-    ∙ ap (λ o. store_answered mem page store_access o) (d.store (marked_ram ram (stack_entry_place va) true) (va - 0x60000) v kept.tables.size (omega arith) (omega arith))
+    ap (λ o. move_through m store_access (Store Double) v mem o) (stack_walk n g code ram mmu s.root s.pages loaded va on store_access refl)
+    ∙ ap (λ o. move_answered mem page store_access (stored_after 0 o)) (d.store (marked_ram ram (stack_entry_place va) true) (va - 0x60000) v kept.tables.size (omega arith) (omega arith))
 
 -- two words joined, and taken apart again
 high_of : (x y : ℕ) → y < 2 ^ 32 → (x * 2 ^ 32 + y) / 2 ^ 32 ≡ x
@@ -109,22 +110,22 @@ double_is ram p x y small =
 
 store_acts : {D : Type 0} (m : Meaning D) (n : ℕ) (mmu : MmuRegs) (c : Control) (rows : List (List ℕ)) (w : ℕ) (globals row : List ℕ) (u mask pc npc rd offset va x y : ℕ) (ram new : List ℕ) (device : D) →
     address_of n (stage n c rows w globals row u mask pc npc) 14 (Immediate offset) ≡ va → reg n (stage n c rows w globals row u mask pc npc) rd ≡ x → reg n (stage n c rows w globals row u mask pc npc) (odd_of rd) ≡ y →
-    stores m mmu va store_access Double (x * 2 ^ 32 + y) (record { ram = ram; device = device }) ≡ (Done (va - 0x60000), record { ram = new; device = device }) →
-    acts m n mmu (StoreDouble (at_stack rd offset)) (world n (stage n c rows w globals row u mask pc npc) ram device)
+    moves m mmu va store_access (Store Double) (x * 2 ^ 32 + y) (record { ram = ram; device = device }) ≡ (Done 0 (va - 0x60000), record { ram = new; device = device }) →
+    acts m n mmu (store Double (at_stack rd offset)) (world n (stage n c rows w globals row u mask pc npc) ram device)
     ≡ (record { access = Some (record { va = va; pa = va - 0x60000; size = Double; store = true }); trap = None }, world n (stage n c rows w globals row u mask npc (following npc)) new device)
-unfolding store_double_does advanced
+unfolding transfers taken advanced
 store_acts m n mmu c rows w globals row u mask pc npc rd offset va x y ram new device at first second there =
     let cpu = stage n c rows w globals row u mask pc npc in
     let mem : Memory _ = record { ram = ram; device = device } in
-    ap (λ p. store_ends n p Double cpu (stores m mmu p store_access Double (reg n cpu rd * 2 ^ 32 + reg n cpu (odd_of rd)) mem).0 (stores m mmu p store_access Double (reg n cpu rd * 2 ^ 32 + reg n cpu (odd_of rd)) mem).1) at
-    ∙ ap (λ a. store_ends n va Double cpu (stores m mmu va store_access Double (a * 2 ^ 32 + reg n cpu (odd_of rd)) mem).0 (stores m mmu va store_access Double (a * 2 ^ 32 + reg n cpu (odd_of rd)) mem).1) first
-    ∙ ap (λ b. store_ends n va Double cpu (stores m mmu va store_access Double (x * 2 ^ 32 + b) mem).0 (stores m mmu va store_access Double (x * 2 ^ 32 + b) mem).1) second
-    ∙ ap (λ l. store_ends n va Double cpu l.0 l.1) there
+    ap (λ p. transfer_ends n p (Store Double) rd cpu (moves m mmu p store_access (Store Double) (reg n cpu rd * 2 ^ 32 + reg n cpu (odd_of rd)) mem).0 (moves m mmu p store_access (Store Double) (reg n cpu rd * 2 ^ 32 + reg n cpu (odd_of rd)) mem).1) at
+    ∙ ap (λ a. transfer_ends n va (Store Double) rd cpu (moves m mmu va store_access (Store Double) (a * 2 ^ 32 + reg n cpu (odd_of rd)) mem).0 (moves m mmu va store_access (Store Double) (a * 2 ^ 32 + reg n cpu (odd_of rd)) mem).1) first
+    ∙ ap (λ b. transfer_ends n va (Store Double) rd cpu (moves m mmu va store_access (Store Double) (x * 2 ^ 32 + b) mem).0 (moves m mmu va store_access (Store Double) (x * 2 ^ 32 + b) mem).1) second
+    ∙ ap (λ l. transfer_ends n va (Store Double) rd cpu l.0 l.1) there
 
 pub in_store : {D : Type 0} (m : Meaning D) (n : ℕ) (g : Pages) (code : List ℕ) (mmu : MmuRegs) (device : D) → Setting m n g code mmu device → Doubles m device →
     (base : ℕ) (word : ℕ → ℕ) (stored : ℕ) (old : World n D) (j : ℕ) (c : Control) (rows : List (List ℕ)) (w : ℕ) (globals row : List ℕ) (u mask k pc npc rd offset va : ℕ) →
     Comes m n g code mmu device (area base word stored stored) j old (stage n c rows w globals row u mask pc npc) →
-    k < 1024 → pc ≡ 0xF0001000 + 4 * k → operation_of (meaning (handler_word n k)) ≡ StoreDouble (at_stack rd offset) → rd % 2 ≡ 0 →
+    k < 1024 → pc ≡ 0xF0001000 + 4 * k → operation_of (meaning (handler_word n k)) ≡ store Double (at_stack rd offset) → rd % 2 ≡ 0 →
     address_of n (stage n c rows w globals row u mask pc npc) 14 (Immediate offset) ≡ va → OnStack g va → va ≡ base + 0x60000 + 4 * stored →
     reg n (stage n c rows w globals row u mask pc npc) rd ≡ word stored → reg n (stage n c rows w globals row u mask pc npc) (odd_of rd) ≡ word (suc stored) → word stored < 2 ^ 32 → word (suc stored) < 2 ^ 32 →
     Comes m n g code mmu device (area base word (suc (suc stored)) (suc (suc stored))) (suc j) old (stage n c rows w globals row u mask npc (following npc))
@@ -154,12 +155,12 @@ in_store m n g code mmu device s d base word stored old j c rows w globals row u
     let kept1 = keeps_stored base word stored (suc (suc stored)) old.memory.ram marks2 kept (omega arith) (omega arith) fits in
     let kept2 = keeps_stored base word (suc stored) (suc (suc stored)) old.memory.ram mid kept1 (omega arith) (omega arith) fits_too in
     let is_stored = stores_there m n g code marks mmu device s d loaded va (x * 2 ^ 32 + y) on
-    ∙ ap (λ q. (Done (va - 0x60000), mem_of (with_double marks2 q (x * 2 ^ 32 + y)) device)) pa
-    ∙ ap (λ r. (Done (va - 0x60000), mem_of r device)) (double_is marks2 p x y fits_too) in
+    ∙ ap (λ q. (Done 0 (va - 0x60000), mem_of (with_double marks2 q (x * 2 ^ 32 + y)) device)) pa
+    ∙ ap (λ r. (Done 0 (va - 0x60000), mem_of r device)) (double_is marks2 p x y fits_too) in
     let access : DataAccess = record { va = va; pa = va - 0x60000; size = Double; store = true } in
     let new = stage n c rows w globals row u mask npc (following npc) in
     one_more m n g code mmu device (area base word stored stored) (area base word (suc (suc stored)) (suc (suc stored))) old j cpu new final (turn_of n cpu (ran_event (m.stopped device)) (Some (handler_word n k)) (Some access)) before
-    (runs_to m n mmu cpu before.ram marks device (handler_word n k) (StoreDouble (at_stack rd offset)) (Some access) (world n new final device)
+    (runs_to m n mmu cpu before.ram marks device (handler_word n k) (store Double (at_stack rd offset)) (Some access) (world n new final device)
     (record { running = s.running; sane = refl; straight = refl })
     (fetches_handler n g code before.ram mmu s.root s.pages before.loaded k pc small at) is
     (store_double_calm n c rows w globals row u mask pc npc rd offset even (ap (λ q. q % 8) address ∙ aligned))
@@ -172,8 +173,8 @@ in_store m n g code mmu device s d base word stored old j c rows w globals row u
 
 loads_there : {D : Type 0} (m : Meaning D) (n : ℕ) (g : Pages) (code ram : List ℕ) (mmu : MmuRegs) (device : D) → Setting m n g code mmu device → Doubles m device → IsLoaded n g code ram → (va x y : ℕ) → OnStack g va →
     entry_of ram (va - 0x60000) ≡ Some x → entry_of ram (va - 0x60000 + 4) ≡ Some y →
-    loads m mmu va load_access Double (record { ram = ram; device = device }) ≡ (Value (x * 2 ^ 32 + y) (va - 0x60000), record { ram = marked_ram ram (stack_entry_place va) false; device = device })
-unfolding loads
+    moves m mmu va load_access (Load Double Zero) 0 (record { ram = ram; device = device }) ≡ (Done (x * 2 ^ 32 + y) (va - 0x60000), record { ram = marked_ram ram (stack_entry_place va) false; device = device })
+unfolding moves
 loads_there m n g code ram mmu device s d loaded va x y on first second =
     let low = on.low in
     let high = on.high in
@@ -183,32 +184,31 @@ loads_there m n g code ram mmu device s d loaded va x y on first second =
     let mem : Memory _ = record { ram = ram; device = device } in
     let spot = stack_spot n g code ram s.pages loaded va on in
     let marks = marked_ram ram (stack_entry_place va) false in
-    ap (λ o. load_through m load_access Double mem o) (stack_walk n g code ram mmu s.root s.pages loaded va on load_access refl)
-    ∙ ap (λ o. load_answered mem page load_access marks o) (d.load marks (va - 0x60000) x y (omega arith) (omega arith)
+    ap (λ o. move_through m load_access (Load Double Zero) 0 mem o) (stack_walk n g code ram mmu s.root s.pages loaded va on load_access refl)
+    ∙ ap (λ o. move_answered mem page load_access (loaded_from marks o)) (d.load marks (va - 0x60000) x y (omega arith) (omega arith)
     (kept_elsewhere ram (stack_entry_place va) (stack_word va) false spot (va - 0x60000) (inr (omega arith)) ∙ first)
     (kept_elsewhere ram (stack_entry_place va) (stack_word va) false spot (va - 0x60000 + 4) (inr (omega arith)) ∙ second))
 
 load_acts : {D : Type 0} (m : Meaning D) (n : ℕ) (mmu : MmuRegs) (c : Control) (rows : List (List ℕ)) (w : ℕ) (globals row : List ℕ) (u mask pc npc rd offset va x y : ℕ) (ram new : List ℕ) (device : D) (next_cpu : Cpu n) →
     address_of n (stage n c rows w globals row u mask pc npc) 14 (Immediate offset) ≡ va → y < 2 ^ 32 →
-    loads m mmu va load_access Double (record { ram = ram; device = device }) ≡ (Value (x * 2 ^ 32 + y) (va - 0x60000), record { ram = new; device = device }) →
+    moves m mmu va load_access (Load Double Zero) 0 (record { ram = ram; device = device }) ≡ (Done (x * 2 ^ 32 + y) (va - 0x60000), record { ram = new; device = device }) →
     written_pair n (stage n c rows w globals row u mask pc npc) rd x y ≡ next_cpu →
-    acts m n mmu (LoadDouble (at_stack rd offset)) (world n (stage n c rows w globals row u mask pc npc) ram device)
+    acts m n mmu (load Double Zero (at_stack rd offset)) (world n (stage n c rows w globals row u mask pc npc) ram device)
     ≡ (record { access = Some (record { va = va; pa = va - 0x60000; size = Double; store = false }); trap = None }, world n next_cpu new device)
-unfolding load_double_does
+unfolding transfers taken
 load_acts m n mmu c rows w globals row u mask pc npc rd offset va x y ram new device next_cpu at small there does =
     let cpu = stage n c rows w globals row u mask pc npc in
     let mem : Memory _ = record { ram = ram; device = device } in
     let access : DataAccess = record { va = va; pa = va - 0x60000; size = Double; store = false } in
-    let takes : ℕ → Cpu n = λ v. written_pair n cpu rd (v / 2 ^ 32) (v % 2 ^ 32) in
-    ap (λ p. load_ends n p Double false cpu takes (loads m mmu p load_access Double mem).0 (loads m mmu p load_access Double mem).1) at
-    ∙ ap (λ l. load_ends n va Double false cpu takes l.0 l.1) there
+    ap (λ p. transfer_ends n p (Load Double Zero) rd cpu (moves m mmu p load_access (Load Double Zero) 0 mem).0 (moves m mmu p load_access (Load Double Zero) 0 mem).1) at
+    ∙ ap (λ l. transfer_ends n va (Load Double Zero) rd cpu l.0 l.1) there
     ∙ ap (λ q. (record { access = Some access; trap = None }, world n q new device))
     (ap (λ a. written_pair n cpu rd a ((x * 2 ^ 32 + y) % 2 ^ 32)) (high_of x y small) ∙ ap (λ b. written_pair n cpu rd x b) (low_of x y small) ∙ does)
 
 pub in_load : {D : Type 0} (m : Meaning D) (n : ℕ) (g : Pages) (code : List ℕ) (mmu : MmuRegs) (device : D) → Setting m n g code mmu device → Doubles m device →
     (base : ℕ) (word : ℕ → ℕ) (reached i r : ℕ) (old : World n D) (j : ℕ) (c : Control) (rows : List (List ℕ)) (w : ℕ) (globals row : List ℕ) (u mask k pc npc rd offset va x y : ℕ) (new : Cpu n) →
     Comes m n g code mmu device (area base word 0 reached) j old (stage n c rows w globals row u mask pc npc) →
-    k < 1024 → pc ≡ 0xF0001000 + 4 * k → operation_of (meaning (handler_word n k)) ≡ LoadDouble (at_stack rd offset) → rd % 2 ≡ 0 →
+    k < 1024 → pc ≡ 0xF0001000 + 4 * k → operation_of (meaning (handler_word n k)) ≡ load Double Zero (at_stack rd offset) → rd % 2 ≡ 0 →
     address_of n (stage n c rows w globals row u mask pc npc) 14 (Immediate offset) ≡ va → OnStack g va → va ≡ base + 0x60000 + 4 * i → i < r → reached ≤ r →
     entry_of old.memory.ram (va - 0x60000) ≡ Some x → entry_of old.memory.ram (va - 0x60000 + 4) ≡ Some y → y < 2 ^ 32 →
     written_pair n (stage n c rows w globals row u mask pc npc) rd x y ≡ new →
@@ -229,7 +229,7 @@ in_load m n g code mmu device s d base word reached i r old j c rows w globals r
     let first_there : entry_of marks (va - 0x60000) ≡ Some x = kept.words (va - 0x60000) (omega arith) (inr (omega arith)) ∙ first in
     let second_there : entry_of marks (va - 0x60000 + 4) ≡ Some y = kept.words (va - 0x60000 + 4) (omega arith) (inr (omega arith)) ∙ second in
     one_more m n g code mmu device (area base word 0 reached) (area base word 0 r) old j cpu new marks2 (turn_of n cpu (ran_event (m.stopped device)) (Some (handler_word n k)) (Some access)) before
-    (runs_to m n mmu cpu before.ram marks device (handler_word n k) (LoadDouble (at_stack rd offset)) (Some access) (world n new marks2 device)
+    (runs_to m n mmu cpu before.ram marks device (handler_word n k) (load Double Zero (at_stack rd offset)) (Some access) (world n new marks2 device)
     (record { running = s.running; sane = refl; straight = refl })
     (fetches_handler n g code before.ram mmu s.root s.pages before.loaded k pc small at) is
     (load_double_calm n c rows w globals row u mask pc npc rd offset even (ap (λ q. q % 8) address ∙ aligned))

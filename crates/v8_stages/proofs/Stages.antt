@@ -17,7 +17,8 @@ use Rattle.v8_meaning.specs.Operands.{following}
 use Rattle.v8_windows.specs.Windows.{Windows, reg_of, with_reg, above}
 use Rattle.v8_state.specs.declared.state.Control.{Control}
 use Rattle.v8_state.specs.declared.state.Cpu.{Cpu}
-use Rattle.v8_state.specs.Effects.{advanced, computed, written, written_pair, odd_of}
+use Rattle.v8_meaning.specs.Transfers.{odd_of}
+use Rattle.v8_state.specs.Effects.{advanced, computed, written}
 
 -- windows where window w has the words of `row`
 abbrev pub inside : List (List ℕ) → ℕ → List ℕ → List ℕ → ℕ → ℕ → Windows
@@ -134,10 +135,14 @@ pub global_computed : (n : ℕ) (c : Control) (rows : List (List ℕ)) (w : ℕ)
 unfolding computed advanced with_reg
 global_computed n c rows w globals row current mask pc npc x = refl
 
+-- a pair of registers written, the even one first, and the next instruction
+abbrev pub written_pair : (n : ℕ) → Cpu n → ℕ → ℕ → ℕ → Cpu n
+written_pair n cpu rd x y = record { regs = with_reg n (with_reg n cpu.regs rd x) (odd_of rd) y; control = advanced cpu.control }
+
 -- two locals of another window u
 pub pair_written : (n : ℕ) (c : Control) (rows : List (List ℕ)) (w : ℕ) (globals row : List ℕ) (u mask pc npc rd x y : ℕ) → u ≢ w → 16 ≤ rd → rd < 24 → rd % 2 ≡ 0 →
     written_pair n (stage n c rows w globals row u mask pc npc) rd x y ≡ stage n c (with_cell (with_cell rows u (rd - 8) x) u (rd - 7) y) w globals row u mask npc (following npc)
-unfolding written_pair advanced
+unfolding advanced
 pair_written n c rows w globals row u mask pc npc rd x y other low high even =
     let odd : odd_of rd ≡ rd + 1 = omega arith in
     let place : rd + 1 - 8 ≡ rd - 7 = omega arith in
@@ -150,7 +155,7 @@ pair_written n c rows w globals row u mask pc npc rd x y other low high even =
 -- two ins of another window u
 pub pair_written_ins : (n : ℕ) (c : Control) (rows : List (List ℕ)) (w : ℕ) (globals row : List ℕ) (u mask pc npc rd x y : ℕ) → above n u ≢ w → 24 ≤ rd → rd < 32 → rd % 2 ≡ 0 →
     written_pair n (stage n c rows w globals row u mask pc npc) rd x y ≡ stage n c (with_cell (with_cell rows (above n u) (rd - 24) x) (above n u) (rd - 23) y) w globals row u mask npc (following npc)
-unfolding written_pair advanced
+unfolding advanced
 pair_written_ins n c rows w globals row u mask pc npc rd x y other low high even =
     let odd : odd_of rd ≡ rd + 1 = omega arith in
     let place : rd + 1 - 24 ≡ rd - 23 = omega arith in
