@@ -1,6 +1,6 @@
 use Rattle.std.proofs.Common.{◌≡◌, ℕ, ◌/◌, ◌*◌, sym, arith, rules}
-use Rattle.v8_mmu.proofs.WordBus.{word_there, no_word_aside, no_word_past, bytes_small}
-use Rattle.v8_mmu.proofs.tests.WordsBus.entry.Goals as goal
+use Rattle.v8_words_tests.proofs.WordBus.{word_there, no_word_aside, no_word_past, bytes_small}
+use Rattle.v8_words_tests.proofs.tests.translation.WordsBus.entry.Goals as goal
 
 pub returns-then-pa-ne0-clause-value : goal.returns-then-pa-ne0-clause-value
 returns-then-pa-ne0-clause-value g c = sym (no_word_aside c.args.self.now.words c.args.pa c.if-pa-ne0.true)

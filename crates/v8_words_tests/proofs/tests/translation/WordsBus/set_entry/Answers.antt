@@ -1,6 +1,6 @@
 use Rattle.std.proofs.Common.{ℕ, ◌/◌, sym}
-use Rattle.v8_mmu.proofs.WordBus.{has_number, with_word}
-use Rattle.v8_mmu.proofs.tests.WordsBus.set_entry.Goals as goal
+use Rattle.v8_words_tests.proofs.WordBus.{has_number, with_word}
+use Rattle.v8_words_tests.proofs.tests.translation.WordsBus.set_entry.Goals as goal
 
 pub bounds-words-pa : goal.bounds-words-pa
 bounds-words-pa g c = (has_number c.args.self.now.words c.args.pa c.requires).less

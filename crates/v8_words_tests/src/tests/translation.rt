@@ -1,8 +1,14 @@
+// Walks of page tables in RAM (appendix H, "Translation").
 ghost use Rattle.std.specs.Prelude.{◌≡◌, ℕ};
 
-use super::*;
 use std::process::Abort;
-use std::test::Fail;
+use v8_mmu::laws::{
+    fault_is_unique, marks_two_bits, no_fault_on_a_path, path_is_unique, stores_one_number,
+};
+use v8_mmu::{
+    Access, AccessKind, Bus, BusFault, Found, MmuFault, MmuRegs, PageEntry, Size, Stop, find_page,
+    mark, mark_page, walk,
+};
 
 /// RAM of `M` words and no device; words are reached as words alone.
 #[derive(Drop)]
@@ -11,7 +17,7 @@ struct Words<const M: usize> {
 }
 
 impl<const M: usize> Bus for Words<M> {
-    ghost use Rattle.v8_mmu.specs.WordBus.{word_bus, bytes_of};
+    ghost use Rattle.v8_words_tests.specs.WordBus.{word_bus, bytes_of};
 
     ghost Device = { Unit {0} };
 
@@ -110,26 +116,45 @@ const REGS: MmuRegs = MmuRegs {
     context: 0,
 };
 
+/// Where the entries of address 0 lie, a level each.
+const PLACES: [u64; 4] = [0x2000, 0x2400, 0x2800, 0x2a00];
+
+fn translates(bus: &Words<3072>, va: u32, pa: u64, level: usize) -> bool {
+    match walk(bus, &REGS, va, USER_LOAD) {
+        Ok(found) => {
+            found.pa == pa && found.level == level && found.places.get(level) == PLACES.get(level)
+        }
+        Err(_) => false,
+    }
+}
+
+fn finds(bus: &Words<3072>, va: u32, pa: u64, level: usize, word: u32) -> bool {
+    match find_page(bus, &REGS, va, USER_LOAD) {
+        Ok(page) => {
+            page.pa == pa
+                && page.level == level
+                && page.word == word
+                && PLACES.get(level) == Some(&page.place)
+        }
+        Err(_) => false,
+    }
+}
+
 #[test]
 fn translates_at_each_level(rt: HostRuntime) {
-    let rows: [([u32; 4], u32, u64, usize); 4] = [
-        ([0xf000_000e, 0, 0, 0], 0x1234_5678, 0xf_1234_5678, 0),
-        ([0x241, 0x1234_560e, 0, 0], 0x00ab_cdef, 0x1_23ab_cdef, 1),
-        (
-            [0x241, 0x281, 0x1234_560e, 0],
-            0x0003_ffff,
-            0x1_2347_ffff,
-            2,
-        ),
+    let rows: [([u32; 4], u32, u64); 4] = [
+        ([0xf000_000e, 0, 0, 0], 0x1234_5678, 0xf_1234_5678),
+        ([0x241, 0x1234_560e, 0, 0], 0x00ab_cdef, 0x1_23ab_cdef),
+        ([0x241, 0x281, 0x1234_560e, 0], 0x0003_ffff, 0x1_2347_ffff),
         (
             [0x241, 0x281, 0x2a1, 0x1234_560e],
             0x0000_0abc,
             0x1_2345_6abc,
-            3,
         ),
     ];
-    let places = [0x2000, 0x2400, 0x2800, 0x2a00];
-    for ([context, first, second, third], va, pa, level) in rows {
+    for level in 0..4 {
+        let (words, va, pa) = rows[level];
+        let [context, first, second, third] = words;
         let bus = ram(
             &rt,
             &[
@@ -139,55 +164,37 @@ fn translates_at_each_level(rt: HostRuntime) {
                 (0x2a00, third),
             ],
         );
-        match walk(&bus, &REGS, va, USER_LOAD) {
-            Ok(found) => {
-                assert_eq!(rt; found.pa, pa, "of {va}");
-                assert_eq!(rt; found.level, level, "of {va}");
-                let place = found.places[level];
-                let want = places[level];
-                assert_eq!(rt; place, want, "of {va}");
-            }
-            Err(fault) => panic!(rt; "{fault:?} of {va}"),
-        }
-        match find_page(&bus, &REGS, va, USER_LOAD) {
-            Ok(page) => {
-                assert_eq!(rt; page.pa, pa, "of {va}");
-                assert_eq!(rt; page.level, level, "of {va}");
-                let want = places[level];
-                assert_eq!(rt; page.place, want, "of {va}");
-                let want = [context, first, second, third][level];
-                assert_eq!(rt; page.word, want, "of {va}");
-            }
-            Err(fault) => panic!(rt; "{fault:?} of {va}"),
-        }
+        let agrees = translates(&bus, va, pa, level) && finds(&bus, va, pa, level, words[level]);
+        assert!(rt; agrees, "at level {level}");
+    }
+}
+
+fn leads_to(bus: &Words<3072>, regs: &MmuRegs, va: u32, pa: u64) -> bool {
+    match walk(bus, regs, va, USER_LOAD) {
+        Ok(found) => found.pa == pa,
+        Err(_) => false,
     }
 }
 
 #[test]
 fn wraps_table_addresses_at_36_bits(rt: HostRuntime) {
-    let rows = [
-        (
-            MmuRegs {
-                table: 0xf_ffff_fffc,
-                context: 1,
-            },
-            0x1_1000_0000,
-        ),
-        (
-            MmuRegs {
-                table: 4,
-                context: 0,
-            },
-            0x1_2300_0000,
-        ),
-    ];
     let bus = ram(&rt, &[(0, 0x1234_560e), (4, 0xffff_fffd)]);
-    for (regs, pa) in rows {
-        match walk(&bus, &regs, 0x1000_0000, USER_LOAD) {
-            Ok(found) => assert_eq!(rt; found.pa, pa),
-            Err(fault) => panic!(rt; "{fault:?} for {pa}"),
-        }
-    }
+    let past = MmuRegs {
+        table: 0xf_ffff_fffc,
+        context: 1,
+    };
+    assert!(rt; leads_to(&bus, &past, 0x1000_0000, 0x1_1000_0000));
+    let named = MmuRegs {
+        table: 4,
+        context: 0,
+    };
+    assert!(rt; leads_to(&bus, &named, 0x1000_0000, 0x1_2300_0000));
+}
+
+fn refuses(bus: &Words<3072>, va: u32, fault: MmuFault) -> bool {
+    let walked = walk(bus, &REGS, va, USER_LOAD);
+    let found = find_page(bus, &REGS, va, USER_LOAD);
+    matches!(walked, Err(told) if told == fault) && matches!(found, Err(told) if told == fault)
 }
 
 #[test]
@@ -232,18 +239,15 @@ fn refuses_where_the_path_ends(rt: HostRuntime) {
     ];
     for (entries, va, ft, level) in rows {
         let bus = ram(&rt, &entries);
-        match walk(&bus, &REGS, va, USER_LOAD) {
-            Ok(found) => panic!(rt; "{found:?} of {va}"),
-            Err(fault) => assert_eq!(rt; fault, MmuFault { ft, level, at: 0 }, "of {va}"),
-        }
-        match find_page(&bus, &REGS, va, USER_LOAD) {
-            Ok(page) => panic!(rt; "{page:?} of {va}"),
-            Err(fault) => assert_eq!(rt; fault, MmuFault { ft, level, at: 0 }, "of {va}"),
-        }
+        assert!(rt;
+            refuses(&bus, va, MmuFault { ft, level, at: 0 }),
+            "{ft} at {level} of {va}"
+        );
     }
 }
 
-/// The fault type of each access to a page, 0 where it is allowed: load, fetch, store, store to an instruction space.
+/// The fault type of each access to a page, 0 where it is allowed: load, fetch, store, store to an instruction space; of
+/// users and of the supervisor, a row an access field.
 const FAULT_TYPES: [([u8; 4], [u8; 4]); 8] = [
     ([0, 2, 2, 2], [0, 2, 2, 2]),
     ([0, 2, 0, 2], [0, 2, 0, 2]),
@@ -255,64 +259,85 @@ const FAULT_TYPES: [([u8; 4], [u8; 4]); 8] = [
     ([3, 3, 3, 3], [0, 0, 0, 0]),
 ];
 
-const KINDS: [(AccessKind, u8); 4] = [
-    (AccessKind::Load, 0),
-    (AccessKind::Fetch, 2),
-    (AccessKind::Store, 4),
-    (AccessKind::StoreCode, 6),
-];
+/// Whether an access has this access type, and this fault type on the page of address 1234, 0 where it is allowed.
+fn answers(bus: &Words<3072>, access: Access, ft: u8, at: u8) -> bool {
+    let same_type = access.type_number() == at;
+    match walk(bus, &REGS, 0x1234, access) {
+        Ok(_) => same_type && ft == 0,
+        Err(fault) => same_type && fault.ft == ft && fault.at == at,
+    }
+}
+
+/// Whether the accesses of a user, or of the supervisor, have these fault types.
+fn allows(bus: &Words<3072>, user: bool, fault_types: [u8; 4]) -> bool {
+    let [load, fetch, store, store_code] = fault_types;
+    let first = if user { 0 } else { 1 };
+    let mut all = true;
+    for (kind, ft, at) in [
+        (AccessKind::Load, load, 0),
+        (AccessKind::Fetch, fetch, 2),
+        (AccessKind::Store, store, 4),
+        (AccessKind::StoreCode, store_code, 6),
+    ] {
+        all &= answers(bus, Access { user, kind }, ft, at | first);
+    }
+    all
+}
 
 #[test]
 fn allows_what_the_access_field_says(rt: HostRuntime) {
     for acc in 0..8u32 {
         let bus = ram(&rt, &[(0x2000, acc * 4 + 2)]);
         let (user, supervisor) = FAULT_TYPES[acc as usize];
-        for number in 0..4 {
-            let (kind, at) = KINDS[number];
-            for (is_user, ft) in [(true, user[number]), (false, supervisor[number])] {
-                let access = Access {
-                    user: is_user,
-                    kind,
-                };
-                let at = if is_user { at } else { at + 1 };
-                assert_eq!(rt; access.type_number(), at);
-                match walk(&bus, &REGS, 0x1234, access) {
-                    Ok(_) => assert_eq!(rt; 0, ft, "at {acc}, {at}"),
-                    Err(fault) => {
-                        assert_eq!(rt; fault.ft, ft, "at {acc}, {at}");
-                        assert_eq!(rt; fault.at, at, "at {acc}, {at}");
-                    }
-                }
-            }
-        }
+        assert!(rt;
+            allows(&bus, true, user) && allows(&bus, false, supervisor),
+            "{acc}"
+        );
     }
+}
+
+/// Whether both ways of marking the entry at 2A00 make it this word, and writing it again takes the mark away.
+fn marks(bus: &mut Words<3072>, word: u32, store: bool, marked: u32) -> bool {
+    let found = Found {
+        pa: 0,
+        level: 3,
+        places: [0, 0, 0, 0x2a00],
+    };
+    mark(bus, &found, store);
+    if bus.entry(0x2a00) != Some(marked) {
+        return false;
+    }
+    bus.set_entry(0x2a00, word);
+    if bus.entry(0x2a00) != Some(word) {
+        return false;
+    }
+    let page = PageEntry {
+        pa: 0,
+        level: 3,
+        place: 0x2a00,
+        word,
+    };
+    mark_page(bus, &page, store);
+    bus.entry(0x2a00) == Some(marked)
 }
 
 #[test]
 fn marks_and_takes_marks_away(rt: HostRuntime) {
-    let rows: [(u32, bool, u32); 3] = [
+    for (word, store, marked) in [
         (0x1012, false, 0x1032),
         (0x5006, true, 0x5066),
         (0x5066, false, 0x5066),
-    ];
-    for (word, store, marked) in rows {
+    ] {
         let mut bus = ram(&rt, &[(0x2a00, word)]);
-        let found = Found {
-            pa: 0,
-            level: 3,
-            places: [0, 0, 0, 0x2a00],
-        };
-        mark(&mut bus, &found, store);
-        assert_eq!(rt; bus.entry(0x2a00), Some(marked));
-        bus.set_entry(0x2a00, word);
-        assert_eq!(rt; bus.entry(0x2a00), Some(word));
-        let page = PageEntry {
-            pa: 0,
-            level: 3,
-            place: 0x2a00,
-            word,
-        };
-        mark_page(&mut bus, &page, store);
-        assert_eq!(rt; bus.entry(0x2a00), Some(marked));
+        assert!(rt; marks(&mut bus, word, store, marked), "{word:x}");
     }
+}
+
+#[test]
+fn laws_return(_rt: HostRuntime) {
+    path_is_unique();
+    fault_is_unique();
+    no_fault_on_a_path();
+    marks_two_bits();
+    stores_one_number();
 }

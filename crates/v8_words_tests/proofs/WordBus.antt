@@ -6,7 +6,7 @@ use Rattle.std.proofs.lemmas.Bool.Decides.{nat_tests}
 use Rattle.std.proofs.lemmas.List.{take_at, drop_at, drop_more, length-append, append_assoc, take-append-drop, length-take-le, set_split}
 use Rattle.std.proofs.lemmas.Nat.{from_be_bytes-to_be_bytes_4}
 use Rattle.v8_mmu.specs.Ram.{entry_of, with_entry, HasBytes}
-use Rattle.v8_mmu.specs.WordBus.{bytes_of}
+use Rattle.v8_words_tests.specs.WordBus.{bytes_of}
 use Rattle.v8_mmu.proofs.RamLemmas.{within_entry, entry_is}
 
 four : (w : ℕ) → length (to_be_bytes w32 w) ≡ 4

@@ -1,10 +1,18 @@
 // Words of the manual's formats (appendix F), those of GNU as (binutils 2.40), and words that are none. All the words of
 // GNU as that the repository has are in the program v8_vectors.
-use super::*;
-use v8_word::{Cond, Reg};
+use v8_formats::{
+    Alternate, Branch, Instr, Operand, Place, Three, Trap, Upper, decode, encode, is_canonical,
+    rows_are_apart,
+};
+use v8_word::{Cond, Reg, reg_at};
 
 fn three(rd: Reg, rs1: Reg, operand2: Operand) -> Three {
     Three { rd, rs1, operand2 }
+}
+
+/// Whether an instruction is spelled as a word, and what the word means is too.
+fn is_spelled(instr: &Instr, word: u32) -> bool {
+    encode(instr) == word && encode(&decode(word)) == word
 }
 
 #[test]
@@ -77,10 +85,19 @@ fn worked_words(rt: HostRuntime) {
         (0, Instr::default()),
     ];
     for (word, instr) in rows {
-        assert_eq!(rt; encode(&instr), word, "{word:x}");
-        assert_eq!(rt; encode(&decode(word)), word, "{word:x}");
+        assert!(rt; is_spelled(&instr, word), "{word:x}");
     }
     rows_are_apart();
+}
+
+/// Whether a word is canonical, and each word that differs in one of these bits means the same and isn't.
+fn leaves_unused(word: u32, unused: u32) -> bool {
+    let mut agrees = is_canonical(word);
+    for bit in 0u32..32 {
+        let spoiled = word | unused & 1 << bit;
+        agrees &= is_canonical(spoiled) == (spoiled == word) && encode(&decode(spoiled)) == word;
+    }
+    agrees
 }
 
 #[test]
@@ -106,13 +123,12 @@ fn unused_bits(rt: HostRuntime) {
         (0x81da_0009, 0x3e00_1fe0), // flush %o0+%o1
         (0x0000_0000, 0x3e00_0000), // unimp 0
     ] {
-        assert!(rt; is_canonical(word), "{word:x}");
-        for bit in 0u32..32 {
-            let spoiled = word | unused & 1 << bit;
-            assert_eq!(rt; is_canonical(spoiled), spoiled == word, "{spoiled:x}");
-            assert_eq!(rt; encode(&decode(spoiled)), word, "{spoiled:x}");
-        }
+        assert!(rt; leaves_unused(word, unused), "{word:x}");
     }
+}
+
+fn is_undefined(word: u32) -> bool {
+    matches!(decode(word), Instr::Undefined(kept) if kept == word) && is_canonical(word)
 }
 
 #[test]
@@ -149,32 +165,29 @@ fn words_that_are_no_instruction(rt: HostRuntime) {
         0xc1f8_0000, // op3 28, 2F, 38, 3F
     ];
     for word in reserved {
-        assert!(rt;
-            matches!(decode(word), Instr::Undefined(kept) if kept == word),
-            "{word:x}"
-        );
-        assert!(rt; is_canonical(word), "{word:x}");
+        assert!(rt; is_undefined(word), "{word:x}");
     }
+}
+
+fn is_floating_point_memory(word: u32) -> bool {
+    matches!(decode(word), Instr::FpMemory(kept) if kept == word)
+}
+
+fn is_coprocessor_memory(word: u32) -> bool {
+    matches!(decode(word), Instr::CpMemory(kept) if kept == word)
+}
+
+#[test]
+fn words_of_other_units(rt: HostRuntime) {
     for minor in 0u32..8 {
-        let floating = 0xc100_0000 | minor << 19;
-        let coprocessor = 0xc180_0000 | minor << 19;
-        assert!(rt;
-            matches!(decode(floating), Instr::FpMemory(kept) if kept == floating),
-            "{minor}"
-        );
-        assert!(rt;
-            matches!(decode(coprocessor), Instr::CpMemory(kept) if kept == coprocessor),
-            "{minor}"
-        );
+        let agrees = is_floating_point_memory(0xc100_0000 | minor << 19)
+            && is_coprocessor_memory(0xc180_0000 | minor << 19);
+        assert!(rt; agrees, "{minor}");
     }
     for minor in [0x34u32, 0x35] {
-        assert!(rt;
-            matches!(decode(0x8000_0000 | minor << 19), Instr::FpOperate(_)),
-            "{minor}"
-        );
-        assert!(rt;
-            matches!(decode(0x8010_0000 | minor << 19), Instr::CpOperate(_)),
-            "{minor}"
-        );
+        let floating_point = decode(0x8000_0000 | minor << 19);
+        assert!(rt; matches!(floating_point, Instr::FpOperate(_)), "{minor}");
+        let coprocessor = decode(0x8010_0000 | minor << 19);
+        assert!(rt; matches!(coprocessor, Instr::CpOperate(_)), "{minor}");
     }
 }
