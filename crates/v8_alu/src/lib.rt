@@ -8,6 +8,7 @@ ghost use Rattle.v8_alu.specs.Results.{high_word, low_word};
 mod products;
 mod quotients;
 mod sums;
+
 use products::{
     high_word, low_word, shift_left, shift_right, shift_right_signed, signed_product, step_addend,
     step_operand, step_y, unsigned_product,
