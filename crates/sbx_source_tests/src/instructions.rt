@@ -1,64 +1,101 @@
-use super::*;
-use arrayvec::ArrayString;
+//! Statements and the instructions that they are.
+use crate::check::same;
+use crate::names::Fixed;
+use arrayvec::{ArrayString, ArrayVec};
 use sbx_text::tokens;
-use std::alloc::Global;
+use std::alloc::{AllocError, Global};
 use std::process::Abort;
 use std::test::Fail;
 use v8_formats::{Instr, decode, encode};
+use v8_syntax::{
+    SyntaxFault, after_first, bytes_between, is_same, length_of, parse_instr, print_instr,
+    register_named, sign_byte,
+};
 
-/// Every name is worth the same, or nothing.
-#[derive(Clone, Copy)]
-struct Fixed {
-    word: Option<u32>,
-    here: u32,
-}
+/// No name is known, at the address 0x40000.
+pub const NAMELESS: Fixed = Fixed {
+    word: None,
+    here: 0x4_0000,
+};
 
-impl Symbols for Fixed {
-    ghost use Rattle.std.specs.Prelude.{ℕ};
+/// Every name is worth 0x12345678, at the address 0x40000.
+const NAMED: Fixed = Fixed {
+    word: Some(0x1234_5678),
+    here: 0x4_0000,
+};
 
-    ghost values = { λ s _. s.word };
+type Parsed = Result<ArrayVec<Instr, 2>, SyntaxFault>;
 
-    ghost place = { λ s. s.here };
-
-    fn value(&self, _name: &[u8]) -> Option<u32> {
-        self.word
-    }
-
-    fn here(&self) -> u32 {
-        self.here
-    }
-}
-
-/// Words in hexadecimal with a space between them, or the fault.
-fn read(alloc: Global, statement: &str, word: Option<u32>) -> Result<String, Fail> {
+fn parsed(alloc: Global, statement: &str, symbols: &Fixed) -> Result<Parsed, Fail> {
     let line = statement.as_bytes();
     let found = tokens(alloc, line)?;
+    Ok(parse_instr(line, &found, symbols))
+}
+
+/// Words in hexadecimal with a space behind each, or the fault.
+fn words_of(alloc: Global, parsed: &Parsed) -> Result<String, AllocError> {
     let mut text = String::new(alloc);
-    match parse_instr(
-        line,
-        &found,
-        &Fixed {
-            word,
-            here: 0x4_0000,
-        },
-    ) {
+    match parsed {
         Ok(list) => {
             for instr in list.as_slice() {
-                let piece = format!(in alloc; "{:08X} ", encode(instr))?;
-                text.push_str(piece.as_str())?;
+                write!(text, "{:08X} ", encode(instr))?;
             }
         }
-        Err(fault) => {
-            let piece = format!(in alloc; "{fault} ")?;
-            text.push_str(piece.as_str())?;
-        }
+        Err(fault) => write!(text, "{fault} ")?,
     }
     Ok(text)
 }
 
+/// A statement gives these words, or this fault.
+pub fn gives<R: Abort>(
+    rt: &R,
+    alloc: Global,
+    statement: &str,
+    symbols: &Fixed,
+    wanted: &str,
+) -> Result<(), Fail> {
+    let read = parsed(alloc, statement, symbols)?;
+    let found = words_of(alloc, &read)?;
+    same(rt, statement, &found, wanted);
+    Ok(())
+}
+
+/// The text of a word.
+pub fn prints<R: Abort>(rt: &R, word: u32, wanted: &str) {
+    let mut text = ArrayString::<64>::new();
+    print_instr(&decode(word), &mut text);
+    same(rt, wanted, text.as_str(), wanted);
+}
+
+/// The text of an instruction reads back as it.
+fn reads_back<R: Abort>(rt: &R, alloc: Global, instr: &Instr) -> Result<(), Fail> {
+    let mut text = ArrayString::<64>::new();
+    print_instr(instr, &mut text);
+    let word = format!(in alloc; "{:08X} ", encode(instr))?;
+    gives(rt, alloc, text.as_str(), &NAMELESS, word.as_str())
+}
+
+/// A statement has the length of its words.
+fn has_length<R: Abort>(rt: &R, alloc: Global, statement: &str, words: &str) -> Result<(), Fail> {
+    let line = statement.as_bytes();
+    let found = tokens(alloc, line)?;
+    assert!(rt; length_of(line, &found) == words.len() / 9, "{statement}");
+    Ok(())
+}
+
+/// The text of each instruction of a statement reads back.
+fn goes_round<R: Abort>(rt: &R, alloc: Global, statement: &str) -> Result<(), Fail> {
+    if let Ok(list) = parsed(alloc, statement, &NAMELESS)? {
+        for instr in list.as_slice() {
+            reads_back(rt, alloc, instr)?;
+        }
+    }
+    Ok(())
+}
+
 /// Statements and their words, as GNU as gives them but for `tst`, `btst` and the plain `restore`: these have the operands
 /// of this language's own forms.
-const ENCODINGS: [(&str, &str); 148] = [
+static ENCODINGS: [(&str, &str); 148] = [
     ("add %o7,%i7,%sp", "9C03C01F "),
     ("addcc %g0,%o7,%i7", "BE80000F "),
     ("addx %l0,%g0,%o7", "9E440000 "),
@@ -210,7 +247,7 @@ const ENCODINGS: [(&str, &str); 148] = [
 ];
 
 /// Statements and their words, worked out by hand from the formats and the synthetic forms.
-const BY_HAND: [(&str, &str); 32] = [
+static BY_HAND: [(&str, &str); 32] = [
     ("add %o0,5,%o1", "92022005 "),
     ("lda [%l0+%l1] 10,%l2", "E4840151 "),
     ("lduha [%o0+%o1] 10,%o2", "D4920149 "),
@@ -245,31 +282,26 @@ const BY_HAND: [(&str, &str); 32] = [
     ("nop", "01000000 "),
 ];
 
-/// Words and their text.
-const TEXTS: [(u32, &str); 19] = [
-    (0xD0084000, "ldub [%g1+%g0],%o0"),
-    (0x12BFFFFD, "bne .-12"),
-    (0x81C7E008, "jmpl %i7+8,%g0"),
-    (0x81E80000, "restore %g0,%g0,%g0"),
-    (0x81E80020, "restore %g0,%g0,%g0"),
-    (0x90102048, "or %g0,72,%o0"),
-    (0x9DE3BFA0, "save %sp,-96,%sp"),
-    (0x91D02000, "ta 0"),
-    (0x93D06005, "tne %g1+5"),
-    (0x91D00001, "ta %g0+%g1"),
-    (0xDE482000, "ldsb [%g0+0],%o7"),
-    (0xE0984130, "ldda [%g1+%l0] 9,%l0"),
-    (0xC2802004, ".word 0xC2802004"),
-    (0x01C0FFFF, ".word 0x01C0FFFF"),
-    (0x60000000, "call .-2147483648"),
-    (0x30BFFFFF, "ba,a .-4"),
-    (0x81986001, "wr %g1,1,%tbr"),
-    (0x3E000005, "unimp 5"),
-    (0x2F3FFFFF, "sethi 4194303,%l7"),
-];
+fn is_read<R: Abort>(rt: &R, alloc: Global, row: &(&str, &str)) -> Result<(), Fail> {
+    let (statement, words) = *row;
+    gives(rt, alloc, statement, &NAMELESS, words)?;
+    has_length(rt, alloc, statement, words)?;
+    goes_round(rt, alloc, statement)
+}
+
+#[test]
+fn statements(rt: HostRuntime) -> Result<(), Fail> {
+    for row in &ENCODINGS {
+        is_read(&rt, rt.alloc(), row)?;
+    }
+    for row in &BY_HAND {
+        is_read(&rt, rt.alloc(), row)?;
+    }
+    Ok(())
+}
 
 /// What each statement gives where every symbol is worth 0x12345678, at the address 0x40000.
-const OTHERS: [(&str, &str); 64] = [
+static OTHERS: [(&str, &str); 64] = [
     ("", "S1 "),
     ("%o0", "S1 "),
     ("frob %o0", "S1 "),
@@ -336,83 +368,48 @@ const OTHERS: [(&str, &str); 64] = [
     ("unimp -1", "S3 "),
 ];
 
-fn gives<R: Abort>(
-    rt: &R,
-    alloc: Global,
-    statement: &str,
-    word: Option<u32>,
-    wanted: &str,
-) -> Result<(), Fail> {
-    let found = read(alloc, statement, word)?;
-    assert_eq!(rt; found.as_str(), wanted, "{statement}");
-    Ok(())
-}
-
-fn prints<R: Abort>(rt: &R, word: u32, wanted: &str) {
-    let mut text = ArrayString::<64>::new();
-    print_instr(&decode(word), &mut text);
-    assert_eq!(rt; text.as_str(), wanted);
-}
-
-/// The text of an instruction reads back as it.
-fn reads_back<R: Abort>(rt: &R, alloc: Global, instr: &Instr) -> Result<(), Fail> {
-    let mut text = ArrayString::<64>::new();
-    print_instr(instr, &mut text);
-    let word = format!(in alloc; "{:08X} ", encode(instr))?;
-    gives(rt, alloc, text.as_str(), None, word.as_str())
-}
-
-/// A statement has the length of its words, and the text of each reads back.
-fn goes_round<R: Abort>(rt: &R, alloc: Global, statement: &str, words: &str) -> Result<(), Fail> {
-    let line = statement.as_bytes();
-    let found = tokens(alloc, line)?;
-    assert_eq!(rt; length_of(line, &found), words.len() / 9, "{statement}");
-    if let Ok(list) = parse_instr(
-        line,
-        &found,
-        &Fixed {
-            word: None,
-            here: 0,
-        },
-    ) {
-        for instr in list.as_slice() {
-            reads_back(rt, alloc, instr)?;
-        }
-    }
-    Ok(())
-}
-
 #[test]
-fn statements(rt: HostRuntime) -> Result<(), Fail> {
-    for (statement, words) in &ENCODINGS {
-        gives(&rt, rt.alloc(), statement, None, words)?;
-    }
-    for (statement, words) in &BY_HAND {
-        gives(&rt, rt.alloc(), statement, None, words)?;
-    }
+fn other_statements(rt: HostRuntime) -> Result<(), Fail> {
     for (statement, words) in &OTHERS {
-        gives(&rt, rt.alloc(), statement, Some(0x1234_5678), words)?;
+        gives(&rt, rt.alloc(), statement, &NAMED, words)?;
     }
-    gives(&rt, rt.alloc(), "set sym,%o0", None, "S4 ")?;
-    gives(&rt, rt.alloc(), "ba sym", None, "S4 ")
+    gives(&rt, rt.alloc(), "set sym,%o0", &NAMELESS, "S4 ")?;
+    gives(&rt, rt.alloc(), "ba sym", &NAMELESS, "S4 ")
 }
+
+/// Words and their text.
+static TEXTS: [(u32, &str); 19] = [
+    (0xD0084000, "ldub [%g1+%g0],%o0"),
+    (0x12BFFFFD, "bne .-12"),
+    (0x81C7E008, "jmpl %i7+8,%g0"),
+    (0x81E80000, "restore %g0,%g0,%g0"),
+    (0x81E80020, "restore %g0,%g0,%g0"),
+    (0x90102048, "or %g0,72,%o0"),
+    (0x9DE3BFA0, "save %sp,-96,%sp"),
+    (0x91D02000, "ta 0"),
+    (0x93D06005, "tne %g1+5"),
+    (0x91D00001, "ta %g0+%g1"),
+    (0xDE482000, "ldsb [%g0+0],%o7"),
+    (0xE0984130, "ldda [%g1+%l0] 9,%l0"),
+    (0xC2802004, ".word 0xC2802004"),
+    (0x01C0FFFF, ".word 0x01C0FFFF"),
+    (0x60000000, "call .-2147483648"),
+    (0x30BFFFFF, "ba,a .-4"),
+    (0x81986001, "wr %g1,1,%tbr"),
+    (0x3E000005, "unimp 5"),
+    (0x2F3FFFFF, "sethi 4194303,%l7"),
+];
 
 #[test]
 fn texts(rt: HostRuntime) -> Result<(), Fail> {
     for (word, wanted) in &TEXTS {
         prints(&rt, *word, wanted);
     }
-    for (statement, words) in &ENCODINGS {
-        goes_round(&rt, rt.alloc(), statement, words)?;
-    }
-    for (statement, words) in &BY_HAND {
-        goes_round(&rt, rt.alloc(), statement, words)?;
-    }
     Ok(())
 }
 
 /// Names without their `%`, and the numbers of their registers.
-const REGISTERS: [(&str, Option<u8>); 13] = [
+static REGISTERS: [(&str, Option<u8>); 13] = [
     ("g0", Some(0)),
     ("o6", Some(14)),
     ("l1", Some(17)),
@@ -432,23 +429,38 @@ const REGISTERS: [(&str, Option<u8>); 13] = [
 fn registers(rt: HostRuntime) -> Result<(), Fail> {
     for (name, wanted) in &REGISTERS {
         let found = register_named(name.as_bytes()).map(|register| register.number());
-        assert_eq!(rt; found, *wanted, "{name}");
+        assert!(rt; found == *wanted, "{name}");
     }
     Ok(())
 }
 
+/// A place in the line `add %o0`, and the bytes there.
+static PIECES: [(usize, usize, &str); 3] = [(4, 7, "%o0"), (4, 8, ""), (3, 2, "")];
+
 #[test]
 fn pieces(rt: HostRuntime) -> Result<(), Fail> {
     let line = b"add %o0".as_slice();
-    let nothing = b"".as_slice();
-    assert_eq!(rt; bytes_between(line, 4, 7), b"%o0".as_slice());
-    assert_eq!(rt; bytes_between(line, 4, 8), nothing);
-    assert_eq!(rt; bytes_between(line, 3, 2), nothing);
-    assert_eq!(rt; after_first(line), b"dd %o0".as_slice());
-    assert_eq!(rt; after_first(nothing), nothing);
-    assert_eq!(rt; sign_byte(b"+"), b'+');
-    assert_eq!(rt; sign_byte(nothing), 0);
-    assert!(rt; is_same(b"add", b"add"));
-    assert!(rt; !is_same(b"add", b"and"));
+    for (start, stop, wanted) in &PIECES {
+        assert!(rt;
+            bytes_between(line, *start, *stop) == wanted.as_bytes(),
+            "{wanted}"
+        );
+    }
+    Ok(())
+}
+
+/// A name, what follows its first byte, and its sign.
+static FRONTS: [(&str, &str, u8); 3] = [("add %o0", "dd %o0", b'a'), ("+", "", b'+'), ("", "", 0)];
+
+#[test]
+fn fronts(rt: HostRuntime) -> Result<(), Fail> {
+    for (text, rest, sign) in &FRONTS {
+        let bytes = text.as_bytes();
+        assert!(rt;
+            after_first(bytes) == rest.as_bytes() && sign_byte(bytes) == *sign,
+            "{text}"
+        );
+    }
+    assert!(rt; is_same(b"add", b"add") && !is_same(b"add", b"and"));
     Ok(())
 }
