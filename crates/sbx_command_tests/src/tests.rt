@@ -1,8 +1,8 @@
 //! Commands on bytes that are or aren't images, over readers and writers that fail at one call.
 mod sources;
 
-use crate::{Job, ReadFault, command, decimal, read_whole};
 use arrayvec::ArrayVec;
+use sbx_command::{Job, ReadFault, command, decimal, read_whole, turns};
 use std::alloc::Global;
 use std::io::{self, Read, Write};
 
@@ -133,7 +133,7 @@ const LISTING: &[u8] = b"00040000 90102048 or %g0,72,%o0
 ";
 
 /// A command, the calls at which its file, its input and its output fail (0: none), and what it has to answer.
-#[derive(Clone, Copy, Debug)]
+#[derive(Clone, Copy)]
 struct Case<'a> {
     job: Job<'a>,
     file: &'a [u8],
@@ -200,6 +200,32 @@ fn read(alloc: Global, bytes: &[u8], most: usize, fails: usize) -> Result<Vec<u8
     }
 }
 
+/// Bytes, the bound, the call that fails, and what is read.
+type Reading = (
+    &'static [u8],
+    usize,
+    usize,
+    Result<&'static [u8], ReadFault>,
+);
+
+/// Whether the bytes are read as wanted.
+fn is_read(alloc: Global, (bytes, most, fails, wanted): Reading) -> bool {
+    match read(alloc, bytes, most, fails) {
+        Ok(found) => Ok(found.as_slice()) == wanted,
+        Err(fault) => Err(fault) == wanted,
+    }
+}
+
+const READINGS: [Reading; 7] = [
+    (b"", 0, 0, Ok(b"")),
+    (b"abc", 3, 0, Ok(b"abc")),
+    (b"abc", 4, 0, Ok(b"abc")),
+    (b"abc", 2, 0, Err(ReadFault::TooLong)),
+    (b"abc", 3, 1, Err(ReadFault::Reader)),
+    (b"abc", 3, 4, Err(ReadFault::Reader)),
+    (b"abc", 3, 5, Ok(b"abc")),
+];
+
 /// The sample with the bytes from `place` on replaced.
 fn changed(place: usize, bytes: &[u8]) -> [u8; 86] {
     let mut image = HELLO;
@@ -211,40 +237,46 @@ fn changed(place: usize, bytes: &[u8]) -> [u8; 86] {
 
 #[test]
 fn reads_within_a_bound(rt: HostRuntime) {
-    let table: [(&[u8], usize, usize, Result<&[u8], ReadFault>); 7] = [
-        (b"", 0, 0, Ok(b"")),
-        (b"abc", 3, 0, Ok(b"abc")),
-        (b"abc", 4, 0, Ok(b"abc")),
-        (b"abc", 2, 0, Err(ReadFault::TooLong)),
-        (b"abc", 3, 1, Err(ReadFault::Reader)),
-        (b"abc", 3, 4, Err(ReadFault::Reader)),
-        (b"abc", 3, 5, Ok(b"abc")),
-    ];
-    for (bytes, most, fails, wanted) in table {
-        let is_read = match read(rt.alloc(), bytes, most, fails) {
-            Ok(found) => Ok(found.as_slice()) == wanted,
-            Err(fault) => Err(fault) == wanted,
-        };
-        assert!(rt; is_read, "at {most} {fails}");
+    for reading in READINGS {
+        assert!(rt; is_read(rt.alloc(), reading), "at {reading:?}");
     }
 }
 
+/// Texts, and the number that they spell by digits alone, up to 9.
+const DECIMALS: [(&str, Option<u64>); 10] = [
+    ("0", Some(0)),
+    ("007", Some(7)),
+    ("9", Some(9)),
+    ("10", None),
+    ("", None),
+    ("+8", None),
+    ("-8", None),
+    ("8 ", None),
+    ("0x8", None),
+    ("٨", None),
+];
+
 #[test]
 fn reads_decimal_digits_alone(rt: HostRuntime) {
-    let table = [
-        ("0", Some(0)),
-        ("007", Some(7)),
-        ("9", Some(9)),
-        ("10", None),
-        ("", None),
-        ("+8", None),
-        ("-8", None),
-        ("8 ", None),
-        ("0x8", None),
-        ("٨", None),
-    ];
-    for (text, wanted) in table {
-        assert_eq!(rt; decimal(text, 9), wanted, "at {text}");
+    for (text, wanted) in DECIMALS {
+        assert!(rt; decimal(text, 9) == wanted, "at {text}");
+    }
+}
+
+/// Texts, and the limit of turns that they give.
+const LIMITS: [(Option<&str>, Option<u64>); 6] = [
+    (None, Some(100_000)),
+    (Some("0"), Some(0)),
+    (Some("9999999999"), Some(9_999_999_999)),
+    (Some("10000000000"), None),
+    (Some("+8"), None),
+    (Some(""), None),
+];
+
+#[test]
+fn reads_a_limit_of_turns(rt: HostRuntime) {
+    for (text, wanted) in LIMITS {
+        assert!(rt; turns(text) == wanted, "at {text:?}");
     }
 }
 
@@ -303,54 +335,70 @@ fn refuses_what_is_longer(rt: HostRuntime) {
     assert!(rt; are_refused(alloc, &RANGE, b"image I8\n"), "a param 5 to 4");
 }
 
+/// Bytes of the sample that are replaced from a place on, and the line that tells of it.
+type Change = (usize, &'static [u8], &'static [u8]);
+
+/// Samples that are no image.
+const BAD: [Change; 5] = [
+    (0, &[0x54], b"image I2\n"),
+    (4, &[0, 2], b"image I3\n"),
+    (6, &[0, 8], b"image I4\n"),
+    (60, &[0, 0, 1, 0, 0, 0, 0, 0], b"image I5\n"),
+    (48, &[0, 4, 0, 4], b"image I7\n"),
+];
+
+/// Whether `verify`, `run` and `list` all refuse the changed sample.
+fn is_change_refused(alloc: Global, (place, bytes, line): Change) -> bool {
+    are_refused(alloc, &changed(place, bytes), line)
+}
+
 #[test]
 fn refuses_what_is_bad(rt: HostRuntime) {
-    let table: [(usize, &[u8], &[u8]); 5] = [
-        (0, &[0x54], b"image I2\n"),
-        (4, &[0, 2], b"image I3\n"),
-        (6, &[0, 8], b"image I4\n"),
-        (60, &[0, 0, 1, 0, 0, 0, 0, 0], b"image I5\n"),
-        (48, &[0, 4, 0, 4], b"image I7\n"),
-    ];
-    for (place, bytes, line) in table {
-        let image = changed(place, bytes);
-        assert!(rt; are_refused(rt.alloc(), &image, line), "at {place}");
+    for change in BAD {
+        assert!(rt; is_change_refused(rt.alloc(), change), "at {change:?}");
     }
+}
+
+/// Samples that break a rule.
+const RULES: [Change; 4] = [
+    // fuel and budget 15
+    (
+        60,
+        &[
+            0, 0, 0, 0, 0, 0, 0, 15, 0, 1, 0, 4, 0, 0, 0, 0, 0, 0, 0, 0, 0, 0, 0, 0, 0, 15,
+        ],
+        b"refused V14 in function 0 at 00040014\n",
+    ),
+    // put alone, exit alone
+    (6, &[0, 4], b"refused V12 in function 0 at 00040014\n"),
+    (6, &[0, 1], b"refused V12 in function 0 at 00040004\n"),
+    // restore %g0,%g0,%g0 with an unused bit set
+    (
+        20,
+        &[0x81, 0xE8, 0, 0x20],
+        b"refused V1 in function 0 at 00040000\n",
+    ),
+];
+
+/// Whether `verify` and `run` both refuse the changed sample.
+fn is_rule_named(alloc: Global, (place, bytes, line): Change) -> bool {
+    let image = changed(place, bytes);
+    is_answered(alloc, &refused(VERIFY, &image, line))
+        && is_answered(alloc, &refused(RUN, &image, line))
 }
 
 #[test]
 fn refuses_what_breaks_a_rule(rt: HostRuntime) {
-    let alloc = rt.alloc();
-    let table: [(usize, &[u8], &[u8]); 4] = [
-        // fuel and budget 15
-        (
-            60,
-            &[
-                0, 0, 0, 0, 0, 0, 0, 15, 0, 1, 0, 4, 0, 0, 0, 0, 0, 0, 0, 0, 0, 0, 0, 0, 0, 15,
-            ],
-            b"refused V14 in function 0 at 00040014\n",
-        ),
-        // put alone, exit alone
-        (6, &[0, 4], b"refused V12 in function 0 at 00040014\n"),
-        (6, &[0, 1], b"refused V12 in function 0 at 00040004\n"),
-        // restore %g0,%g0,%g0 with an unused bit set
-        (
-            20,
-            &[0x81, 0xE8, 0, 0x20],
-            b"refused V1 in function 0 at 00040000\n",
-        ),
-    ];
-    for (place, bytes, line) in table {
-        let image = changed(place, bytes);
-        for job in [VERIFY, RUN] {
-            let case = refused(job, &image, line);
-            assert!(rt; is_answered(alloc, &case), "at {case:?}");
-        }
+    for change in RULES {
+        assert!(rt; is_rule_named(rt.alloc(), change), "at {change:?}");
     }
 }
 
-/// Jobs on the sample, the calls that fail, and the status, the output and the line that they have to end with.
-const ENDS: [(Job<'static>, [usize; 3], u8, &[u8], &[u8]); 26] = [
+/// A job on the sample, the calls that fail, and the status, the output and the line that it has to end with.
+type End = (Job<'static>, [usize; 3], u8, &'static [u8], &'static [u8]);
+
+/// Ends of `list` and `verify`.
+const LISTS_AND_VERDICTS: [End; 10] = [
     (LIST, [0, 0, 0], 0, LISTING, b""),
     (LIST, [1, 0, 0], 4, b"", b"file\n"),
     (LIST, [86, 0, 0], 4, b"", b"file\n"),
@@ -361,6 +409,10 @@ const ENDS: [(Job<'static>, [usize; 3], u8, &[u8], &[u8]); 26] = [
     (VERIFY, [87, 0, 0], 4, b"", b"file\n"),
     (VERIFY, [0, 0, 1], 4, b"", b"output\n"),
     (VERIFY, [0, 0, 2], 4, b"accepted\n", b"output\n"),
+];
+
+/// Ends of `run`.
+const RUNS: [End; 7] = [
     (RUN, [0, 0, 0], 0, b"Hi", b""),
     (RUN, [87, 1, 1], 4, b"", b"file\n"),
     (RUN, [0, 1, 1], 4, b"", b"input\n"),
@@ -368,6 +420,10 @@ const ENDS: [(Job<'static>, [usize; 3], u8, &[u8], &[u8]); 26] = [
     (RUN, [0, 5, 0], 0, b"Hi", b""),
     (RUN, [0, 0, 1], 4, b"", b"output\n"),
     (RUN, [0, 0, 2], 4, b"Hi", b"output\n"),
+];
+
+/// Ends of `trace`.
+const TRACES: [End; 9] = [
     (TRACE_OF_TWO, [0, 0, 0], 0, TWO_TURNS, b""),
     (TRACE_OF_TWO, [87, 1, 1], 4, b"", b"file\n"),
     (TRACE_OF_TWO, [0, 1, 1], 4, b"", b"input\n"),
@@ -379,18 +435,37 @@ const ENDS: [(Job<'static>, [usize; 3], u8, &[u8], &[u8]); 26] = [
     (TRACE, [0, 0, 1], 4, b"", b"output\n"),
 ];
 
+/// Whether a job ends as it has to.
+fn is_ended(alloc: Global, (job, fails, status, out, err): End) -> bool {
+    let case = Case {
+        job,
+        file: &HELLO,
+        fails,
+        status,
+        out,
+        err,
+    };
+    is_answered(alloc, &case)
+}
+
 #[test]
-fn stops_at_a_fault(rt: HostRuntime) {
-    for (job, fails, status, out, err) in ENDS {
-        let case = Case {
-            job,
-            file: &HELLO,
-            fails,
-            status,
-            out,
-            err,
-        };
-        assert!(rt; is_answered(rt.alloc(), &case), "at {case:?}");
+fn lists_and_verifies_up_to_a_fault(rt: HostRuntime) {
+    for end in LISTS_AND_VERDICTS {
+        assert!(rt; is_ended(rt.alloc(), end), "at {end:?}");
+    }
+}
+
+#[test]
+fn runs_up_to_a_fault(rt: HostRuntime) {
+    for end in RUNS {
+        assert!(rt; is_ended(rt.alloc(), end), "at {end:?}");
+    }
+}
+
+#[test]
+fn traces_up_to_a_fault(rt: HostRuntime) {
+    for end in TRACES {
+        assert!(rt; is_ended(rt.alloc(), end), "at {end:?}");
     }
 }
 
