@@ -1,0 +1,4 @@
+pub mod Ranges
+pub mod Rows
+pub mod Table
+pub mod Refining
