@@ -5,3 +5,5 @@ pub mod Products
 pub mod Shifted
 pub mod Divided
 pub mod Multiples
+pub mod Sound
+pub mod Alignments

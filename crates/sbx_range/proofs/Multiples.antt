@@ -137,6 +137,21 @@ aligned-umul j k x y h g =
 pub aligned-sll : (j x y : ℕ) → x % 2 ^ j ≡ 0 → shifted_left x y % 2 ^ min 3 (j + y % 32) ≡ 0
 aligned-sll j x y h = aligned-umul j (y % 32) x (2 ^ (y % 32)) h (aligned-power (y % 32) (y % 32) (omega arith))
 
+-- by any count a shift to the left keeps what there is
+pub aligned-sll_any : (j x y : ℕ) → x < 2 ^ 32 → x % 2 ^ j ≡ 0 → shifted_left x y % 2 ^ j ≡ 0
+aligned-sll_any j x y p h = elim (cases_lt j 32) [
+    inl small ↦
+        (let k = y % 32 in
+        let m = aligned-product j (y % 32) x (2 ^ (y % 32)) h (aligned-power (y % 32) (y % 32) (omega arith)) in
+        aligned-word j (x * 2 ^ (y % 32)) (omega arith) (aligned-fewer j (j + y % 32) (x * 2 ^ (y % 32)) (omega arith) m))
+  | inr large ↦
+        (let a = none-left j x large p h in
+        let e : shifted_left x y ≡ 0 = ap (λ n. (n * 2 ^ (y % 32)) % 2 ^ 32) a ∙ none-shifted (2 ^ (y % 32)) in
+        ap (λ m. m % 2 ^ j) e ∙ zero_aligned j) ]
+  where
+    none-shifted : (n : ℕ) → (0 * n) % 2 ^ 32 ≡ 0
+    none-shifted n = omega arith
+
 -- of magnitudes
 abs-of : (z : ℤ) (x : ℕ) → x < 2 ^ 32 → (z +ℤ pos (2 ^ 32)) ≡ pos x → unsigned_abs z ≡ 2 ^ 32 - x
 abs-of (pos n) x b e = absurd (omega (arith, ints))
@@ -146,6 +161,17 @@ abs-below : (x : ℕ) → x < 2 ^ 32 → unsigned_abs (signed x) ≤ 2 ^ 31
 abs-below x b = elim (signed-word x b) [
     inl w ↦ (let e : unsigned_abs (signed x) ≡ x = ap unsigned_abs w.0 in let s = w.1 in omega arith)
   | inr w ↦ (let e = abs-of (signed x) x b w.0 in let s = w.1 in omega arith) ]
+
+-- the signed product is a number of 64 bits
+cast-below : (z : ℤ) → unsigned_abs z ≤ 2 ^ 63 → cast_unsigned w64 z < 2 ^ 64
+cast-below (pos n) h = omega arith
+cast-below (negsuc n) h = omega arith
+
+pub signed_product-below : (x y : ℕ) → x < 2 ^ 32 → y < 2 ^ 32 → signed_product x y < 2 ^ 64
+signed_product-below x y p q =
+    let e : unsigned_abs (signed x *ℤ signed y) ≡ unsigned_abs (signed x) * unsigned_abs (signed y) = unsigned_abs-mul (signed x) (signed y) in
+    let b = mul-le (unsigned_abs (signed x)) (unsigned_abs (signed y)) (2 ^ 31) (2 ^ 31) (abs-below x p) (abs-below y q) in
+    cast-below (signed x *ℤ signed y) (rw e (omega arith))
 
 abs-aligned : (k x : ℕ) → k ≤ 32 → x < 2 ^ 32 → x % 2 ^ k ≡ 0 → unsigned_abs (signed x) % 2 ^ k ≡ 0
 abs-aligned k x top b h = elim (signed-word x b) [

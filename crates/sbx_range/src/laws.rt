@@ -1,1 +1,43 @@
 //! Laws of ranges. Each is the contract of a function that does nothing.
+ghost use Rattle.sbx_range.specs.Laws.{LoadsStayIn, QuotientsStayIn, ResultsStayAligned, ResultsStayIn, SumsAreExact, TaggedResultsStayIn, WordsStayIn, WrittenYStaysIn};
+
+/// Of words in the intervals of two ranges, each operation's value lies in the interval of its range, and Y in that of its
+/// own, whatever the condition codes are. Alignments don't matter.
+pub fn results_stay_in()
+    ensures { ResultsStayIn }
+{}
+
+/// Where the operands and Y are multiples as their ranges say, so are value and Y.
+pub fn results_stay_aligned()
+    ensures { ResultsStayAligned }
+{}
+
+/// The same of TADDccTV and TSUBccTV, where they have a result.
+pub fn tagged_results_stay_in()
+    ensures { TaggedResultsStayIn }
+{}
+
+/// The same of the four divisions; nothing is asked of alignments.
+pub fn quotients_stay_in()
+    ensures { QuotientsStayIn }
+{}
+
+/// What WRY writes lies in the range of a written Y.
+pub fn written_y_stays_in()
+    ensures { WrittenYStaysIn }
+{}
+
+/// The words that bytes and halves are loaded as lie in their ranges, and those that the service get gives.
+pub fn loads_stay_in()
+    ensures { LoadsStayIn }
+{}
+
+/// A known word lies in its range, and a word of a range in each range that this one lies in.
+pub fn words_stay_in()
+    ensures { WordsStayIn }
+{}
+
+/// Where all sums, or all differences, of two ranges are signed words, the result reads as the sum, or the difference.
+pub fn sums_are_exact()
+    ensures { SumsAreExact }
+{}
