@@ -42,7 +42,7 @@ of_min_right : (j k w : ℕ) → IsAligned k w → IsAligned (min j k) w
 of_min_right j k w h = aligned-fewer (min j k) k w (omega arith) h
 
 -- the greater of two alignments is one of them
-of_max : (j k w : ℕ) → IsAligned j w → IsAligned k w → IsAligned (max j k) w
+pub of_max : (j k w : ℕ) → IsAligned j w → IsAligned k w → IsAligned (max j k) w
 of_max j k w h g = elim (cases_lt j k) [
     inl less ↦ (let e : max j k ≡ k = omega arith in ap (λ i. w % 2 ^ i) e ∙ g)
   | inr more ↦ (let e : max j k ≡ j = omega arith in ap (λ i. w % 2 ^ i) e ∙ h) ]

@@ -7,3 +7,5 @@ pub mod Divided
 pub mod Multiples
 pub mod Sound
 pub mod Alignments
+pub mod Compared
+pub mod Kept

@@ -1,5 +1,5 @@
 //! Laws of ranges. Each is the contract of a function that does nothing.
-ghost use Rattle.sbx_range.specs.Laws.{LoadsStayIn, QuotientsStayIn, ResultsStayAligned, ResultsStayIn, SumsAreExact, TaggedResultsStayIn, WordsStayIn, WrittenYStaysIn};
+ghost use Rattle.sbx_range.specs.Laws.{LoadsStayIn, OneEdgeIsLeft, QuotientsStayIn, RefinementKeepsPairs, RefinementKeepsWords, ResultsStayAligned, ResultsStayIn, SumsAreExact, TaggedResultsStayIn, WordsStayIn, WrittenYStaysIn};
 
 /// Of words in the intervals of two ranges, each operation's value lies in the interval of its range, and Y in that of its
 /// own, whatever the condition codes are. Alignments don't matter.
@@ -40,4 +40,20 @@ pub fn words_stay_in()
 /// Where all sums, or all differences, of two ranges are signed words, the result reads as the sum, or the difference.
 pub fn sums_are_exact()
     ensures { SumsAreExact }
+{}
+
+/// Refinement loses no pair of words for which the condition holds of the codes of the first less the second: the answer is
+/// there, and each word lies in its side, with its alignment.
+pub fn refinement_keeps_pairs()
+    ensures { RefinementKeepsPairs }
+{}
+
+/// Refinement by value loses no word for which the condition holds of codes whose N and Z are the word's.
+pub fn refinement_keeps_words()
+    ensures { RefinementKeepsWords }
+{}
+
+/// Of a condition and its opposite one at least is possible, of ranges that aren't empty.
+pub fn one_edge_is_left()
+    ensures { OneEdgeIsLeft }
 {}
