@@ -6,7 +6,7 @@ use Rattle.v8_alu.specs.Results.{signed, is_signed_word, sum, difference}
 use Rattle.sbx_image.specs.declared.parts.Range.{Range}
 use Rattle.sbx_range.specs.Ranges.{InInterval}
 use Rattle.sbx_range.specs.Rows.{least_alignment, range_add, range_sub, sums_fit, differences_fit}
-use Rattle.sbx_range.proofs.Words.{signed-word, in_fit, both_true, is_signed_word-says}
+use Rattle.sbx_range.proofs.Words.{signed-word, in_fit, both_true, is_signed_word-from, is_signed_word-says}
 
 pub signed-sum : (x y : ℕ) → x < 2 ^ 32 → y < 2 ^ 32 → negsuc 2147483647 ≤ℤ (signed x +ℤ signed y) → (signed x +ℤ signed y) ≤ℤ pos 2147483647 → signed (sum x y false) ≡ signed x +ℤ signed y
 signed-sum x y p q l h =
@@ -66,3 +66,30 @@ exact-difference a b x y p q s t fits =
     let low_b : b.lo ≤ℤ signed y = t.low in
     let high_b : signed y ≤ℤ b.hi = t.high in
     signed-difference x y p q (omega (arith, ints)) (omega (arith, ints))
+
+-- and no overflow is told
+pub sum-fits : (a b : Range) (x y : ℕ) → InInterval a x → InInterval b y → sums_fit a b ≡ true → is_signed_word (signed x +ℤ signed y +ℤ pos 0) ≡ true
+sum-fits a b x y s t fits =
+    let both = both_true _ _ fits in
+    let l = is_signed_word-says (a.lo +ℤ b.lo) both.0 in
+    let h = is_signed_word-says (a.hi +ℤ b.hi) both.1 in
+    let low_end : negsuc 2147483647 ≤ℤ (a.lo +ℤ b.lo) = l.0 in
+    let high_end : (a.hi +ℤ b.hi) ≤ℤ pos 2147483647 = h.1 in
+    let low_a : a.lo ≤ℤ signed x = s.low in
+    let high_a : signed x ≤ℤ a.hi = s.high in
+    let low_b : b.lo ≤ℤ signed y = t.low in
+    let high_b : signed y ≤ℤ b.hi = t.high in
+    is_signed_word-from (signed x +ℤ signed y +ℤ pos 0) (omega (arith, ints)) (omega (arith, ints))
+
+pub difference-fits : (a b : Range) (x y : ℕ) → InInterval a x → InInterval b y → differences_fit a b ≡ true → is_signed_word (signed x -ℤ signed y -ℤ pos 0) ≡ true
+difference-fits a b x y s t fits =
+    let both = both_true _ _ fits in
+    let l = is_signed_word-says (a.lo -ℤ b.hi) both.0 in
+    let h = is_signed_word-says (a.hi -ℤ b.lo) both.1 in
+    let low_end : negsuc 2147483647 ≤ℤ (a.lo -ℤ b.hi) = l.0 in
+    let high_end : (a.hi -ℤ b.lo) ≤ℤ pos 2147483647 = h.1 in
+    let low_a : a.lo ≤ℤ signed x = s.low in
+    let high_a : signed x ≤ℤ a.hi = s.high in
+    let low_b : b.lo ≤ℤ signed y = t.low in
+    let high_b : signed y ≤ℤ b.hi = t.high in
+    is_signed_word-from (signed x -ℤ signed y -ℤ pos 0) (omega (arith, ints)) (omega (arith, ints))

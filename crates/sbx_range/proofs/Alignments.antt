@@ -1,24 +1,25 @@
 -- Each result has the alignment of its operation's range.
-use Rattle.std.proofs.Common.{◌≡◌, ℕ, zero, suc, ◌+◌, ◌-◌, ◌*◌, ◌/◌, ◌%◌, ◌^◌, ◌<◌, ◌≤◌, Bool, true, false, ◌||◌, refl, sym, ap, ◌∙◌, subst, arith, inl, inr, ◌⊎◌}
+use Rattle.std.proofs.Common.{◌≡◌, ℕ, zero, suc, ◌+◌, ◌-◌, ◌*◌, ◌/◌, ◌%◌, ◌^◌, ◌<◌, ◌≤◌, Bool, true, false, ◌||◌, refl, sym, ap, ◌∙◌, subst, arith, inl, inr, ◌⊎◌, Option, Some, None}
 use Rattle.std.specs.Prelude.{◌&&◌, ◌==◌, if◌then◌else◌, not, nat_le, ℤ, pos, negsuc, ◌+ℤ◌, ◌-ℤ◌, ◌*ℤ◌, ◌≤ℤ◌, int_lt, bit_and, bit_or, bit_xor, min, max}
 use Rattle.std.proofs.lemmas.Bool.{cases_lt}
 use Rattle.std.proofs.lemmas.Nat.{or_comm, xor_lt}
 use Rattle.std.proofs.lemmas.Int.{ints}
 use Rattle.std.proofs.lemmas.Bool.Decides.{nat_tests}
 use Rattle.v8_word.specs.declared.Icc.{Icc}
-use Rattle.v8_alu.specs.Outcomes.{outcome, complement, divided, tagged_outcome}
+use Rattle.v8_alu.specs.Outcomes.{outcome, complement, divided, tagged_codes, tagged_of, tagged_outcome}
+use Rattle.v8_alu.specs.declared.AluOut.{AluOut}
 use Rattle.v8_word.specs.Word.{sign_extend}
 use Rattle.v8_alu.specs.declared.TaggedOp.TheVariants.{TaggedAdd, TaggedSub}
-use Rattle.v8_alu.specs.Results.{signed, is_signed_word, low_word, signed_product, sum, difference, shifted_left, shifted_right, shifted_right_signed}
+use Rattle.v8_alu.specs.Results.{signed, is_signed_word, is_tagged, low_word, signed_product, sum, sum_codes, difference, difference_codes, shifted_left, shifted_right, shifted_right_signed}
 use Rattle.v8_alu.specs.declared.Op.{Op}
 use Rattle.v8_alu.specs.declared.Op.TheVariants.{Add, AddCc, Addx, AddxCc, Sub, SubCc, Subx, SubxCc, And, AndCc, Andn, AndnCc, Or, OrCc, Orn, OrnCc, Xor, XorCc, Xnor, XnorCc, Sll, Srl, Sra, Umul, UmulCc, Smul, SmulCc, TaddCc, TsubCc, MulsCc}
 use Rattle.sbx_image.specs.declared.parts.Range.{Range}
-use Rattle.sbx_range.specs.Laws.{LoadsStayIn, QuotientsStayIn, ResultsStayAligned, TaggedResultsStayIn, WordsStayIn, WrittenYStaysIn}
+use Rattle.sbx_range.specs.Laws.{is_some, DivisionsHaveResults, LoadsStayIn, TaggedOperationsHaveResults, QuotientsStayIn, ResultsStayAligned, TaggedResultsStayIn, WrittenYStaysIn}
 use Rattle.sbx_range.specs.Ranges.{InInterval, InRange, IsAligned, is_within, all, both_natural, fit, is_natural, is_single, is_zero, known, range, word_of}
-use Rattle.sbx_range.specs.Rows.{least_product, greatest_product, count_of, divides_naturals, range_add, range_and, range_andn, range_divide, range_or, range_sll, range_smul, range_sra, range_srl, range_sub, range_umul, range_xor, least_alignment, greatest_alignment, product_alignment}
-use Rattle.sbx_range.specs.Table.{is_computed, no_codes, range_of, range_of_tagged, range_of_written_y, range_of_y, row_of}
+use Rattle.sbx_range.specs.Rows.{differences_fit, excludes_zero, sums_fit, least_product, greatest_product, count_of, divides_naturals, range_add, range_and, range_andn, range_divide, range_or, range_sll, range_smul, range_sra, range_srl, range_sub, range_umul, range_xor, least_alignment, greatest_alignment, product_alignment}
+use Rattle.sbx_range.specs.Table.{is_computed, no_codes, range_of, range_of_tagged, range_of_written_y, range_of_y, row_of, tagged_fits}
 use Rattle.sbx_range.proofs.Words.{both_true, by_test, in_all, in_known, is_zero-word, signed-natural, signed-word, single-word}
-use Rattle.sbx_range.proofs.Additions.{in_range_add, in_range_sub}
+use Rattle.sbx_range.proofs.Additions.{difference-fits, in_range_add, in_range_sub, sum-fits}
 use Rattle.sbx_range.proofs.Divided.{in_range_divide}
 use Rattle.sbx_range.proofs.Multiples.{aligned-and, aligned-and_right, aligned-difference, aligned-fewer, aligned-known, aligned-or, aligned-sll, aligned-sll_any, aligned-smul, aligned-sra, aligned-srl, aligned-sum, aligned-umul, aligned-xor}
 use Rattle.sbx_range.proofs.Sound.{computed-same, tagged-value}
@@ -44,8 +45,9 @@ of_min_right j k w h = aligned-fewer (min j k) k w (omega arith) h
 -- the greater of two alignments is one of them
 pub of_max : (j k w : ℕ) → IsAligned j w → IsAligned k w → IsAligned (max j k) w
 of_max j k w h g = elim (cases_lt j k) [
-    inl less ↦ (let e : max j k ≡ k = omega arith in ap (λ i. w % 2 ^ i) e ∙ g)
-  | inr more ↦ (let e : max j k ≡ j = omega arith in ap (λ i. w % 2 ^ i) e ∙ h) ]
+  | inl less ↦ (let e : max j k ≡ k = omega arith in ap (λ i. w % 2 ^ i) e ∙ g)
+  | inr more ↦ (let e : max j k ≡ j = omega arith in ap (λ i. w % 2 ^ i) e ∙ h)
+]
 
 -- ---- rows
 
@@ -65,10 +67,10 @@ of_or a b x y p q s u h g =
     let P : Range → Type 0 = λ r. IsAligned r.alignment (bit_or x y) in
     let both = aligned-or (least_alignment a b) x y (of_min_left a.alignment b.alignment x h) (of_min_right a.alignment b.alignment y g) in
     by_test (is_zero a) P _ _
-        (λ z. let e : bit_or x y ≡ y = ap (λ n. bit_or n y) (is_zero-word a x p z s) in ap (λ n. n % 2 ^ b.alignment) e ∙ g)
-        (λ _. by_test (is_zero b) P _ _
-            (λ z. let e : bit_or x y ≡ x = ap (λ n. bit_or x n) (is_zero-word b y q z u) ∙ or_comm x 0 in ap (λ n. n % 2 ^ a.alignment) e ∙ h)
-            (λ _. either (both_natural a b) _ _ (bit_or x y) both both))
+    (λ z. let e : bit_or x y ≡ y = ap (λ n. bit_or n y) (is_zero-word a x p z s) in ap (λ n. n % 2 ^ b.alignment) e ∙ g)
+    (λ _. by_test (is_zero b) P _ _
+    (λ z. let e : bit_or x y ≡ x = ap (λ n. bit_or x n) (is_zero-word b y q z u) ∙ or_comm x 0 in ap (λ n. n % 2 ^ a.alignment) e ∙ h)
+    (λ _. either (both_natural a b) _ _ (bit_or x y) both both))
 
 of_xor : (a b : Range) (x y : ℕ) → IsAligned a.alignment x → IsAligned b.alignment y → IsAligned (range_xor a b).alignment (bit_xor x y)
 unfolding range_xor
@@ -96,25 +98,25 @@ of_sll : (a b : Range) (x y : ℕ) → x < 2 ^ 32 → y < 2 ^ 32 → InInterval 
 unfolding range_sll
 of_sll a b x y p q u h =
     by_test (is_single b) (λ r. IsAligned r.alignment (shifted_left x y)) _ _
-        (λ t. of_fit (a.lo *ℤ pos (2 ^ count_of b)) (a.hi *ℤ pos (2 ^ count_of b)) (min 3 (a.alignment + count_of b)) (shifted_left x y)
-            (ap (λ k. shifted_left x y % 2 ^ min 3 (a.alignment + k)) (counted b y q t u) ∙ aligned-sll a.alignment x y h))
-        (λ _. aligned-sll_any a.alignment x y p h)
+    (λ t. of_fit (a.lo *ℤ pos (2 ^ count_of b)) (a.hi *ℤ pos (2 ^ count_of b)) (min 3 (a.alignment + count_of b)) (shifted_left x y)
+    (ap (λ k. shifted_left x y % 2 ^ min 3 (a.alignment + k)) (counted b y q t u) ∙ aligned-sll a.alignment x y h))
+    (λ _. aligned-sll_any a.alignment x y p h)
 
 of_srl : (a b : Range) (x y : ℕ) → y < 2 ^ 32 → InInterval b y → IsAligned a.alignment x → IsAligned (range_srl a b).alignment (shifted_right x y)
 unfolding range_srl
 of_srl a b x y q u h =
     let w = shifted_right x y in
     by_test (is_single b) (λ r. IsAligned r.alignment (shifted_right x y)) _ _
-        (λ t. let is : IsAligned (a.alignment - count_of b) (shifted_right x y) = ap (λ k. shifted_right x y % 2 ^ (a.alignment - k)) (counted b y q t u) ∙ aligned-srl a.alignment (y % 32) x h in
-            either (is_natural a.lo || (count_of b == 0)) _ _ (shifted_right x y) is (of_fit (pos 0) (pos (2 ^ (32 - count_of b) - 1)) (a.alignment - count_of b) (shifted_right x y) is))
-        (λ _. either (is_natural a.lo) _ _ (shifted_right x y) (any-word _) (any-word _))
+    (λ t. let is : IsAligned (a.alignment - count_of b) (shifted_right x y) = ap (λ k. shifted_right x y % 2 ^ (a.alignment - k)) (counted b y q t u) ∙ aligned-srl a.alignment (y % 32) x h in
+    either (is_natural a.lo || (count_of b == 0)) _ _ (shifted_right x y) is (of_fit (pos 0) (pos (2 ^ (32 - count_of b) - 1)) (a.alignment - count_of b) (shifted_right x y) is))
+    (λ _. either (is_natural a.lo) _ _ (shifted_right x y) (any-word _) (any-word _))
 
 of_sra : (a b : Range) (x y : ℕ) → x < 2 ^ 32 → y < 2 ^ 32 → InInterval b y → IsAligned a.alignment x → IsAligned (range_sra a b).alignment (shifted_right_signed x y)
 unfolding range_sra
 of_sra a b x y p q u h =
     by_test (is_single b) (λ r. IsAligned r.alignment (shifted_right_signed x y)) _ _
-        (λ t. ap (λ k. shifted_right_signed x y % 2 ^ (a.alignment - k)) (counted b y q t u) ∙ aligned-sra a.alignment x y p h)
-        (λ _. either (is_natural a.lo) _ _ (shifted_right_signed x y) (any-word _) (any-word _))
+    (λ t. ap (λ k. shifted_right_signed x y % 2 ^ (a.alignment - k)) (counted b y q t u) ∙ aligned-sra a.alignment x y p h)
+    (λ _. either (is_natural a.lo) _ _ (shifted_right_signed x y) (any-word _) (any-word _))
 
 of_smul : (a b : Range) (x y : ℕ) → x < 2 ^ 32 → y < 2 ^ 32 → IsAligned a.alignment x → IsAligned b.alignment y → IsAligned (range_smul a b).alignment (low_word (signed_product x y))
 unfolding range_smul
@@ -168,10 +170,10 @@ pub of_range_of : (op : Op) (a b : Range) (x y : ℕ) (icc : Icc) (high : ℕ) �
 unfolding range_of
 of_range_of op a b x y icc high p q s u h g =
     by_test (is_computed op && (is_single a && is_single b)) (λ r. IsAligned r.alignment (outcome op x y icc high).value) _ _
-        (λ t. let both = both_true (is_computed op) (is_single a && is_single b) t in
-            let singles = both_true (is_single a) (is_single b) both.1 in
-            subst (λ w. IsAligned (known w).alignment (outcome op x y icc high).value) (sym (computed-same op a b x y icc high p q s u both.0 singles.0 singles.1)) (aligned-known _))
-        (λ _. of_row op a b x y icc high p q s u h g)
+    (λ t. let both = both_true (is_computed op) (is_single a && is_single b) t in
+    let singles = both_true (is_single a) (is_single b) both.1 in
+    subst (λ w. IsAligned (known w).alignment (outcome op x y icc high).value) (sym (computed-same op a b x y icc high p q s u both.0 singles.0 singles.1)) (aligned-known _))
+    (λ _. of_row op a b x y icc high p q s u h g)
 
 y_aligned : (op : Op) (ys : Range) (x y : ℕ) (icc : Icc) (high : ℕ) → IsAligned ys.alignment high → IsAligned (range_of_y op ys).alignment (outcome op x y icc high).y
 unfolding outcome
@@ -213,13 +215,15 @@ results_stay_aligned op a b ys x y icc high are h g v =
 pub tagged_results_stay_in : TaggedResultsStayIn
 unfolding tagged_outcome
 tagged_results_stay_in TaggedAdd a b x y icc high out are e =
-    let v : sum x y false ≡ out.value = tagged-value _ high (sum x y false) out e in
-    (subst (InInterval (range_add a b)) v (in_range_add a b x y are.first_word are.second_word are.first are.second),
-     λ h g. subst (IsAligned (range_add a b).alignment) v (of_add a b x y are.first_word are.second_word h g))
+    let v : sum x y false ≡ out.value = tagged-value _ high (sum x y false) out e in (
+      subst (InInterval (range_add a b)) v (in_range_add a b x y are.first_word are.second_word are.first are.second),
+      λ h g. subst (IsAligned (range_add a b).alignment) v (of_add a b x y are.first_word are.second_word h g),
+    )
 tagged_results_stay_in TaggedSub a b x y icc high out are e =
-    let v : difference x y false ≡ out.value = tagged-value _ high (difference x y false) out e in
-    (subst (InInterval (range_sub a b)) v (in_range_sub a b x y are.first_word are.second_word are.first are.second),
-     λ h g. subst (IsAligned (range_sub a b).alignment) v (of_sub a b x y are.first_word are.second_word h g))
+    let v : difference x y false ≡ out.value = tagged-value _ high (difference x y false) out e in (
+      subst (InInterval (range_sub a b)) v (in_range_sub a b x y are.first_word are.second_word are.first are.second),
+      λ h g. subst (IsAligned (range_sub a b).alignment) v (of_sub a b x y are.first_word are.second_word h g),
+    )
 
 pub quotients_stay_in : QuotientsStayIn
 quotients_stay_in op ys a b high x y icc are r v =
@@ -233,23 +237,62 @@ pub written_y_stays_in : WrittenYStaysIn
 unfolding range_of_written_y
 written_y_stays_in a b x y icc high are =
     by_test (is_single a && is_single b) (λ r. InRange r (outcome Xor x y icc high).value) _ _
-        (λ t. let singles = both_true (is_single a) (is_single b) t in
-            subst (λ w. InRange (known w) (outcome Xor x y icc high).value)
-                (sym (computed-same Xor a b x y icc high are.first_word are.second_word are.first are.second refl singles.0 singles.1))
-                (record { interval = in_known _; aligned = aligned-known _ }))
-        (λ _. record { interval = in_all 0 _ (xor-word x y icc high are.first_word are.second_word); aligned = any-word _ })
+    (λ t. let singles = both_true (is_single a) (is_single b) t in
+    subst (λ w. InRange (known w) (outcome Xor x y icc high).value)
+    (sym (computed-same Xor a b x y icc high are.first_word are.second_word are.first are.second refl singles.0 singles.1))
+    (record { interval = in_known _; aligned = aligned-known _ }))
+    (λ _. record { interval = in_all 0 _ (xor-word x y icc high are.first_word are.second_word); aligned = any-word _ })
 
--- ---- loads, known words, wider ranges
+-- ---- where there is a result
+
+untagged : (j k x y : ℕ) → nat_le 2 (min j k) ≡ true → IsAligned j x → IsAligned k y → is_tagged x y ≡ false
+untagged j k x y t h g =
+    let le = at_least (min j k) t in
+    let a : x % 2 ^ 2 ≡ 0 = aligned-fewer 2 j x (omega arith) h in
+    let b : y % 2 ^ 2 ≡ 0 = aligned-fewer 2 k y (omega arith) g in
+    grind (arith, nat_tests)
+  where
+    at_least : (n : ℕ) → nat_le 2 n ≡ true → 2 ≤ n
+    at_least n h = grind (arith, nat_tests)
+
+result_of-tagged : (f : Icc) (high v : ℕ) → f.v ≡ false → is_some AluOut (tagged_of f high v) ≡ true
+result_of-tagged f high v e = ap (λ (t : Bool). is_some AluOut (if t then None else Some (record { value = v; icc = f; y = high }))) e
+
+no-flag : (fits tagged : Bool) → fits ≡ true → tagged ≡ false → (not fits || tagged) ≡ false
+no-flag true false e h = refl
+no-flag true true e h = absurd (cc)
+no-flag false t e h = absurd (cc)
+
+pub tagged_operations_have_results : TaggedOperationsHaveResults
+unfolding tagged_outcome
+tagged_operations_have_results TaggedAdd a b x y icc high are h g t =
+    let both = both_true (nat_le 2 (least_alignment a b)) (sums_fit a b) t in
+    result_of-tagged (tagged_codes x y (sum_codes x y false)) high (sum x y false)
+    (no-flag (is_signed_word (signed x +ℤ signed y +ℤ pos 0)) (is_tagged x y) (sum-fits a b x y are.first are.second both.1) (untagged a.alignment b.alignment x y both.0 h g))
+tagged_operations_have_results TaggedSub a b x y icc high are h g t =
+    let both = both_true (nat_le 2 (least_alignment a b)) (differences_fit a b) t in
+    result_of-tagged (tagged_codes x y (difference_codes x y false)) high (difference x y false)
+    (no-flag (is_signed_word (signed x -ℤ signed y -ℤ pos 0)) (is_tagged x y) (difference-fits a b x y are.first are.second both.1) (untagged a.alignment b.alignment x y both.0 h g))
+
+not_zero : (b : Range) (y : ℕ) → y < 2 ^ 32 → InInterval b y → excludes_zero b ≡ true → (y == 0) ≡ false
+not_zero b y q u t = let low = u.low in let high = u.high in let c = signed-word y q in grind (arith, ints, nat_tests)
+
+pub divisions_have_results : DivisionsHaveResults
+divisions_have_results op b x y icc high q u t = ap (λ (z : Bool). if z then None else Some (divided op x y icc high)) (not_zero b y q u t)
+
+-- ---- loads, wider ranges
 
 sign-byte : (n : ℕ) → n < 2 ^ 8 → (negsuc 127 ≤ℤ signed (sign_extend 8 n)) × (signed (sign_extend 8 n) ≤ℤ pos 127)
 sign-byte n h = elim (cases_lt n 128) [
-    inl small ↦ (let e : sign_extend 8 n ≡ n = grind (arith, nat_tests) in let r = signed-natural n (omega arith) in (rw (e, r) (omega (arith, ints)), rw (e, r) (omega (arith, ints))))
-  | inr large ↦ (let e : sign_extend 8 n ≡ n + (2 ^ 32 - 2 ^ 8) = grind (arith, nat_tests) in let w = signed-word (n + (2 ^ 32 - 2 ^ 8)) (omega arith) in (rw e (grind (arith, ints)), rw e (grind (arith, ints)))) ]
+  | inl small ↦ (let e : sign_extend 8 n ≡ n = grind (arith, nat_tests) in let r = signed-natural n (omega arith) in (rw (e, r) (omega (arith, ints)), rw (e, r) (omega (arith, ints))))
+  | inr large ↦ (let e : sign_extend 8 n ≡ n + (2 ^ 32 - 2 ^ 8) = grind (arith, nat_tests) in let w = signed-word (n + (2 ^ 32 - 2 ^ 8)) (omega arith) in (rw e (grind (arith, ints)), rw e (grind (arith, ints))))
+]
 
 sign-half : (n : ℕ) → n < 2 ^ 16 → (negsuc 32767 ≤ℤ signed (sign_extend 16 n)) × (signed (sign_extend 16 n) ≤ℤ pos 32767)
 sign-half n h = elim (cases_lt n 32768) [
-    inl small ↦ (let e : sign_extend 16 n ≡ n = grind (arith, nat_tests) in let r = signed-natural n (omega arith) in (rw (e, r) (omega (arith, ints)), rw (e, r) (omega (arith, ints))))
-  | inr large ↦ (let e : sign_extend 16 n ≡ n + (2 ^ 32 - 2 ^ 16) = grind (arith, nat_tests) in let w = signed-word (n + (2 ^ 32 - 2 ^ 16)) (omega arith) in (rw e (grind (arith, ints)), rw e (grind (arith, ints)))) ]
+  | inl small ↦ (let e : sign_extend 16 n ≡ n = grind (arith, nat_tests) in let r = signed-natural n (omega arith) in (rw (e, r) (omega (arith, ints)), rw (e, r) (omega (arith, ints))))
+  | inr large ↦ (let e : sign_extend 16 n ≡ n + (2 ^ 32 - 2 ^ 16) = grind (arith, nat_tests) in let w = signed-word (n + (2 ^ 32 - 2 ^ 16)) (omega arith) in (rw e (grind (arith, ints)), rw e (grind (arith, ints))))
+]
 
 -- a word from 0 up to a bound
 small_in : (h n : ℕ) → n ≤ h → h < 2 ^ 31 → (l : ℤ) → l ≤ℤ pos 0 → InRange (range l (pos h) 0) n
@@ -259,15 +302,16 @@ small_in h n le top l low =
 
 pub loads_stay_in : LoadsStayIn
 loads_stay_in = record {
-    unsigned_bytes = λ n h. small_in 255 n (omega arith) (omega arith) (pos 0) (omega (arith, ints));
-    unsigned_halves = λ n h. small_in 65535 n (omega arith) (omega arith) (pos 0) (omega (arith, ints));
-    signed_bytes = λ n h. (let s = sign-byte n h in record { interval = record { low = s.0; high = s.1 }; aligned = any-word _ });
-    signed_halves = λ n h. (let s = sign-half n h in record { interval = record { low = s.0; high = s.1 }; aligned = any-word _ });
-    bytes_of_input = λ n h. small_in 255 n (omega arith) (omega arith) (negsuc 0) (omega (arith, ints));
-    end_of_input = record { interval = record { low = omega (arith, ints); high = omega (arith, ints) }; aligned = refl };
-  }
+  are = (refl, refl, refl, refl, refl);
+  unsigned_bytes = λ n h. small_in 255 n (omega arith) (omega arith) (pos 0) (omega (arith, ints));
+  unsigned_halves = λ n h. small_in 65535 n (omega arith) (omega arith) (pos 0) (omega (arith, ints));
+  signed_bytes = λ n h. (let s = sign-byte n h in record { interval = record { low = s.0; high = s.1 }; aligned = any-word _ });
+  signed_halves = λ n h. (let s = sign-half n h in record { interval = record { low = s.0; high = s.1 }; aligned = any-word _ });
+  bytes_of_input = λ n h. small_in 255 n (omega arith) (omega arith) (negsuc 0) (omega (arith, ints));
+  end_of_input = record { interval = record { low = omega (arith, ints); high = omega (arith, ints) }; aligned = refl };
+}
 
-wider_ends : (a b : Range) (w : ℕ) → is_within a b ≡ true → InInterval a w → InInterval b w
+pub wider_ends : (a b : Range) (w : ℕ) → is_within a b ≡ true → InInterval a w → InInterval b w
 wider_ends a b w t s =
     let both = both_true (not (int_lt a.lo b.lo) && not (int_lt b.hi a.hi)) (nat_le b.alignment a.alignment) t in
     let ends = both_true (not (int_lt a.lo b.lo)) (not (int_lt b.hi a.hi)) both.0 in
@@ -280,17 +324,10 @@ wider_ends a b w t s =
     not_less : (x y : ℤ) → not (int_lt x y) ≡ true → y ≤ℤ x
     not_less x y h = grind (arith, ints)
 
-wider : (a b : Range) (w : ℕ) → is_within a b ≡ true → InRange a w → InRange b w
+pub wider : (a b : Range) (w : ℕ) → is_within a b ≡ true → InRange a w → InRange b w
 wider a b w t s =
     let both = both_true (not (int_lt a.lo b.lo) && not (int_lt b.hi a.hi)) (nat_le b.alignment a.alignment) t in
     record { interval = wider_ends a b w t s.interval; aligned = aligned-fewer b.alignment a.alignment w (at_most b.alignment a.alignment both.1) s.aligned }
   where
     at_most : (j k : ℕ) → nat_le j k ≡ true → j ≤ k
     at_most j k h = grind (arith, nat_tests)
-
-pub words_stay_in : WordsStayIn
-words_stay_in = record {
-    of_known = λ w. record { interval = in_known w; aligned = aligned-known w };
-    of_wider = wider;
-    of_wider_interval = wider_ends;
-  }

@@ -10,6 +10,7 @@ use Rattle.std.proofs.lemmas.Int.{ints, clamps}
 use Rattle.v8_alu.specs.Results.{signed}
 use Rattle.v8_alu.specs.Outcomes.{complement}
 use Rattle.sbx_image.specs.declared.parts.Range.{Range}
+use Rattle.sbx_range.specs.Laws.{OnesAreLeast}
 use Rattle.sbx_range.specs.Ranges.{InInterval, range, is_zero, is_natural, both_natural}
 use Rattle.sbx_range.specs.Rows.{least_alignment, greatest_alignment, natural_of, ones_above, ones_of, range_or, range_and, range_andn, range_xor}
 use Rattle.sbx_range.proofs.Words.{in_all, both_true, by_test, signed-natural, natural-word, is_zero-word}
@@ -48,16 +49,17 @@ no-zeros (suc k) (suc n) h = no-zeros k (suc n / 2) (le-div (2 ^ k) (suc n) 2 (o
 -- each word whose bits lie among those of numbers up to n
 pub at-most-ones : (n w : ℕ) → w < 2 ^ 32 → ((k : ℕ) → n < 2 ^ k → w < 2 ^ k) → w ≤ ones_above n
 at-most-ones n w p has = elim (cases_lt n (2 ^ 32)) [
-    inl small ↦
-        (let o = ones_above-bound n small in
-        let k : ℕ = o.0 in
-        let e : ones_above n ≡ 2 ^ k - 1 = o.4 in
-        let b : w < 2 ^ k = has k o.2 in
-        omega arith)
+  | inl small ↦
+      (let o = ones_above-bound n small in
+      let k : ℕ = o.0 in
+      let e : ones_above n ≡ 2 ^ k - 1 = o.4 in
+      let b : w < 2 ^ k = has k o.2 in
+      omega arith)
   | inr large ↦
-        (let z : leading_zeros w32 n ≡ 0 = no-zeros 32 n large in
-        let e : ones_above n ≡ 2 ^ 32 - 1 = ap (λ j. 2 ^ (32 - j) - 1) z in
-        omega arith) ]
+      (let z : leading_zeros w32 n ≡ 0 = no-zeros 32 n large in
+      let e : ones_above n ≡ 2 ^ 32 - 1 = ap (λ j. 2 ^ (32 - j) - 1) z in
+      omega arith)
+]
 
 -- ---- OR and XOR
 
@@ -106,10 +108,10 @@ unfolding range_or
 in_range_or a b x y p q s u =
     let P : Range → Type 0 = λ r. InInterval r (bit_or x y) in
     by_test (is_zero a) P _ _
-        (λ z. let e : bit_or x y ≡ y = ap (λ n. bit_or n y) (is_zero-word a x p z s) ∙ zero_or y in subst (InInterval b) (sym e) u)
-        (λ _. by_test (is_zero b) P _ _
-            (λ z. let e : bit_or x y ≡ x = ap (λ n. bit_or x n) (is_zero-word b y q z u) ∙ (or_comm x 0 ∙ zero_or x) in subst (InInterval a) (sym e) s)
-            (λ _. by_test (both_natural a b) P _ _ (λ t. or-natural a b x y (are_natural a b x y p q t s u) s u) (λ _. in_all (least_alignment a b) (bit_or x y) (or_lt 32 x y p q))))
+    (λ z. let e : bit_or x y ≡ y = ap (λ n. bit_or n y) (is_zero-word a x p z s) ∙ zero_or y in subst (InInterval b) (sym e) u)
+    (λ _. by_test (is_zero b) P _ _
+    (λ z. let e : bit_or x y ≡ x = ap (λ n. bit_or x n) (is_zero-word b y q z u) ∙ (or_comm x 0 ∙ zero_or x) in subst (InInterval a) (sym e) s)
+    (λ _. by_test (both_natural a b) P _ _ (λ t. or-natural a b x y (are_natural a b x y p q t s u) s u) (λ _. in_all (least_alignment a b) (bit_or x y) (or_lt 32 x y p q))))
 
 xor-natural : (a b : Range) (x y : ℕ) → AreNatural a b x y → InInterval (range (pos 0) (ones_of a b) (least_alignment a b)) (bit_xor x y)
 xor-natural a b x y n =
@@ -121,8 +123,8 @@ pub in_range_xor : (a b : Range) (x y : ℕ) → x < 2 ^ 32 → y < 2 ^ 32 → I
 unfolding range_xor
 in_range_xor a b x y p q s u =
     by_test (both_natural a b) (λ r. InInterval r (bit_xor x y)) _ _
-        (λ t. xor-natural a b x y (are_natural a b x y p q t s u))
-        (λ _. in_all (least_alignment a b) (bit_xor x y) (xor_lt 32 x y p q))
+    (λ t. xor-natural a b x y (are_natural a b x y p q t s u))
+    (λ _. in_all (least_alignment a b) (bit_xor x y) (xor_lt 32 x y p q))
 
 -- ---- AND and ANDN
 
@@ -140,18 +142,30 @@ in_range_and a b x y p q s u =
     let left : is_natural a.lo ≡ true → (pos 0 ≤ℤ signed (bit_and x y)) × (signed (bit_and x y) ≤ℤ a.hi) = λ t. and-below a.hi x _ (natural-word a.lo x p t s.low) (and_le_l x y) s.high in
     let right : is_natural b.lo ≡ true → (pos 0 ≤ℤ signed (bit_and x y)) × (signed (bit_and x y) ≤ℤ b.hi) = λ t. and-below b.hi y _ (natural-word b.lo y q t u.low) (and_le_r x y) u.high in
     by_test (both_natural a b) P _ _
-        (λ t. let both = both_true (is_natural a.lo) (is_natural b.lo) t in
-            let l = left both.0 in
-            let r = right both.1 in
-            record { low = l.0; high = omega (arith, ints, clamps) })
-        (λ _. by_test (is_natural a.lo) P _ _ (λ t. record { low = (left t).0; high = (left t).1 })
-            (λ _. by_test (is_natural b.lo) P _ _ (λ t. record { low = (right t).0; high = (right t).1 })
-                (λ _. in_all (greatest_alignment a b) (bit_and x y) (let g = and_le_l x y in omega arith))))
+    (λ t. let both = both_true (is_natural a.lo) (is_natural b.lo) t in
+    let l = left both.0 in
+    let r = right both.1 in
+    record { low = l.0; high = omega (arith, ints, clamps) })
+    (λ _. by_test (is_natural a.lo) P _ _ (λ t. record { low = (left t).0; high = (left t).1 })
+    (λ _. by_test (is_natural b.lo) P _ _ (λ t. record { low = (right t).0; high = (right t).1 })
+    (λ _. in_all (greatest_alignment a b) (bit_and x y) (let g = and_le_l x y in omega arith))))
 
 pub in_range_andn : (a b : Range) (x y : ℕ) → x < 2 ^ 32 → InInterval a x → InInterval (range_andn a b) (bit_and x (complement y))
 unfolding range_andn
 in_range_andn a b x y p s =
     let less = and_le_l x (complement y) in
     by_test (is_natural a.lo) (λ r. InInterval r (bit_and x (complement y))) _ _
-        (λ t. let h = and-below a.hi x _ (natural-word a.lo x p t s.low) less s.high in record { low = h.0; high = h.1 })
-        (λ _. in_all a.alignment (bit_and x (complement y)) (omega arith))
+    (λ t. let h = and-below a.hi x _ (natural-word a.lo x p t s.low) less s.high in record { low = h.0; high = h.1 })
+    (λ _. in_all a.alignment (bit_and x (complement y)) (omega arith))
+
+-- the power of a lesser exponent is not above n
+least-exponent : (k j n : ℕ) → 2 ^ k ≤ 2 * n + 1 → n < 2 ^ j → k ≤ j
+least-exponent k j n most above = elim (cases_lt j k) [
+  | inl less ↦ absurd (let m = pow_mono {i = suc j} {j = k} less in let d : 2 ^ suc j ≡ 2 * 2 ^ j = omega arith in omega arith)
+  | inr more ↦ more
+]
+
+pub ones_are_least : OnesAreLeast
+ones_are_least n h =
+    let o = ones_above-bound n h in
+    (o.0, o.4, o.2, λ j above. least-exponent o.0 j n o.3 above)

@@ -99,10 +99,10 @@ pub in_range_divide : (op : Division) (above a b : Range) (high x y : ℕ) (icc 
 unfolding range_divide
 in_range_divide op above a b high x y icc r p q v s u =
     by_test (divides_naturals above a b) (λ r. InInterval r (divided op x y icc high).value) _ _
-        (λ t. let both = both_true (is_zero above && is_natural a.lo) (int_lt (pos 0) b.lo && int_lt (pos 0) b.hi) t in
-            let first = both_true (is_zero above) (is_natural a.lo) both.0 in
-            let second = both_true (int_lt (pos 0) b.lo) (int_lt (pos 0) b.hi) both.1 in
-            let none : high ≡ 0 = is_zero-word above high r first.0 v in
-            let F : ℕ → Type 0 = λ n. InInterval (range (int_div a.lo b.hi) (int_div a.hi b.lo) 0) (divided op x y icc n).value in
-            subst F (sym none) (naturals op a b x y icc p q first.1 second.0 s u))
-        (λ _. in_all 0 (divided op x y icc high).value (divided-word op x y icc high))
+    (λ t. let both = both_true (is_zero above && is_natural a.lo) (int_lt (pos 0) b.lo && int_lt (pos 0) b.hi) t in
+    let first = both_true (is_zero above) (is_natural a.lo) both.0 in
+    let second = both_true (int_lt (pos 0) b.lo) (int_lt (pos 0) b.hi) both.1 in
+    let none : high ≡ 0 = is_zero-word above high r first.0 v in
+    let F : ℕ → Type 0 = λ n. InInterval (range (int_div a.lo b.hi) (int_div a.hi b.lo) 0) (divided op x y icc n).value in
+    subst F (sym none) (naturals op a b x y icc p q first.1 second.0 s u))
+    (λ _. in_all 0 (divided op x y icc high).value (divided-word op x y icc high))

@@ -13,12 +13,12 @@ use Rattle.v8_word.specs.declared.Cond.TheVariants.{Never, Equal, LessOrEqual, L
 use Rattle.v8_alu.specs.Results.{signed, codes, difference_codes}
 use Rattle.sbx_image.specs.declared.parts.Range.{Range}
 use Rattle.sbx_range.specs.declared.refining.Pair.{Pair}
-use Rattle.sbx_range.specs.Laws.{AreIn, HasSigns, IsRange, KeepsBoth, OneEdgeIsLeft, RefinementKeepsPairs, RefinementKeepsWords, is_some}
+use Rattle.sbx_range.specs.Laws.{AreIn, HasSigns, IsRange, KeepsBoth, OneEdgeIsLeft, RefinementKeepsPairs, RefinementKeepsWords, WordsStayIn, is_some}
 use Rattle.sbx_range.specs.Ranges.{InInterval, IsAligned, both_natural, is_empty, is_natural, is_single, known, range}
 use Rattle.sbx_range.specs.Refining.{above_unsigned, below, below_unsigned, both_of, common, from_zero, left_below, lowered, narrowed, narrowed_by_value, opposite, pair, raised, refine, refine_by_value, right_below, some_pair, some_range, turned, without}
 use Rattle.sbx_range.proofs.Words.{both_true, by_test, in_known, natural-word, signed-natural, signed-written, written-below}
 use Rattle.sbx_range.proofs.Multiples.{aligned-known}
-use Rattle.sbx_range.proofs.Alignments.{of_max}
+use Rattle.sbx_range.proofs.Alignments.{of_max, wider, wider_ends}
 use Rattle.sbx_range.proofs.Compared.{carry-denies, carry-says, either-true, less-denies, less-says, neither, not-true, sign-false, sign-true, word-same, zero-denies, zero-says}
 
 -- ---- each way to narrow keeps the words of which its relation holds
@@ -29,7 +29,7 @@ keeps-below d a b x y s u le =
     let l = s.low in let h = s.high in let m = u.low in let k = u.high in
     record {
       left = record { low = s.low; high = omega (arith, ints, clamps) };
-      right = record { low = omega (arith, ints, clamps); high = u.high }
+      right = record { low = omega (arith, ints, clamps); high = u.high };
     }
 
 keeps-turned : (p : Pair) (x y : ℕ) → KeepsBoth p y x → KeepsBoth (turned p) x y
@@ -49,22 +49,22 @@ keeps-below_unsigned : (d : ℕ) (a b : Range) (x y : ℕ) → y < 2 ^ 32 → In
 unfolding below_unsigned
 keeps-below_unsigned d a b x y q s u le =
     elim_pair (is_natural b.lo) (λ r. KeepsBoth r x y) (below d (from_zero a) b) (pair a b)
-        (λ t. let small = natural-word b.lo y q t u.low in
-            let rx : signed x ≡ pos x = signed-natural x (omega arith) in
-            let ry : signed y ≡ pos y = signed-natural y small in
-            let l = s.low in
-            keeps-below d (from_zero a) b x y (record { low = omega (arith, ints, clamps); high = s.high }) u (omega (arith, ints)))
-        (λ _. record { left = s; right = u })
+    (λ t. let small = natural-word b.lo y q t u.low in
+    let rx : signed x ≡ pos x = signed-natural x (omega arith) in
+    let ry : signed y ≡ pos y = signed-natural y small in
+    let l = s.low in
+    keeps-below d (from_zero a) b x y (record { low = omega (arith, ints, clamps); high = s.high }) u (omega (arith, ints)))
+    (λ _. record { left = s; right = u })
 
 keeps-above_unsigned : (d : ℕ) (a b : Range) (x y : ℕ) → x < 2 ^ 32 → y < 2 ^ 32 → InInterval a x → InInterval b y → y + d ≤ x → KeepsBoth (above_unsigned d a b) x y
 unfolding above_unsigned
 keeps-above_unsigned d a b x y p q s u le =
     elim_pair (both_natural a b) (λ r. KeepsBoth r x y) (turned (below d b a)) (pair a b)
-        (λ t. let both = both_true (is_natural a.lo) (is_natural b.lo) t in
-            let rx : signed x ≡ pos x = signed-natural x (natural-word a.lo x p both.0 s.low) in
-            let ry : signed y ≡ pos y = signed-natural y (natural-word b.lo y q both.1 u.low) in
-            keeps-turned (below d b a) x y (keeps-below d b a y x u s (omega (arith, ints))))
-        (λ _. record { left = s; right = u })
+    (λ t. let both = both_true (is_natural a.lo) (is_natural b.lo) t in
+    let rx : signed x ≡ pos x = signed-natural x (natural-word a.lo x p both.0 s.low) in
+    let ry : signed y ≡ pos y = signed-natural y (natural-word b.lo y q both.1 u.low) in
+    keeps-turned (below d b a) x y (keeps-below d b a y x u s (omega (arith, ints))))
+    (λ _. record { left = s; right = u })
 
 by_case : (t : Bool) (P : ℤ → Type 0) (r s : ℤ) → (t ≡ true → P r) → (t ≡ false → P s) → P (if t then r else s)
 by_case true P r s when_true when_false = when_true refl
@@ -83,15 +83,15 @@ keeps-without : (a b : Range) (x y : ℕ) → InInterval a x → InInterval b y 
 unfolding without
 keeps-without a b x y s u apart =
     by_test (is_single b) (λ r. InInterval r x) _ _
-        (λ t. let e : b.lo ≡ b.hi = (Decides-int_eq b.lo b.hi).0 t in
-            let ul = u.low in let uh = u.high in
-            let m : signed y ≡ b.lo = omega (arith, ints) in
-            let apart_here : signed x ≢ b.lo = λ g. apart (g ∙ sym m) in
-            record {
-              low = by_case (int_eq a.lo b.lo) (λ z. z ≤ℤ signed x) _ _ (λ g. above-unequal a.lo b.lo (signed x) ((Decides-int_eq a.lo b.lo).0 g) s.low apart_here) (λ _. s.low);
-              high = by_case (int_eq a.hi b.lo) (λ z. signed x ≤ℤ z) _ _ (λ g. below-unequal a.hi b.lo (signed x) ((Decides-int_eq a.hi b.lo).0 g) s.high apart_here) (λ _. s.high)
-            })
-        (λ _. s)
+    (λ t. let e : b.lo ≡ b.hi = (Decides-int_eq b.lo b.hi).0 t in
+    let ul = u.low in let uh = u.high in
+    let m : signed y ≡ b.lo = omega (arith, ints) in
+    let apart_here : signed x ≢ b.lo = λ g. apart (g ∙ sym m) in
+    record {
+      low = by_case (int_eq a.lo b.lo) (λ z. z ≤ℤ signed x) _ _ (λ g. above-unequal a.lo b.lo (signed x) ((Decides-int_eq a.lo b.lo).0 g) s.low apart_here) (λ _. s.low);
+      high = by_case (int_eq a.hi b.lo) (λ z. signed x ≤ℤ z) _ _ (λ g. below-unequal a.hi b.lo (signed x) ((Decides-int_eq a.hi b.lo).0 g) s.high apart_here) (λ _. s.high);
+    })
+    (λ _. s)
 
 -- ---- by conditions
 
@@ -113,8 +113,9 @@ order-kept x y e = let g = ap signed e in omega (arith, ints)
 
 le-says : (x y : ℕ) → x < 2 ^ 32 → y < 2 ^ 32 → holds LessOrEqual (difference_codes x y false) ≡ true → signed x ≤ℤ signed y
 le-says x y p q h = elim (either-true (difference_codes x y false).z (holds Less (difference_codes x y false)) h) [
-    inl z ↦ order-kept x y (zero-says x y p q z)
-  | inr l ↦ (let g = less-says x y p q l in omega (arith, ints)) ]
+  | inl z ↦ order-kept x y (zero-says x y p q z)
+  | inr l ↦ (let g = less-says x y p q l in omega (arith, ints))
+]
 
 strict : (v w : ℤ) → v ≤ℤ w → v ≢ w → (v +ℤ pos 1) ≤ℤ w
 strict v w le apart = elim (cases_le_z (v +ℤ pos 1) w) [ inl h ↦ h | inr h ↦ absurd (apart (omega (arith, ints))) ]
@@ -127,8 +128,9 @@ greater-says x y p q h =
 
 leu-says : (x y : ℕ) → x < 2 ^ 32 → y < 2 ^ 32 → holds LessOrEqualUnsigned (difference_codes x y false) ≡ true → x + 0 ≤ y
 leu-says x y p q h = elim (either-true (difference_codes x y false).c (difference_codes x y false).z h) [
-    inl c ↦ (let g = carry-says x y c in omega arith)
-  | inr z ↦ (let e = zero-says x y p q z in omega arith) ]
+  | inl c ↦ (let g = carry-says x y c in omega arith)
+  | inr z ↦ (let e = zero-says x y p q z in omega arith)
+]
 
 gu-says : (x y : ℕ) → x < 2 ^ 32 → y < 2 ^ 32 → holds GreaterUnsigned (difference_codes x y false) ≡ true → y + 1 ≤ x
 gu-says x y p q h =
@@ -189,13 +191,13 @@ below_unsigned-aligned : (d : ℕ) (a b : Range) (x y : ℕ) → IsAligned a.ali
 unfolding below_unsigned
 below_unsigned-aligned d a b x y h g =
     elim_pair (is_natural b.lo) (λ r. AreMultiples r x y) (below d (from_zero a) b) (pair a b)
-        (λ _. below-aligned d (from_zero a) b x y h g) (λ _. record { left = h; right = g })
+    (λ _. below-aligned d (from_zero a) b x y h g) (λ _. record { left = h; right = g })
 
 above_unsigned-aligned : (d : ℕ) (a b : Range) (x y : ℕ) → IsAligned a.alignment x → IsAligned b.alignment y → AreMultiples (above_unsigned d a b) x y
 unfolding above_unsigned
 above_unsigned-aligned d a b x y h g =
     elim_pair (both_natural a b) (λ r. AreMultiples r x y) (turned (below d b a)) (pair a b)
-        (λ _. turned-aligned (below d b a) x y (below-aligned d b a y x g h)) (λ _. record { left = h; right = g })
+    (λ _. turned-aligned (below d b a) x y (below-aligned d b a y x g h)) (λ _. record { left = h; right = g })
 
 narrowed-aligned : (cond : Cond) (a b : Range) (x y : ℕ) → x < 2 ^ 32 → y < 2 ^ 32 → holds cond (difference_codes x y false) ≡ true → IsAligned a.alignment x → IsAligned b.alignment y → AreMultiples (narrowed cond a b) x y
 unfolding narrowed
@@ -350,8 +352,8 @@ compared-edge cond a b r s =
     let i = low-word a r in
     let j = low-word b s in
     left-edge _ _ (holds cond (difference_codes (cast_unsigned w32 a.lo) (cast_unsigned w32 b.lo) false))
-        (λ t. some-is Pair _ _ (refine-some cond a b _ _ (keeps-narrowed cond a b (cast_unsigned w32 a.lo) (cast_unsigned w32 b.lo) i.1 j.1 i.0 j.0 t)))
-        (λ t. some-is Pair _ _ (refine-some (opposite cond) a b _ _ (keeps-narrowed (opposite cond) a b (cast_unsigned w32 a.lo) (cast_unsigned w32 b.lo) i.1 j.1 i.0 j.0 (holds-opposite cond _ ∙ t))))
+    (λ t. some-is Pair _ _ (refine-some cond a b _ _ (keeps-narrowed cond a b (cast_unsigned w32 a.lo) (cast_unsigned w32 b.lo) i.1 j.1 i.0 j.0 t)))
+    (λ t. some-is Pair _ _ (refine-some (opposite cond) a b _ _ (keeps-narrowed (opposite cond) a b (cast_unsigned w32 a.lo) (cast_unsigned w32 b.lo) i.1 j.1 i.0 j.0 (holds-opposite cond _ ∙ t))))
 
 value-edge : (cond : Cond) (a : Range) → IsRange a → (is_some Range (refine_by_value cond a) || is_some Range (refine_by_value (opposite cond) a)) ≡ true
 unfolding refine_by_value
@@ -360,8 +362,19 @@ value-edge cond a r =
     let f : Icc = codes (cast_unsigned w32 a.lo) false false in
     let signs : HasSigns (codes (cast_unsigned w32 a.lo) false false) (cast_unsigned w32 a.lo) = record { zero = refl; negative = refl } in
     left-edge _ _ (holds cond (codes (cast_unsigned w32 a.lo) false false))
-        (λ t. some-is Range _ _ (some-word (narrowed_by_value cond a) (cast_unsigned w32 a.lo) (keeps-value cond a (cast_unsigned w32 a.lo) _ i.1 i.0 signs t)))
-        (λ t. some-is Range _ _ (some-word (narrowed_by_value (opposite cond) a) (cast_unsigned w32 a.lo) (keeps-value (opposite cond) a (cast_unsigned w32 a.lo) _ i.1 i.0 signs (holds-opposite cond _ ∙ t))))
+    (λ t. some-is Range _ _ (some-word (narrowed_by_value cond a) (cast_unsigned w32 a.lo) (keeps-value cond a (cast_unsigned w32 a.lo) _ i.1 i.0 signs t)))
+    (λ t. some-is Range _ _ (some-word (narrowed_by_value (opposite cond) a) (cast_unsigned w32 a.lo) (keeps-value (opposite cond) a (cast_unsigned w32 a.lo) _ i.1 i.0 signs (holds-opposite cond _ ∙ t))))
 
 pub one_edge_is_left : OneEdgeIsLeft
 one_edge_is_left = record { compared = compared-edge; by_value = value-edge }
+
+-- ---- words and ranges
+
+pub words_stay_in : WordsStayIn
+words_stay_in = record {
+  of_known = λ w. record { interval = in_known w; aligned = aligned-known w };
+  of_common = λ a b w s u. (let k = keeps-common a b w s u in (k, some-word (common a b) w k));
+  of_common_alignment = common-aligned;
+  of_wider = wider;
+  of_wider_interval = wider_ends;
+}

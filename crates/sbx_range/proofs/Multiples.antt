@@ -81,26 +81,28 @@ zero_aligned k = let e : 0 * 2 ^ k ≡ 0 = omega arith in ap (λ m. m % 2 ^ k) (
 
 pub aligned-sum : (k x y : ℕ) → x < 2 ^ 32 → y < 2 ^ 32 → x % 2 ^ k ≡ 0 → y % 2 ^ k ≡ 0 → sum x y false % 2 ^ k ≡ 0
 aligned-sum k x y p q h g = elim (cases_lt k 32) [
-    inl small ↦
-        (let z : x + y + 0 ≡ x + y = omega arith in
-        aligned-word k (x + y + 0) (omega arith) (ap (λ m. m % 2 ^ k) z ∙ aligned-plus k x y h g))
+  | inl small ↦
+      (let z : x + y + 0 ≡ x + y = omega arith in
+      aligned-word k (x + y + 0) (omega arith) (ap (λ m. m % 2 ^ k) z ∙ aligned-plus k x y h g))
   | inr large ↦
-        (let a = none-left k x large p h in
-        let b = none-left k y large q g in
-        let e : sum x y false ≡ 0 = omega arith in
-        ap (λ m. m % 2 ^ k) e ∙ zero_aligned k) ]
+      (let a = none-left k x large p h in
+      let b = none-left k y large q g in
+      let e : sum x y false ≡ 0 = omega arith in
+      ap (λ m. m % 2 ^ k) e ∙ zero_aligned k)
+]
 
 pub aligned-difference : (k x y : ℕ) → x < 2 ^ 32 → y < 2 ^ 32 → x % 2 ^ k ≡ 0 → y % 2 ^ k ≡ 0 → difference x y false % 2 ^ k ≡ 0
 aligned-difference k x y p q h g = elim (cases_lt k 32) [
-    inl small ↦
-        (let z : x + 2 ^ 32 - (y + 0) ≡ x + 2 ^ 32 - y = omega arith in
-        aligned-word k (x + 2 ^ 32 - (y + 0)) (omega arith)
-            (ap (λ m. m % 2 ^ k) z ∙ aligned-minus k (x + 2 ^ 32) y (aligned-plus k x (2 ^ 32) h (aligned-power k 32 (omega arith))) g))
+  | inl small ↦
+      (let z : x + 2 ^ 32 - (y + 0) ≡ x + 2 ^ 32 - y = omega arith in
+      aligned-word k (x + 2 ^ 32 - (y + 0)) (omega arith)
+      (ap (λ m. m % 2 ^ k) z ∙ aligned-minus k (x + 2 ^ 32) y (aligned-plus k x (2 ^ 32) h (aligned-power k 32 (omega arith))) g))
   | inr large ↦
-        (let a = none-left k x large p h in
-        let b = none-left k y large q g in
-        let e : difference x y false ≡ 0 = omega arith in
-        ap (λ m. m % 2 ^ k) e ∙ zero_aligned k) ]
+      (let a = none-left k x large p h in
+      let b = none-left k y large q g in
+      let e : difference x y false ≡ 0 = omega arith in
+      ap (λ m. m % 2 ^ k) e ∙ zero_aligned k)
+]
 
 -- ---- logical operations
 
@@ -140,14 +142,15 @@ aligned-sll j x y h = aligned-umul j (y % 32) x (2 ^ (y % 32)) h (aligned-power 
 -- by any count a shift to the left keeps what there is
 pub aligned-sll_any : (j x y : ℕ) → x < 2 ^ 32 → x % 2 ^ j ≡ 0 → shifted_left x y % 2 ^ j ≡ 0
 aligned-sll_any j x y p h = elim (cases_lt j 32) [
-    inl small ↦
-        (let k = y % 32 in
-        let m = aligned-product j (y % 32) x (2 ^ (y % 32)) h (aligned-power (y % 32) (y % 32) (omega arith)) in
-        aligned-word j (x * 2 ^ (y % 32)) (omega arith) (aligned-fewer j (j + y % 32) (x * 2 ^ (y % 32)) (omega arith) m))
+  | inl small ↦
+      (let k = y % 32 in
+      let m = aligned-product j (y % 32) x (2 ^ (y % 32)) h (aligned-power (y % 32) (y % 32) (omega arith)) in
+      aligned-word j (x * 2 ^ (y % 32)) (omega arith) (aligned-fewer j (j + y % 32) (x * 2 ^ (y % 32)) (omega arith) m))
   | inr large ↦
-        (let a = none-left j x large p h in
-        let e : shifted_left x y ≡ 0 = ap (λ n. (n * 2 ^ (y % 32)) % 2 ^ 32) a ∙ none-shifted (2 ^ (y % 32)) in
-        ap (λ m. m % 2 ^ j) e ∙ zero_aligned j) ]
+      (let a = none-left j x large p h in
+      let e : shifted_left x y ≡ 0 = ap (λ n. (n * 2 ^ (y % 32)) % 2 ^ 32) a ∙ none-shifted (2 ^ (y % 32)) in
+      ap (λ m. m % 2 ^ j) e ∙ zero_aligned j)
+]
   where
     none-shifted : (n : ℕ) → (0 * n) % 2 ^ 32 ≡ 0
     none-shifted n = omega arith
@@ -159,8 +162,9 @@ abs-of (negsuc n) x b e = omega (arith, ints)
 
 abs-below : (x : ℕ) → x < 2 ^ 32 → unsigned_abs (signed x) ≤ 2 ^ 31
 abs-below x b = elim (signed-word x b) [
-    inl w ↦ (let e : unsigned_abs (signed x) ≡ x = ap unsigned_abs w.0 in let s = w.1 in omega arith)
-  | inr w ↦ (let e = abs-of (signed x) x b w.0 in let s = w.1 in omega arith) ]
+  | inl w ↦ (let e : unsigned_abs (signed x) ≡ x = ap unsigned_abs w.0 in let s = w.1 in omega arith)
+  | inr w ↦ (let e = abs-of (signed x) x b w.0 in let s = w.1 in omega arith)
+]
 
 -- the signed product is a number of 64 bits
 cast-below : (z : ℤ) → unsigned_abs z ≤ 2 ^ 63 → cast_unsigned w64 z < 2 ^ 64
@@ -175,8 +179,9 @@ signed_product-below x y p q =
 
 abs-aligned : (k x : ℕ) → k ≤ 32 → x < 2 ^ 32 → x % 2 ^ k ≡ 0 → unsigned_abs (signed x) % 2 ^ k ≡ 0
 abs-aligned k x top b h = elim (signed-word x b) [
-    inl w ↦ (let e : unsigned_abs (signed x) ≡ x = ap unsigned_abs w.0 in rw e h)
-  | inr w ↦ (let e : unsigned_abs (signed x) ≡ 2 ^ 32 - x = abs-of (signed x) x b w.0 in rw e (aligned-minus k (2 ^ 32) x (aligned-power k 32 top) h)) ]
+  | inl w ↦ (let e : unsigned_abs (signed x) ≡ x = ap unsigned_abs w.0 in rw e h)
+  | inr w ↦ (let e : unsigned_abs (signed x) ≡ 2 ^ 32 - x = abs-of (signed x) x b w.0 in rw e (aligned-minus k (2 ^ 32) x (aligned-power k 32 top) h))
+]
 
 cast-aligned : (z : ℤ) (k : ℕ) → k ≤ 32 → unsigned_abs z ≤ 2 ^ 63 → unsigned_abs z % 2 ^ k ≡ 0 → low_word (cast_unsigned w64 z) % 2 ^ k ≡ 0
 cast-aligned (pos n) k top b h = aligned-word k n top h
@@ -201,11 +206,12 @@ aligned-smul j k x y p q h g =
 pub aligned-srl : (j k x : ℕ) → x % 2 ^ j ≡ 0 → x / 2 ^ k % 2 ^ (j - k) ≡ 0
 aligned-srl j k x h =
     elim (cases_lt j k) [
-        inl small ↦ (let e : j - k ≡ 0 = omega arith in rw e (omega arith))
+      | inl small ↦ (let e : j - k ≡ 0 = omega arith in rw e (omega arith))
       | inr large ↦
           (let f : x % 2 ^ (j - k + k) / 2 ^ k ≡ x / 2 ^ k % 2 ^ (j - k) = field_of x (j - k) k in
           let e : j - k + k ≡ j = omega arith in
-          sym f ∙ (ap (λ i. x % 2 ^ i / 2 ^ k) e ∙ (ap (λ i. i / 2 ^ k) h ∙ zero_over (2 ^ k)))) ]
+          sym f ∙ (ap (λ i. x % 2 ^ i / 2 ^ k) e ∙ (ap (λ i. i / 2 ^ k) h ∙ zero_over (2 ^ k))))
+    ]
 
 -- a quotient of what is left below a power: n less x, rounded down, is one less than the quotients' difference
 below-quotient : (x p q n : ℕ) → 0 < p → x < q * p → n + suc x ≡ q * p → n / p + suc (x / p) ≡ q
@@ -219,10 +225,13 @@ below-quotient x p q n some less e =
   where
     shr_split-at : (x p : ℕ) → x / p * p + x % p ≡ x
     shr_split-at x p = div-add-mod' x p
+
     rest-below : (x p : ℕ) → 0 < p → x % p < p
     rest-below x p some = mod_below x p some
+
     quotient-below : (x p q : ℕ) → 0 < p → x < q * p → x / p < q
     quotient-below x p q some less = div_below x p q some less
+
     first : (x p q n : ℕ) → 0 < p → x / p * p + x % p ≡ x → x % p < p → x / p < q → n + suc x ≡ q * p → (q - suc (x / p)) * p + (p - suc (x % p)) ≡ n
     first x p q n some s r t e =
         let d : (q - suc (x / p)) * p ≡ q * p - suc (x / p) * p = sub-mul q (suc (x / p)) p in
@@ -247,10 +256,12 @@ sra-negative j k x (negsuc n) b large top most e h =
 
 pub aligned-sra : (j x y : ℕ) → x < 2 ^ 32 → x % 2 ^ j ≡ 0 → shifted_right_signed x y % 2 ^ (j - y % 32) ≡ 0
 aligned-sra j x y p h = elim (signed-word x p) [
-    inl w ↦ sra-natural j (y % 32) x (signed x) w.0 h
+  | inl w ↦ sra-natural j (y % 32) x (signed x) w.0 h
   | inr w ↦ elim (cases_lt 32 j) [
-        inl over ↦ absurd (let e = none-left j x (omega arith) p h in let large = w.1 in omega arith)
-      | inr most ↦ sra-negative j (y % 32) x (signed x) p w.1 (omega arith) most w.0 h ] ]
+    | inl over ↦ absurd (let e = none-left j x (omega arith) p h in let large = w.1 in omega arith)
+    | inr most ↦ sra-negative j (y % 32) x (signed x) p w.1 (omega arith) most w.0 h
+  ]
+]
 
 -- ---- known words
 

@@ -84,14 +84,14 @@ unfolding range_umul
 in_range_umul a b x y p q s u =
     let word = mod_below (x * y) (2 ^ 32) (omega arith) in
     by_test (both_natural a b) (λ r. InInterval r (low_word (x * y))) _ _
-        (λ t. let both = both_true (is_natural a.lo) (is_natural b.lo) t in
-            let n = are_natural a b x y p q t s u in
-            let rx : signed x ≡ pos x = signed-natural x n.first in
-            let ry : signed y ≡ pos y = signed-natural y n.second in
-            let lx : a.lo ≤ℤ pos x = rw (← rx) s.low in
-            let hx : pos x ≤ℤ a.hi = rw (← rx) s.high in
-            let ly : b.lo ≤ℤ pos y = rw (← ry) u.low in
-            let hy : pos y ≤ℤ b.hi = rw (← ry) u.high in
-            in_fit _ _ (pos (x * y)) _ _ word
-                (product-low a.lo b.lo x y both.0 both.1 lx ly) (product-high a.hi b.hi x y hx hy) (λ l h. small-product (x * y) h))
-        (λ _. in_all (product_alignment a b) (low_word (x * y)) word)
+    (λ t. let both = both_true (is_natural a.lo) (is_natural b.lo) t in
+    let n = are_natural a b x y p q t s u in
+    let rx : signed x ≡ pos x = signed-natural x n.first in
+    let ry : signed y ≡ pos y = signed-natural y n.second in
+    let lx : a.lo ≤ℤ pos x = rw (← rx) s.low in
+    let hx : pos x ≤ℤ a.hi = rw (← rx) s.high in
+    let ly : b.lo ≤ℤ pos y = rw (← ry) u.low in
+    let hy : pos y ≤ℤ b.hi = rw (← ry) u.high in
+    in_fit _ _ (pos (x * y)) _ _ word
+    (product-low a.lo b.lo x y both.0 both.1 lx ly) (product-high a.hi b.hi x y hx hy) (λ l h. small-product (x * y) h))
+    (λ _. in_all (product_alignment a b) (low_word (x * y)) word)

@@ -43,16 +43,16 @@ in_range_sra a b x y p q s u =
     let P : Range → Type 0 = λ r. InInterval r (shifted_right_signed x y) in
     let same : signed (shifted_right_signed x y) ≡ halved (signed x) (y % 32) = signed-sra x y p in
     by_test (is_single b) P _ _
-        (λ t. let e : count_of b ≡ y % 32 = ap (λ n. n % 32) (single-word b y q t u) in
-            record { low = rw (same, e) (halved-le a.lo (signed x) (y % 32) s.low); high = rw (same, e) (halved-le (signed x) a.hi (y % 32) s.high) })
-        (λ _. by_test (is_natural a.lo) P _ _
-            (λ t. let small = natural-word a.lo x p t s.low in
-                let r : signed x ≡ pos x = signed-natural x small in
-                let high : signed x ≤ℤ a.hi = s.high in
-                let e : halved (signed x) (y % 32) ≡ pos (x / 2 ^ (y % 32)) = ap (λ z. halved z (y % 32)) r in
-                let less = shr_le x (y % 32) in
-                record { low = rw (same, e) (omega (arith, ints)); high = rw (same, e) (omega (arith, ints)) })
-            (λ _. in_all 0 _ (sra-word x y p)))
+    (λ t. let e : count_of b ≡ y % 32 = ap (λ n. n % 32) (single-word b y q t u) in
+    record { low = rw (same, e) (halved-le a.lo (signed x) (y % 32) s.low); high = rw (same, e) (halved-le (signed x) a.hi (y % 32) s.high) })
+    (λ _. by_test (is_natural a.lo) P _ _
+    (λ t. let small = natural-word a.lo x p t s.low in
+    let r : signed x ≡ pos x = signed-natural x small in
+    let high : signed x ≤ℤ a.hi = s.high in
+    let e : halved (signed x) (y % 32) ≡ pos (x / 2 ^ (y % 32)) = ap (λ z. halved z (y % 32)) r in
+    let less = shr_le x (y % 32) in
+    record { low = rw (same, e) (omega (arith, ints)); high = rw (same, e) (omega (arith, ints)) })
+    (λ _. in_all 0 _ (sra-word x y p)))
 
 -- ---- SLL: a signed number times p, where the product is a signed word
 
@@ -88,15 +88,15 @@ unfolding range_sll
 in_range_sll a b x y p q s u =
     let P : Range → Type 0 = λ r. InInterval r (shifted_left x y) in
     by_test (is_single b) P _ _
-        (λ t. let e : count_of b ≡ y % 32 = ap (λ n. n % 32) (single-word b y q t u) in
-            let n = 2 ^ (y % 32) in
-            let some : 1 ≤ 2 ^ (y % 32) = pow_pos (y % 32) in
-            let at : InInterval (fit (a.lo *ℤ pos n) (a.hi *ℤ pos n) (min 3 (a.alignment + (y % 32)))) (shifted_left x y) =
-                in_fit (a.lo *ℤ pos n) (a.hi *ℤ pos n) (signed x *ℤ pos n) (min 3 (a.alignment + (y % 32))) (shifted_left x y) (omega arith)
-                    (mul-le_z a.lo (signed x) n s.low) (mul-le_z (signed x) a.hi n s.high) (signed-times-z (signed x) x n p refl some) in
-            let F : ℕ → Type 0 = λ k. InInterval (fit (a.lo *ℤ pos (2 ^ k)) (a.hi *ℤ pos (2 ^ k)) (min 3 (a.alignment + k))) (shifted_left x y) in
-            subst F (sym e) at)
-        (λ _. in_all a.alignment (shifted_left x y) (omega arith))
+    (λ t. let e : count_of b ≡ y % 32 = ap (λ n. n % 32) (single-word b y q t u) in
+    let n = 2 ^ (y % 32) in
+    let some : 1 ≤ 2 ^ (y % 32) = pow_pos (y % 32) in
+    let at : InInterval (fit (a.lo *ℤ pos n) (a.hi *ℤ pos n) (min 3 (a.alignment + (y % 32)))) (shifted_left x y) =
+    in_fit (a.lo *ℤ pos n) (a.hi *ℤ pos n) (signed x *ℤ pos n) (min 3 (a.alignment + (y % 32))) (shifted_left x y) (omega arith)
+    (mul-le_z a.lo (signed x) n s.low) (mul-le_z (signed x) a.hi n s.high) (signed-times-z (signed x) x n p refl some) in
+    let F : ℕ → Type 0 = λ k. InInterval (fit (a.lo *ℤ pos (2 ^ k)) (a.hi *ℤ pos (2 ^ k)) (min 3 (a.alignment + k))) (shifted_left x y) in
+    subst F (sym e) at)
+    (λ _. in_all a.alignment (shifted_left x y) (omega arith))
 
 -- ---- SRL
 
@@ -141,15 +141,16 @@ srl_by a k = if is_natural a.lo || k == 0 then halved_range a k else fit (pos 0)
 srl-by : (a : Range) (x k : ℕ) → x < 2 ^ 32 → k < 32 → InInterval a x → InInterval (srl_by a k) (x / 2 ^ k)
 srl-by a x k p top s =
     by_test (is_natural a.lo || k == 0) (λ r. InInterval r (x / 2 ^ k)) (halved_range a k) (fit (pos 0) (pos (2 ^ (32 - k) - 1)) (a.alignment - k))
-        (λ t. elim (or-cases (is_natural a.lo) (k == 0) t) [
-            inl n ↦ srl-natural a x k (natural-word a.lo x p n s.low) s
-          | inr z ↦ (let e : k ≡ 0 = (Decides-eqb k 0).0 z in srl-none a x k e s) ])
-        (λ f. let some : 1 ≤ k = not-zero (is_natural a.lo) k f in
-            let b = shr-small x k p some top in
-            let small : x / 2 ^ k < 2 ^ 31 = b.1 in
-            let after : signed (x / 2 ^ k) ≡ pos (x / 2 ^ k) = signed-natural (x / 2 ^ k) small in
-            let most = b.0 in
-            in_fit (pos 0) (pos (2 ^ (32 - k) - 1)) (pos (x / 2 ^ k)) (a.alignment - k) (x / 2 ^ k) (omega arith) (omega (arith, ints)) (omega (arith, ints)) (λ l h. after))
+    (λ t. elim (or-cases (is_natural a.lo) (k == 0) t) [
+      | inl n ↦ srl-natural a x k (natural-word a.lo x p n s.low) s
+      | inr z ↦ (let e : k ≡ 0 = (Decides-eqb k 0).0 z in srl-none a x k e s)
+    ])
+    (λ f. let some : 1 ≤ k = not-zero (is_natural a.lo) k f in
+    let b = shr-small x k p some top in
+    let small : x / 2 ^ k < 2 ^ 31 = b.1 in
+    let after : signed (x / 2 ^ k) ≡ pos (x / 2 ^ k) = signed-natural (x / 2 ^ k) small in
+    let most = b.0 in
+    in_fit (pos 0) (pos (2 ^ (32 - k) - 1)) (pos (x / 2 ^ k)) (a.alignment - k) (x / 2 ^ k) (omega arith) (omega (arith, ints)) (omega (arith, ints)) (λ l h. after))
 
 pub in_range_srl : (a b : Range) (x y : ℕ) → x < 2 ^ 32 → y < 2 ^ 32 → InInterval a x → InInterval b y → InInterval (range_srl a b) (shifted_right x y)
 unfolding range_srl
@@ -157,13 +158,13 @@ in_range_srl a b x y p q s u =
     let P : Range → Type 0 = λ r. InInterval r (shifted_right x y) in
     let less = shr_le x (y % 32) in
     by_test (is_single b) P _ _
-        (λ t. let e : count_of b ≡ y % 32 = ap (λ n. n % 32) (single-word b y q t u) in
-            let F : ℕ → Type 0 = λ k. InInterval (srl_by a k) (shifted_right x y) in
-            subst F (sym e) (srl-by a x (y % 32) p (omega arith) s))
-        (λ _. by_test (is_natural a.lo) P _ _
-            (λ t. let small = natural-word a.lo x p t s.low in
-                let r : signed x ≡ pos x = signed-natural x small in
-                let after : signed (shifted_right x y) ≡ pos (x / 2 ^ (y % 32)) = signed-natural (x / 2 ^ (y % 32)) (omega arith) in
-                let high : signed x ≤ℤ a.hi = s.high in
-                record { low = rw after (omega (arith, ints)); high = rw after (omega (arith, ints)) })
-            (λ _. in_all 0 (shifted_right x y) (omega arith)))
+    (λ t. let e : count_of b ≡ y % 32 = ap (λ n. n % 32) (single-word b y q t u) in
+    let F : ℕ → Type 0 = λ k. InInterval (srl_by a k) (shifted_right x y) in
+    subst F (sym e) (srl-by a x (y % 32) p (omega arith) s))
+    (λ _. by_test (is_natural a.lo) P _ _
+    (λ t. let small = natural-word a.lo x p t s.low in
+    let r : signed x ≡ pos x = signed-natural x small in
+    let after : signed (shifted_right x y) ≡ pos (x / 2 ^ (y % 32)) = signed-natural (x / 2 ^ (y % 32)) (omega arith) in
+    let high : signed x ≤ℤ a.hi = s.high in
+    record { low = rw after (omega (arith, ints)); high = rw after (omega (arith, ints)) })
+    (λ _. in_all 0 (shifted_right x y) (omega arith)))

@@ -106,10 +106,10 @@ pub in_range_of : (op : Op) (a b : Range) (x y : ℕ) (icc : Icc) (high : ℕ) �
 unfolding range_of
 in_range_of op a b x y icc high p q s u =
     by_test (is_computed op && (is_single a && is_single b)) (λ r. InInterval r (outcome op x y icc high).value) _ _
-        (λ t. let both = both_true (is_computed op) (is_single a && is_single b) t in
-            let singles = both_true (is_single a) (is_single b) both.1 in
-            subst (λ w. InInterval (known w) (outcome op x y icc high).value) (sym (computed-same op a b x y icc high p q s u both.0 singles.0 singles.1)) (in_known _))
-        (λ _. in_row op a b x y icc high p q s u)
+    (λ t. let both = both_true (is_computed op) (is_single a && is_single b) t in
+    let singles = both_true (is_single a) (is_single b) both.1 in
+    subst (λ w. InInterval (known w) (outcome op x y icc high).value) (sym (computed-same op a b x y icc high p q s u both.0 singles.0 singles.1)) (in_known _))
+    (λ _. in_row op a b x y icc high p q s u)
 
 -- ---- Y
 

@@ -51,6 +51,10 @@ pub is_signed_word-says : (z : ℤ) → is_signed_word z ≡ true → (negsuc 21
 is_signed_word-says (pos n) h = (omega (arith, ints), grind (arith, ints, nat_tests))
 is_signed_word-says (negsuc n) h = (grind (arith, ints, nat_tests), omega (arith, ints))
 
+pub is_signed_word-from : (z : ℤ) → negsuc 2147483647 ≤ℤ z → z ≤ℤ pos 2147483647 → is_signed_word z ≡ true
+is_signed_word-from (pos n) l h = grind (arith, ints, nat_tests)
+is_signed_word-from (negsuc n) l h = grind (arith, ints, nat_tests)
+
 -- ---- ranges
 
 pub in_all : (alignment w : ℕ) → w < 2 ^ 32 → InInterval (all alignment) w
@@ -61,15 +65,15 @@ pub in_fit : (l h z : ℤ) (alignment w : ℕ) → w < 2 ^ 32 → l ≤ℤ z →
     → (negsuc 2147483647 ≤ℤ z → z ≤ℤ pos 2147483647 → signed w ≡ z) → InInterval (fit l h alignment) w
 in_fit l h z alignment w bound low high is =
     by_test (is_signed_word l && is_signed_word h) (λ r. InInterval r w) (range l h alignment) (all alignment)
-        (λ e.
-            let both = both_true _ _ e in
-            let l_fits = is_signed_word-says l both.0 in
-            let h_fits = is_signed_word-says h both.1 in
-            let low_end : negsuc 2147483647 ≤ℤ l = l_fits.0 in
-            let high_end : h ≤ℤ pos 2147483647 = h_fits.1 in
-            let same : signed w ≡ z = is (omega (arith, ints)) (omega (arith, ints)) in
-            record { low = rw same low; high = rw same high })
-        (λ _. in_all alignment w bound)
+    (λ e.
+    let both = both_true _ _ e in
+    let l_fits = is_signed_word-says l both.0 in
+    let h_fits = is_signed_word-says h both.1 in
+    let low_end : negsuc 2147483647 ≤ℤ l = l_fits.0 in
+    let high_end : h ≤ℤ pos 2147483647 = h_fits.1 in
+    let same : signed w ≡ z = is (omega (arith, ints)) (omega (arith, ints)) in
+    record { low = rw same low; high = rw same high })
+    (λ _. in_all alignment w bound)
 
 -- a word whose reading is at least 0
 pub natural-word : (l : ℤ) (w : ℕ) → w < 2 ^ 32 → is_natural l ≡ true → l ≤ℤ signed w → w < 2 ^ 31

@@ -1,11 +1,11 @@
 -- The laws of ranges: each result of the result table lies in the range that the table of ranges gives.
 -- Intervals stay by the ends alone, whatever alignments the operands have; alignments stay by the alignments, at words of the intervals.
-use Rattle.std.specs.Prelude.{ℕ, ◌<◌, ◌≤◌, ◌^◌, ◌≡◌, Bool, true, false, ◌==◌, ◌||◌, nat_le, ℤ, pos, negsuc, ◌+ℤ◌, ◌-ℤ◌, ◌≤ℤ◌, Option, Some, None}
+use Rattle.std.specs.Prelude.{ℕ, ◌-◌, ◌<◌, ◌≤◌, ◌^◌, ◌≡◌, Bool, true, false, ◌==◌, ◌||◌, nat_le, ℤ, pos, negsuc, ◌+ℤ◌, ◌-ℤ◌, ◌≤ℤ◌, Option, Some, None}
 use Rattle.v8_word.specs.Conditions.{holds}
 use Rattle.v8_word.specs.Word.{sign_extend}
 use Rattle.v8_word.specs.declared.Cond.{Cond}
 use Rattle.v8_word.specs.declared.Icc.{Icc}
-use Rattle.v8_alu.specs.Outcomes.{outcome, divided, tagged_outcome}
+use Rattle.v8_alu.specs.Outcomes.{outcome, divided, division_of, tagged_outcome}
 use Rattle.v8_alu.specs.Results.{signed, sum, difference, difference_codes}
 use Rattle.v8_alu.specs.declared.AluOut.{AluOut}
 use Rattle.v8_alu.specs.declared.Division.{Division}
@@ -14,10 +14,15 @@ use Rattle.v8_alu.specs.declared.Op.TheVariants.{Xor}
 use Rattle.v8_alu.specs.declared.TaggedOp.{TaggedOp}
 use Rattle.sbx_image.specs.declared.parts.Range.{Range}
 use Rattle.sbx_range.specs.declared.refining.Pair.{Pair}
+use Rattle.sbx_range.specs.declared.table.TheConstants.{BYTE_OR_END, SIGNED_BYTE, SIGNED_HALF, UNSIGNED_BYTE, UNSIGNED_HALF}
 use Rattle.sbx_range.specs.Ranges.{InInterval, InRange, IsAligned, is_within, known}
-use Rattle.sbx_range.specs.Rows.{range_divide, differences_fit, sums_fit, unsigned_byte, unsigned_half, signed_byte, signed_half, byte_or_end}
-use Rattle.sbx_range.specs.Table.{range_of, range_of_tagged, range_of_y, range_of_written_y}
-use Rattle.sbx_range.specs.Refining.{narrowed, narrowed_by_value, opposite, refine, refine_by_value}
+use Rattle.sbx_range.specs.Rows.{excludes_zero, ones_above, range_divide, differences_fit, sums_fit, unsigned_byte, unsigned_half, signed_byte, signed_half, byte_or_end}
+use Rattle.sbx_range.specs.Table.{range_of, range_of_tagged, tagged_fits, range_of_y, range_of_written_y}
+use Rattle.sbx_range.specs.Refining.{common, some_range, narrowed, narrowed_by_value, opposite, refine, refine_by_value}
+
+abbrev pub is_some : (A : Type 0) → Option A → Bool
+is_some A (Some x) = true
+is_some A None = false
 
 -- two words, each in the interval of its range
 pub record AreIn (a b : Range) (x y : ℕ) : Type 0 where
@@ -47,6 +52,16 @@ TaggedResultsStayIn =
     → InInterval (range_of_tagged operation a b) out.value
     × (IsAligned a.alignment x → IsAligned b.alignment y → IsAligned (range_of_tagged operation a b).alignment out.value)
 
+abbrev pub TaggedOperationsHaveResults : Type 0
+TaggedOperationsHaveResults =
+    (operation : TaggedOp) (a b : Range) (x y : ℕ) (icc : Icc) (high : ℕ) → AreIn a b x y → IsAligned a.alignment x → IsAligned b.alignment y
+    → tagged_fits operation a b ≡ true → is_some AluOut (tagged_outcome operation x y icc high) ≡ true
+
+abbrev pub DivisionsHaveResults : Type 0
+DivisionsHaveResults =
+    (operation : Division) (b : Range) (x y : ℕ) (icc : Icc) (high : ℕ) → y < 2 ^ 32 → InInterval b y → excludes_zero b ≡ true
+    → division_of operation x y icc high ≡ Some (divided operation x y icc high)
+
 -- a division of the word x below the word high of Y; nothing is asked of alignments
 abbrev pub QuotientsStayIn : Type 0
 QuotientsStayIn =
@@ -59,8 +74,9 @@ WrittenYStaysIn =
     (a b : Range) (x y : ℕ) (icc : Icc) (high : ℕ) → AreIn a b x y
     → InRange (range_of_written_y a b) (outcome Xor x y icc high).value
 
--- the words that bytes and halves are loaded as
+-- the words that bytes and halves are loaded as, and those that the service get gives
 pub record LoadsStayIn : Type 0 where
+  pub are : (UNSIGNED_BYTE ≡ unsigned_byte) × (UNSIGNED_HALF ≡ unsigned_half) × (SIGNED_BYTE ≡ signed_byte) × (SIGNED_HALF ≡ signed_half) × (BYTE_OR_END ≡ byte_or_end)
   pub unsigned_bytes : (n : ℕ) → n < 2 ^ 8 → InRange unsigned_byte n
   pub unsigned_halves : (n : ℕ) → n < 2 ^ 16 → InRange unsigned_half n
   pub signed_bytes : (n : ℕ) → n < 2 ^ 8 → InRange signed_byte (sign_extend 8 n)
@@ -75,11 +91,18 @@ SumsAreExact =
     → (sums_fit a b ≡ true → signed (sum x y false) ≡ signed x +ℤ signed y)
     × (differences_fit a b ≡ true → signed (difference x y false) ≡ signed x -ℤ signed y)
 
--- known words, and ranges within ranges
+-- known words, what two ranges share, and ranges within ranges
 pub record WordsStayIn : Type 0 where
   pub of_known : (w : ℕ) → InRange (known w) w
+  pub of_common : (a b : Range) (w : ℕ) → InInterval a w → InInterval b w → InInterval (common a b) w × (some_range (common a b) ≡ Some (common a b))
+  pub of_common_alignment : (a b : Range) (w : ℕ) → IsAligned a.alignment w → IsAligned b.alignment w → IsAligned (common a b).alignment w
   pub of_wider : (a b : Range) (w : ℕ) → is_within a b ≡ true → InRange a w → InRange b w
   pub of_wider_interval : (a b : Range) (w : ℕ) → is_within a b ≡ true → InInterval a w → InInterval b w
+
+-- all ones below a power of two: the least that isn't below n, a word
+abbrev pub OnesAreLeast : Type 0
+OnesAreLeast =
+    (n : ℕ) → n < 2 ^ 32 → (k : ℕ) × (ones_above n ≡ 2 ^ k - 1) × (n < 2 ^ k) × ((j : ℕ) → n < 2 ^ j → k ≤ j)
 
 -- ---- refinement
 
@@ -106,10 +129,6 @@ RefinementKeepsWords =
     (cond : Cond) (a : Range) (x : ℕ) (f : Icc) → x < 2 ^ 32 → InInterval a x → HasSigns f x → holds cond f ≡ true
     → (refine_by_value cond a ≡ Some (narrowed_by_value cond a)) × InInterval (narrowed_by_value cond a) x
     × (IsAligned a.alignment x → IsAligned (narrowed_by_value cond a).alignment x)
-
-abbrev pub is_some : (A : Type 0) → Option A → Bool
-is_some A (Some x) = true
-is_some A None = false
 
 -- a range of signed words that isn't empty
 pub record IsRange (a : Range) : Type 0 where

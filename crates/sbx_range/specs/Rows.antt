@@ -93,8 +93,8 @@ right_else a = if is_natural a.lo then range (pos 0) a.hi 0 else all 0
 unfoldable pub range_srl : Range → Range → Range
 range_srl a b =
     if is_single b then
-        (if is_natural a.lo || count_of b == 0 then halved_range a (count_of b)
-        else fit (pos 0) (pos (2 ^ (32 - count_of b) - 1)) (a.alignment - count_of b))
+    (if is_natural a.lo || count_of b == 0 then halved_range a (count_of b)
+    else fit (pos 0) (pos (2 ^ (32 - count_of b) - 1)) (a.alignment - count_of b))
     else right_else a
 
 unfoldable pub range_sra : Range → Range → Range
@@ -129,6 +129,10 @@ range_umul a b =
 -- Y is 0, the dividend's word is not negative, and the divisor is positive; of its ends both, since a range may be empty
 abbrev pub divides_naturals : Range → Range → Range → Bool
 divides_naturals y a b = (is_zero y && is_natural a.lo) && (int_lt (pos 0) b.lo && int_lt (pos 0) b.hi)
+
+-- no number of a divisor's range is 0
+abbrev pub excludes_zero : Range → Bool
+excludes_zero b = int_lt (pos 0) b.lo || int_lt b.hi (pos 0)
 
 -- UDIV and SDIV of the word a below Y
 unfoldable pub range_divide : Range → Range → Range → Range

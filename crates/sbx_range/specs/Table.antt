@@ -1,5 +1,5 @@
 -- The table of ranges, by the operations of the result table.
-use Rattle.std.specs.Prelude.{ℕ, Bool, true, false, ◌&&◌, if◌then◌else◌}
+use Rattle.std.specs.Prelude.{ℕ, Bool, true, false, ◌&&◌, nat_le, if◌then◌else◌}
 use Rattle.v8_word.specs.declared.Icc.{Icc}
 use Rattle.v8_alu.specs.Outcomes.{outcome}
 use Rattle.v8_alu.specs.declared.Op.{Op}
@@ -8,7 +8,7 @@ use Rattle.v8_alu.specs.declared.TaggedOp.{TaggedOp}
 use Rattle.v8_alu.specs.declared.TaggedOp.TheVariants.{TaggedAdd, TaggedSub}
 use Rattle.sbx_image.specs.declared.parts.Range.{Range}
 use Rattle.sbx_range.specs.Ranges.{all, is_single, word_of, known}
-use Rattle.sbx_range.specs.Rows.{range_add, range_sub, range_or, range_xor, range_and, range_andn, range_sll, range_srl, range_sra, range_smul, range_umul}
+use Rattle.sbx_range.specs.Rows.{least_alignment, sums_fit, differences_fit, range_add, range_sub, range_or, range_xor, range_and, range_andn, range_sll, range_srl, range_sra, range_smul, range_umul}
 
 -- the operations whose result is computed where both operands are known words
 abbrev pub is_computed : Op → Bool
@@ -71,6 +71,11 @@ range_of op a b =
 abbrev pub range_of_tagged : TaggedOp → Range → Range → Range
 range_of_tagged TaggedAdd a b = range_add a b
 range_of_tagged TaggedSub a b = range_sub a b
+
+-- they have one: the low two bits of both operands are 0, and no sum or difference overflows
+abbrev pub tagged_fits : TaggedOp → Range → Range → Bool
+tagged_fits TaggedAdd a b = nat_le 2 (least_alignment a b) && sums_fit a b
+tagged_fits TaggedSub a b = nat_le 2 (least_alignment a b) && differences_fit a b
 
 -- an address is the sum of its operands
 abbrev pub range_of_address : Range → Range → Range

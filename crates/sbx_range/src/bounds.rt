@@ -1,6 +1,7 @@
 //! Ranges as sets of words: known words, ends, and how one range lies in another.
 ghost use Rattle.std.specs.Prelude.{◌≡◌, ◌<◌, ◌^◌};
 ghost use Rattle.v8_alu.specs.Results.{is_signed_word};
+ghost use Rattle.sbx_range.specs.Rows.{greatest_alignment, least_alignment};
 ghost use Rattle.sbx_range.specs.Ranges.{alignment_of, all, fit, is_natural, is_single, is_within, is_zero, known, word_of};
 
 use sbx_image::Range;
@@ -92,6 +93,20 @@ pub fn known(word: u32) -> Range
         hi: signed,
         alignment: alignment_of(word),
     }
+}
+
+/// The lesser alignment of two ranges.
+pub fn least_alignment(a: Range, b: Range) -> u8
+    ensures { result ≡ least_alignment a b }
+{
+    a.alignment.min(b.alignment)
+}
+
+/// The greater alignment of two ranges.
+pub fn greatest_alignment(a: Range, b: Range) -> u8
+    ensures { result ≡ greatest_alignment a b }
+{
+    a.alignment.max(b.alignment)
 }
 
 /// Whether `inner` lies in `outer`: its ends within the other's, its alignment at least the other's.

@@ -1,5 +1,5 @@
 //! Laws of ranges. Each is the contract of a function that does nothing.
-ghost use Rattle.sbx_range.specs.Laws.{LoadsStayIn, OneEdgeIsLeft, QuotientsStayIn, RefinementKeepsPairs, RefinementKeepsWords, ResultsStayAligned, ResultsStayIn, SumsAreExact, TaggedResultsStayIn, WordsStayIn, WrittenYStaysIn};
+ghost use Rattle.sbx_range.specs.Laws.{DivisionsHaveResults, LoadsStayIn, OneEdgeIsLeft, OnesAreLeast, QuotientsStayIn, RefinementKeepsPairs, RefinementKeepsWords, ResultsStayAligned, ResultsStayIn, SumsAreExact, TaggedOperationsHaveResults, TaggedResultsStayIn, WordsStayIn, WrittenYStaysIn};
 
 /// Of words in the intervals of two ranges, each operation's value lies in the interval of its range, and Y in that of its
 /// own, whatever the condition codes are. Alignments don't matter.
@@ -22,6 +22,16 @@ pub fn quotients_stay_in()
     ensures { QuotientsStayIn }
 {}
 
+/// They have a result where both operands are multiples of 4 and no sum, or difference, of their ranges overflows.
+pub fn tagged_operations_have_results()
+    ensures { TaggedOperationsHaveResults }
+{}
+
+/// A division has a result where the divisor's range has no 0.
+pub fn divisions_have_results()
+    ensures { DivisionsHaveResults }
+{}
+
 /// What WRY writes lies in the range of a written Y.
 pub fn written_y_stays_in()
     ensures { WrittenYStaysIn }
@@ -32,7 +42,8 @@ pub fn loads_stay_in()
     ensures { LoadsStayIn }
 {}
 
-/// A known word lies in its range, and a word of a range in each range that this one lies in.
+/// A known word lies in its range, a word of two ranges in what they share, and a word of a range in each range that this
+/// one lies in.
 pub fn words_stay_in()
     ensures { WordsStayIn }
 {}
@@ -40,6 +51,11 @@ pub fn words_stay_in()
 /// Where all sums, or all differences, of two ranges are signed words, the result reads as the sum, or the difference.
 pub fn sums_are_exact()
     ensures { SumsAreExact }
+{}
+
+/// The upper end of an OR or an XOR is 2^k - 1 with the least k that puts 2^k above both upper ends.
+pub fn ones_are_least()
+    ensures { OnesAreLeast }
 {}
 
 /// Refinement loses no pair of words for which the condition holds of the codes of the first less the second: the answer is

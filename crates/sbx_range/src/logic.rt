@@ -2,7 +2,7 @@
 ghost use Rattle.std.specs.Prelude.{◌≡◌, ◌<◌, ◌^◌, pos};
 ghost use Rattle.sbx_range.specs.Rows.{natural_of, ones_above, ones_of, range_and, range_andn, range_or, range_xor};
 
-use crate::bounds::{all, is_natural, is_zero};
+use crate::bounds::{all, greatest_alignment, is_natural, is_zero, least_alignment};
 use sbx_image::Range;
 
 /// A number, or 0 for a negative one.
@@ -10,7 +10,11 @@ fn natural_of(number: i32) -> u32
     ensures value { result ≡ natural_of number }
     ensures bound { result < 2 ^ 31 }
 {
-    if number < 0 { 0 } else { number.cast_unsigned() }
+    if number < 0 {
+        0
+    } else {
+        number.cast_unsigned()
+    }
 }
 
 /// The least number of the form 2^k - 1 that isn't below this one.
@@ -34,7 +38,7 @@ fn ones_of(a: Range, b: Range) -> i32
 pub fn range_or(a: Range, b: Range) -> Range
     ensures { result ≡ range_or a b }
 {
-    let alignment = a.alignment.min(b.alignment);
+    let alignment = least_alignment(a, b);
     if is_zero(a) {
         b
     } else if is_zero(b) {
@@ -55,7 +59,7 @@ pub fn range_or(a: Range, b: Range) -> Range
 pub fn range_xor(a: Range, b: Range) -> Range
     ensures { result ≡ range_xor a b }
 {
-    let alignment = a.alignment.min(b.alignment);
+    let alignment = least_alignment(a, b);
     if is_natural(a) && is_natural(b) {
         Range {
             lo: 0,
@@ -72,7 +76,7 @@ pub fn range_xor(a: Range, b: Range) -> Range
 pub fn range_and(a: Range, b: Range) -> Range
     ensures { result ≡ range_and a b }
 {
-    let alignment = a.alignment.max(b.alignment);
+    let alignment = greatest_alignment(a, b);
     if is_natural(a) && is_natural(b) {
         Range {
             lo: 0,

@@ -1,6 +1,6 @@
 //! Ranges of quotients.
 ghost use Rattle.std.specs.Prelude.{◌≡◌, ◌<ℤ◌, pos, int_div};
-ghost use Rattle.sbx_range.specs.Rows.{divides_naturals, range_divide};
+ghost use Rattle.sbx_range.specs.Rows.{divides_naturals, excludes_zero, range_divide};
 
 use crate::bounds::{all, is_natural, is_zero};
 use sbx_image::Range;
@@ -9,6 +9,13 @@ fn divides_naturals(y: Range, a: Range, b: Range) -> bool
     ensures { result ≡ divides_naturals y a b }
 {
     is_zero(y) && is_natural(a) && b.lo > 0 && b.hi > 0
+}
+
+/// Whether no number of a divisor's range is 0.
+pub fn excludes_zero(b: Range) -> bool
+    ensures { result ≡ excludes_zero b }
+{
+    b.lo > 0 || b.hi < 0
 }
 
 /// A quotient, rounded toward zero.

@@ -4,7 +4,7 @@ ghost use Rattle.std.specs.Int.{int_max, int_min};
 ghost use Rattle.sbx_range.specs.Ranges.{range};
 ghost use Rattle.sbx_range.specs.Refining.{above_unsigned, below, below_unsigned, both_of, common, from_zero, left_below, lowered, narrowed, narrowed_by_value, pair, raised, refine, refine_by_value, right_below, some_pair, some_range, turned, without};
 
-use crate::bounds::{is_natural, is_single, known};
+use crate::bounds::{greatest_alignment, is_natural, is_single, known};
 use sbx_image::Range;
 use v8_word::Cond;
 
@@ -143,7 +143,7 @@ pub fn common(a: Range, b: Range) -> Option<Range>
     some_range(Range {
         lo: a.lo.max(b.lo),
         hi: a.hi.min(b.hi),
-        alignment: a.alignment.max(b.alignment),
+        alignment: greatest_alignment(a, b),
     })
 }
 

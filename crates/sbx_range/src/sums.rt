@@ -2,7 +2,7 @@
 ghost use Rattle.std.specs.Prelude.{◌≡◌, ◌+◌, ◌+ℤ◌, ◌-ℤ◌, ◌*ℤ◌, min};
 ghost use Rattle.sbx_range.specs.Rows.{differences_fit, greatest_of, greatest_product, least_of, least_product, range_add, range_smul, range_sub, range_umul, sums_fit};
 
-use crate::bounds::{all, fit, is_natural, is_signed_word};
+use crate::bounds::{all, fit, is_natural, is_signed_word, least_alignment};
 use sbx_image::Range;
 
 fn sum(a: i32, b: i32) -> i64
@@ -36,11 +36,8 @@ pub fn differences_fit(a: Range, b: Range) -> bool
 pub fn range_add(a: Range, b: Range) -> Range
     ensures { result ≡ range_add a b }
 {
-    fit(
-        sum(a.lo, b.lo),
-        sum(a.hi, b.hi),
-        a.alignment.min(b.alignment),
-    )
+    let alignment = least_alignment(a, b);
+    fit(sum(a.lo, b.lo), sum(a.hi, b.hi), alignment)
 }
 
 /// SUB: the ends less the other ends, with the lesser alignment.
@@ -48,11 +45,8 @@ pub fn range_add(a: Range, b: Range) -> Range
 pub fn range_sub(a: Range, b: Range) -> Range
     ensures { result ≡ range_sub a b }
 {
-    fit(
-        difference(a.lo, b.hi),
-        difference(a.hi, b.lo),
-        a.alignment.min(b.alignment),
-    )
+    let lo = difference(a.lo, b.hi);
+    fit(lo, difference(a.hi, b.lo), least_alignment(a, b))
 }
 
 /// The sum of two alignments, at most 3.

@@ -1,31 +1,51 @@
 //! The table of ranges, by operations of the result table.
 ghost use Rattle.std.specs.Prelude.{◌≡◌};
 ghost use Rattle.sbx_range.specs.Rows.{range_divide};
-ghost use Rattle.sbx_range.specs.Table.{is_computed, no_codes, range_of, range_of_address, range_of_tagged, range_of_written_y, range_of_y, row_of, writes_y};
+ghost use Rattle.sbx_range.specs.Table.{is_computed, no_codes, range_of, range_of_address, range_of_tagged, range_of_written_y, range_of_y, row_of, tagged_fits, writes_y};
 
-use crate::bounds::{all, is_single, known, word_of};
+use crate::bounds::{all, is_single, known, least_alignment, word_of};
 use crate::logic::{range_and, range_andn, range_or, range_xor};
 use crate::quotients::range_divide;
 use crate::shifts::{range_sll, range_sra, range_srl};
-use crate::sums::{range_add, range_smul, range_sub, range_umul};
+use crate::sums::{differences_fit, range_add, range_smul, range_sub, range_umul, sums_fit};
 use sbx_image::Range;
 use v8_alu::{Op, TaggedOp, alu};
 use v8_word::Icc;
 
 /// What LDUB and LDSTUB load.
-pub const UNSIGNED_BYTE: Range = Range { lo: 0, hi: 255, alignment: 0 };
+pub const UNSIGNED_BYTE: Range = Range {
+    lo: 0,
+    hi: 255,
+    alignment: 0,
+};
 
 /// What LDUH loads.
-pub const UNSIGNED_HALF: Range = Range { lo: 0, hi: 65_535, alignment: 0 };
+pub const UNSIGNED_HALF: Range = Range {
+    lo: 0,
+    hi: 65_535,
+    alignment: 0,
+};
 
 /// What LDSB loads.
-pub const SIGNED_BYTE: Range = Range { lo: -128, hi: 127, alignment: 0 };
+pub const SIGNED_BYTE: Range = Range {
+    lo: -128,
+    hi: 127,
+    alignment: 0,
+};
 
 /// What LDSH loads.
-pub const SIGNED_HALF: Range = Range { lo: -32_768, hi: 32_767, alignment: 0 };
+pub const SIGNED_HALF: Range = Range {
+    lo: -32_768,
+    hi: 32_767,
+    alignment: 0,
+};
 
 /// What the service get gives: a byte, or FFFFFFFF at the end of input.
-pub const BYTE_OR_END: Range = Range { lo: -1, hi: 255, alignment: 0 };
+pub const BYTE_OR_END: Range = Range {
+    lo: -1,
+    hi: 255,
+    alignment: 0,
+};
 
 /// Whether an operation's result is computed where both operands are known words.
 fn is_computed(op: Op) -> bool
@@ -75,7 +95,12 @@ fn row_of(op: Op, a: Range, b: Range) -> Range
     }
 }
 
-const NO_CODES: Icc = Icc { n: false, z: false, v: false, c: false };
+const NO_CODES: Icc = Icc {
+    n: false,
+    z: false,
+    v: false,
+    c: false,
+};
 
 /// The range of what an operation leaves in its destination, by the ranges of its operands.
 #[tactic(auto, unfolding(crate::specs::Table::range_of))]
@@ -97,6 +122,18 @@ pub fn range_of_tagged(op: TaggedOp, a: Range, b: Range) -> Range
         TaggedOp::TaggedAdd => range_add(a, b),
         TaggedOp::TaggedSub => range_sub(a, b),
     }
+}
+
+/// Whether TADDccTV or TSUBccTV has a result for all words of these ranges: the low two bits of both are 0, and no sum or
+/// difference overflows.
+pub fn tagged_fits(op: TaggedOp, a: Range, b: Range) -> bool
+    ensures { result ≡ tagged_fits op a b }
+{
+    least_alignment(a, b) >= 2
+        && match op {
+            TaggedOp::TaggedAdd => sums_fit(a, b),
+            TaggedOp::TaggedSub => differences_fit(a, b),
+        }
 }
 
 /// The range of a division's quotient: of the word `a` below Y, by `b`.

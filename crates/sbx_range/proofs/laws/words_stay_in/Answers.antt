@@ -1,4 +1,4 @@
-use Rattle.sbx_range.proofs.Alignments.{words_stay_in}
+use Rattle.sbx_range.proofs.Kept.{words_stay_in}
 use Rattle.sbx_range.proofs.laws.words_stay_in.Goals as goal
 
 pub returns : goal.returns
