@@ -1,5 +1,5 @@
 -- Each result has the alignment of its operation's range.
-use Rattle.std.proofs.Common.{◌≡◌, ℕ, zero, suc, ◌+◌, ◌-◌, ◌*◌, ◌/◌, ◌%◌, ◌^◌, ◌<◌, ◌≤◌, Bool, true, false, ◌||◌, refl, sym, ap, ◌∙◌, subst, arith, inl, inr, ◌⊎◌, Option, Some, None}
+use Rattle.std.proofs.Common.{◌≡◌, ℕ, ◌+◌, ◌-◌, ◌*◌, ◌%◌, ◌^◌, ◌<◌, ◌≤◌, Bool, true, false, ◌||◌, refl, sym, ap, ◌∙◌, subst, arith, inl, inr, Some, None}
 use Rattle.std.specs.Prelude.{◌&&◌, ◌==◌, if◌then◌else◌, not, nat_le, ℤ, pos, negsuc, ◌+ℤ◌, ◌-ℤ◌, ◌*ℤ◌, ◌≤ℤ◌, int_lt, bit_and, bit_or, bit_xor, min, max}
 use Rattle.std.proofs.lemmas.Bool.{cases_lt}
 use Rattle.std.proofs.lemmas.Nat.{or_comm, xor_lt}
@@ -15,9 +15,9 @@ use Rattle.v8_alu.specs.declared.Op.{Op}
 use Rattle.v8_alu.specs.declared.Op.TheVariants.{Add, AddCc, Addx, AddxCc, Sub, SubCc, Subx, SubxCc, And, AndCc, Andn, AndnCc, Or, OrCc, Orn, OrnCc, Xor, XorCc, Xnor, XnorCc, Sll, Srl, Sra, Umul, UmulCc, Smul, SmulCc, TaddCc, TsubCc, MulsCc}
 use Rattle.sbx_image.specs.declared.parts.Range.{Range}
 use Rattle.sbx_range.specs.Laws.{is_some, DivisionsHaveResults, LoadsStayIn, TaggedOperationsHaveResults, QuotientsStayIn, ResultsStayAligned, TaggedResultsStayIn, WrittenYStaysIn}
-use Rattle.sbx_range.specs.Ranges.{InInterval, InRange, IsAligned, is_within, all, both_natural, fit, is_natural, is_single, is_zero, known, range, word_of}
-use Rattle.sbx_range.specs.Rows.{differences_fit, excludes_zero, sums_fit, least_product, greatest_product, count_of, divides_naturals, range_add, range_and, range_andn, range_divide, range_or, range_sll, range_smul, range_sra, range_srl, range_sub, range_umul, range_xor, least_alignment, greatest_alignment, product_alignment}
-use Rattle.sbx_range.specs.Table.{is_computed, no_codes, range_of, range_of_tagged, range_of_written_y, range_of_y, row_of, tagged_fits}
+use Rattle.sbx_range.specs.Ranges.{InInterval, InRange, IsAligned, is_within, all, both_natural, fit, is_natural, is_single, is_zero, known, range}
+use Rattle.sbx_range.specs.Rows.{differences_fit, excludes_zero, sums_fit, least_product, greatest_product, count_of, divides_naturals, range_add, range_and, range_andn, range_divide, range_or, range_sll, range_smul, range_sra, range_srl, range_sub, range_umul, range_xor, least_alignment, product_alignment}
+use Rattle.sbx_range.specs.Table.{is_computed, range_of, range_of_written_y, range_of_y, row_of}
 use Rattle.sbx_range.proofs.Words.{both_true, by_test, in_all, in_known, is_zero-word, signed-natural, signed-word, single-word}
 use Rattle.sbx_range.proofs.Additions.{difference-fits, in_range_add, in_range_sub, sum-fits}
 use Rattle.sbx_range.proofs.Divided.{in_range_divide}

@@ -1,8 +1,8 @@
 -- Quotients lie in their ranges.
-use Rattle.std.proofs.Common.{◌≡◌, ℕ, zero, suc, ◌+◌, ◌-◌, ◌*◌, ◌/◌, ◌%◌, ◌^◌, ◌<◌, ◌≤◌, Bool, true, false, refl, sym, ap, ◌∙◌, subst, arith}
+use Rattle.std.proofs.Common.{◌≡◌, ℕ, ◌+◌, ◌-◌, ◌*◌, ◌/◌, ◌^◌, ◌<◌, ◌≤◌, true, sym, ap, ◌∙◌, subst, arith}
 use Rattle.std.specs.Prelude.{◌&&◌, ℤ, pos, negsuc, ◌≤ℤ◌, int_lt, int_div, min}
-use Rattle.std.specs.Int.{cast_signed, cast_unsigned, saturate_signed, w32, w64}
-use Rattle.std.proofs.lemmas.Nat.{le-div, shr_le}
+use Rattle.std.specs.Int.{cast_signed, w64}
+use Rattle.std.proofs.lemmas.Nat.{le-div}
 use Rattle.std.proofs.Math.Nat.{div-mul-le_self, div-le_self, mul-le-mul_left}
 use Rattle.std.proofs.lemmas.Int.{ints}
 use Rattle.v8_word.specs.declared.Icc.{Icc}
@@ -11,7 +11,7 @@ use Rattle.v8_alu.specs.Results.{signed, dividend, quotient, signed_quotient, ne
 use Rattle.v8_alu.specs.declared.Division.{Division}
 use Rattle.v8_alu.specs.declared.Division.TheVariants.{Udiv, UdivCc, Sdiv, SdivCc}
 use Rattle.sbx_image.specs.declared.parts.Range.{Range}
-use Rattle.sbx_range.specs.Ranges.{InInterval, range, all, is_natural, is_zero}
+use Rattle.sbx_range.specs.Ranges.{InInterval, range, is_natural, is_zero}
 use Rattle.sbx_range.specs.Rows.{range_divide, divides_naturals}
 use Rattle.sbx_range.proofs.Words.{signed-natural, natural-word, is_zero-word, in_all, by_test, both_true}
 

@@ -1,19 +1,19 @@
 -- Refinement loses no pair of words for which the condition holds, and leaves one edge at least.
-use Rattle.std.proofs.Common.{◌≡◌, ◌≢◌, ℕ, ◌+◌, ◌-◌, ◌%◌, ◌^◌, ◌<◌, ◌≤◌, Bool, true, false, ◌||◌, refl, sym, ap, ◌∙◌, subst, arith, inl, inr, ◌⊎◌, Option, Some, None}
-use Rattle.std.specs.Prelude.{◌==◌, not, nat_le, if◌then◌else◌, max, ℤ, pos, negsuc, ◌+ℤ◌, ◌-ℤ◌, ◌≤ℤ◌, ◌<ℤ◌}
-use Rattle.std.specs.Int.{cast_unsigned, int_min, int_max, w32}
+use Rattle.std.proofs.Common.{◌≡◌, ◌≢◌, ℕ, ◌+◌, ◌^◌, ◌<◌, ◌≤◌, Bool, true, false, ◌||◌, refl, sym, ap, ◌∙◌, subst, arith, inl, inr, ◌⊎◌, Option, Some, None}
+use Rattle.std.specs.Prelude.{◌==◌, not, if◌then◌else◌, ℤ, pos, ◌+ℤ◌, ◌-ℤ◌, ◌≤ℤ◌, ◌<ℤ◌}
+use Rattle.std.specs.Int.{cast_unsigned, w32}
 use Rattle.std.specs.Ordering.{int_eq}
 use Rattle.std.proofs.lemmas.Bool.{cases_lt}
 use Rattle.std.proofs.lemmas.Bool.Decides.{nat_tests, Decides-int_eq, Decides-eqb}
 use Rattle.std.proofs.lemmas.Int.{ints, clamps, by_lt_z}
-use Rattle.v8_word.specs.Conditions.{holds, differ}
+use Rattle.v8_word.specs.Conditions.{holds}
 use Rattle.v8_word.specs.declared.Icc.{Icc}
 use Rattle.v8_word.specs.declared.Cond.{Cond}
 use Rattle.v8_word.specs.declared.Cond.TheVariants.{Never, Equal, LessOrEqual, Less, LessOrEqualUnsigned, CarrySet, Negative, OverflowSet, Always, NotEqual, Greater, GreaterOrEqual, GreaterUnsigned, CarryClear, Positive, OverflowClear}
 use Rattle.v8_alu.specs.Results.{signed, codes, difference_codes}
 use Rattle.sbx_image.specs.declared.parts.Range.{Range}
 use Rattle.sbx_range.specs.declared.refining.Pair.{Pair}
-use Rattle.sbx_range.specs.Laws.{AreIn, HasSigns, IsRange, KeepsBoth, OneEdgeIsLeft, RefinementKeepsPairs, RefinementKeepsWords, WordsStayIn, is_some}
+use Rattle.sbx_range.specs.Laws.{HasSigns, IsRange, KeepsBoth, OneEdgeIsLeft, RefinementKeepsPairs, RefinementKeepsWords, WordsStayIn, is_some}
 use Rattle.sbx_range.specs.Ranges.{InInterval, IsAligned, both_natural, is_empty, is_natural, is_single, known, range}
 use Rattle.sbx_range.specs.Refining.{above_unsigned, below, below_unsigned, both_of, common, from_zero, left_below, lowered, narrowed, narrowed_by_value, opposite, pair, raised, refine, refine_by_value, right_below, some_pair, some_range, turned, without}
 use Rattle.sbx_range.proofs.Words.{both_true, by_test, in_known, natural-word, signed-natural, signed-written, written-below}

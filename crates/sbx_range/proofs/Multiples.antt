@@ -1,6 +1,6 @@
 -- Multiples of powers of two: what operations on words keep of them. No range is in sight here, and every exponent will do.
-use Rattle.std.proofs.Common.{◌≡◌, ℕ, zero, suc, ◌+◌, ◌-◌, ◌*◌, ◌/◌, ◌%◌, ◌^◌, ◌<◌, ◌≤◌, true, false, refl, sym, ap, ◌∙◌, subst, arith, inl, inr, ◌⊎◌}
-use Rattle.std.specs.Prelude.{ℤ, pos, negsuc, ◌+ℤ◌, ◌*ℤ◌, unsigned_abs, min, max, bit_and, bit_or, bit_xor}
+use Rattle.std.proofs.Common.{◌≡◌, ℕ, suc, ◌+◌, ◌-◌, ◌*◌, ◌/◌, ◌%◌, ◌^◌, ◌<◌, ◌≤◌, false, refl, sym, ap, ◌∙◌, subst, arith, inl, inr}
+use Rattle.std.specs.Prelude.{ℤ, pos, negsuc, ◌+ℤ◌, ◌*ℤ◌, unsigned_abs, min, bit_and, bit_or, bit_xor}
 use Rattle.std.specs.Int.{cast_unsigned, w32, w64}
 use lib.Pow.{pow_mono}
 use Rattle.std.proofs.lemmas.Bool.{cases_lt}
@@ -8,8 +8,8 @@ use Rattle.std.proofs.Math.Nat.{mul_assoc, mul-sub}
 use Rattle.std.proofs.lemmas.Nat.{mul-le, mod-pow-add, mod-mul-add, pow_pos, pow-add, shr_split, and_mod, or_mod, xor_mod, and_comm, field_of, div-mul-add, div-add-mod', mod_below, div_below}
 use Rattle.std.proofs.lemmas.Bool.Decides.{nat_tests}
 use Rattle.std.proofs.lemmas.Int.{ints, unsigned_abs-mul}
-use Rattle.v8_alu.specs.Results.{signed, signed_product, low_word, sum, difference, shifted_left, shifted_right, shifted_right_signed}
-use Rattle.sbx_range.specs.Ranges.{IsAligned, alignment_of}
+use Rattle.v8_alu.specs.Results.{signed, signed_product, low_word, sum, difference, shifted_left, shifted_right_signed}
+use Rattle.sbx_range.specs.Ranges.{alignment_of}
 use Rattle.sbx_range.specs.Rows.{halved}
 use Rattle.sbx_range.proofs.Words.{signed-word}
 

@@ -1,24 +1,22 @@
 -- Each result lies in the range of its operation: the laws, put together from the rows.
-use Rattle.std.proofs.Common.{◌≡◌, ℕ, zero, suc, ◌+◌, ◌-◌, ◌*◌, ◌%◌, ◌^◌, ◌<◌, ◌≤◌, Bool, true, false, refl, sym, ap, ◌∙◌, subst, arith, Option, Some, None}
+use Rattle.std.proofs.Common.{◌≡◌, ℕ, ◌-◌, ◌*◌, ◌%◌, ◌^◌, ◌<◌, Bool, true, false, refl, sym, ap, ◌∙◌, subst, arith, Some, None}
 use Rattle.std.specs.Prelude.{◌&&◌, if◌then◌else◌, bit_xor}
 use Rattle.std.proofs.lemmas.Nat.{mod_below, mul-le, or_lt}
 use Rattle.v8_word.specs.declared.Icc.{Icc}
-use Rattle.v8_alu.specs.Outcomes.{outcome, complement, tagged_outcome, tagged_of, tagged_codes}
-use Rattle.v8_alu.specs.Results.{low_word, high_word, signed_product, sum, sum_codes, difference, difference_codes, step_operand, step_addend, step_y}
+use Rattle.v8_alu.specs.Outcomes.{outcome, complement, tagged_of}
+use Rattle.v8_alu.specs.Results.{high_word, signed_product, step_y}
 use Rattle.v8_alu.specs.declared.AluOut.{AluOut}
 use Rattle.v8_alu.specs.declared.Op.{Op}
 use Rattle.v8_alu.specs.declared.Op.TheVariants.{Add, AddCc, Addx, AddxCc, Sub, SubCc, Subx, SubxCc, And, AndCc, Andn, AndnCc, Or, OrCc, Orn, OrnCc, Xor, XorCc, Xnor, XnorCc, Sll, Srl, Sra, Umul, UmulCc, Smul, SmulCc, TaddCc, TsubCc, MulsCc}
-use Rattle.v8_alu.specs.declared.TaggedOp.TheVariants.{TaggedAdd, TaggedSub}
 use Rattle.sbx_image.specs.declared.parts.Range.{Range}
-use Rattle.sbx_range.specs.Laws.{AreIn, ResultsStayIn, TaggedResultsStayIn, QuotientsStayIn, SumsAreExact}
-use Rattle.sbx_range.specs.Ranges.{InInterval, InRange, all, known, is_single, word_of}
-use Rattle.sbx_range.specs.Table.{is_computed, no_codes, range_of, range_of_y, row_of, writes_y}
+use Rattle.sbx_range.specs.Laws.{ResultsStayIn, SumsAreExact}
+use Rattle.sbx_range.specs.Ranges.{InInterval, known, is_single, word_of}
+use Rattle.sbx_range.specs.Table.{is_computed, no_codes, range_of, range_of_y, row_of}
 use Rattle.sbx_range.proofs.Words.{both_true, by_test, in_all, in_known, single-word}
 use Rattle.sbx_range.proofs.Additions.{in_range_add, in_range_sub, exact-sum, exact-difference}
 use Rattle.sbx_range.proofs.Bitwise.{in_range_or, in_range_xor, in_range_and, in_range_andn}
 use Rattle.sbx_range.proofs.Products.{in_range_smul, in_range_umul}
 use Rattle.sbx_range.proofs.Shifted.{in_range_sll, in_range_srl, in_range_sra}
-use Rattle.sbx_range.proofs.Divided.{in_range_divide}
 use Rattle.sbx_range.proofs.Multiples.{signed_product-below}
 
 complement-word : (n : ℕ) → complement n < 2 ^ 32

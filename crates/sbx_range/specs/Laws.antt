@@ -1,6 +1,6 @@
 -- The laws of ranges: each result of the result table lies in the range that the table of ranges gives.
 -- Intervals stay by the ends alone, whatever alignments the operands have; alignments stay by the alignments, at words of the intervals.
-use Rattle.std.specs.Prelude.{ℕ, ◌-◌, ◌<◌, ◌≤◌, ◌^◌, ◌≡◌, Bool, true, false, ◌==◌, ◌||◌, nat_le, ℤ, pos, negsuc, ◌+ℤ◌, ◌-ℤ◌, ◌≤ℤ◌, Option, Some, None}
+use Rattle.std.specs.Prelude.{ℕ, ◌-◌, ◌<◌, ◌≤◌, ◌^◌, ◌≡◌, Bool, true, false, ◌==◌, ◌||◌, nat_le, pos, negsuc, ◌+ℤ◌, ◌-ℤ◌, ◌≤ℤ◌, Option, Some, None}
 use Rattle.v8_word.specs.Conditions.{holds}
 use Rattle.v8_word.specs.Word.{sign_extend}
 use Rattle.v8_word.specs.declared.Cond.{Cond}

@@ -1,5 +1,5 @@
 -- The table of ranges, by the operations of the result table.
-use Rattle.std.specs.Prelude.{ℕ, Bool, true, false, ◌&&◌, nat_le, if◌then◌else◌}
+use Rattle.std.specs.Prelude.{Bool, true, false, ◌&&◌, nat_le, if◌then◌else◌}
 use Rattle.v8_word.specs.declared.Icc.{Icc}
 use Rattle.v8_alu.specs.Outcomes.{outcome}
 use Rattle.v8_alu.specs.declared.Op.{Op}

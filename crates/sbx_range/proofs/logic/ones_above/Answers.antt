@@ -1,9 +1,9 @@
-use Rattle.std.proofs.Common.{◌≡◌, ℕ, ◌-◌, ◌*◌, ◌%◌, ◌^◌, ◌<◌, ◌≤◌, pos, arith, ◌∙◌, ap}
+use Rattle.std.proofs.Common.{◌≡◌, ℕ, ◌-◌, ◌*◌, ◌%◌, ◌^◌, ◌<◌, pos, arith, ◌∙◌, ap}
 use Rattle.std.specs.Int.{w32, leading_zeros}
-use Rattle.std.proofs.lemmas.Int.{ints, to_z_pos}
+use Rattle.std.proofs.lemmas.Int.{to_z_pos}
 use Rattle.std.proofs.lemmas.Nat.{one_shl}
 use Rattle.sbx_range.specs.Rows.{ones_above}
-use Rattle.sbx_range.proofs.Bitwise.{ones_above-bound, ones_above-small}
+use Rattle.sbx_range.proofs.Bitwise.{ones_above-small}
 use Rattle.sbx_range.proofs.logic.ones_above.Goals as goal
 
 small : (n : ℕ) → n < 2 ^ 31 → ((1 * 2 ^ (32 - leading_zeros w32 n)) % 2 ^ 64 - 1 ≡ ones_above n) × (ones_above n < 2 ^ 31)
