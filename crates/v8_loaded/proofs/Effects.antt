@@ -9,6 +9,7 @@ use Rattle.std.proofs.Common.{◌≡◌, ℕ, ◌+◌, ◌-◌, ◌%◌, ◌^◌
 use Rattle.std.specs.Prelude.{slice_index, slice_set, bit_or, bit_xor}
 use Rattle.std.proofs.Math.Nat.{mod-eq_of_lt}
 use Rattle.v8_word.specs.declared.Cond.TheVariants.{Always}
+use Rattle.v8_word.specs.declared.Size.TheVariants.{Double}
 use Rattle.v8_formats.specs.declared.instr.Operand.{Operand}
 use Rattle.v8_formats.specs.declared.instr.Operand.TheVariants.{Register, Immediate}
 use Rattle.v8_alu.specs.declared.Op.{Op}
@@ -17,7 +18,9 @@ use Rattle.v8_alu.specs.Outcomes.{out, outcome}
 use Rattle.v8_alu.specs.Results.{shifted_left, shifted_right}
 use Rattle.v8_meaning.specs.Operands.{second, target}
 use Rattle.v8_meaning.specs.declared.operation.Operation.{Operation}
-use Rattle.v8_meaning.specs.declared.operation.Operation.TheVariants.{Compute, SetHigh, ReadState, WriteState, LoadDouble, StoreDouble, Save, Restore, BranchOnCondition, JumpAndLink, ReturnFromTrap}
+use Rattle.v8_meaning.specs.Operations.{load, store}
+use Rattle.v8_meaning.specs.declared.operation.Extension.TheVariants.{Zero}
+use Rattle.v8_meaning.specs.declared.operation.Operation.TheVariants.{Compute, SetHigh, ReadState, WriteState, Save, Restore, BranchOnCondition, JumpAndLink, ReturnFromTrap}
 use Rattle.v8_meaning.specs.declared.operation.StateRegister.TheVariants.{Wim}
 use Rattle.v8_mmu.specs.declared.translation.MmuRegs.{MmuRegs}
 use Rattle.v8_windows.specs.Windows.{reg_of, with_reg, below, above, is_masked, can_enter}
@@ -249,10 +252,10 @@ module _ (n : ℕ) (c : Control) (w : ℕ) (x : Inside) where
 
   -- ---- double words on the stack
 
-  pub store_double_calm : (u rd offset : ℕ) → rd % 2 ≡ 0 → address_of n (stage n c w u x) 14 (Immediate offset) % 8 ≡ 0 → first_trap n (stage n c w u x) (StoreDouble (at_stack rd offset)) ≡ None
+  pub store_double_calm : (u rd offset : ℕ) → rd % 2 ≡ 0 → address_of n (stage n c w u x) 14 (Immediate offset) % 8 ≡ 0 → first_trap n (stage n c w u x) (store Double (at_stack rd offset)) ≡ None
   unfolding applies memory_applies
   store_double_calm u rd offset even aligned = rw even (rw aligned refl)
 
-  pub load_double_calm : (u rd offset : ℕ) → rd % 2 ≡ 0 → address_of n (stage n c w u x) 14 (Immediate offset) % 8 ≡ 0 → first_trap n (stage n c w u x) (LoadDouble (at_stack rd offset)) ≡ None
+  pub load_double_calm : (u rd offset : ℕ) → rd % 2 ≡ 0 → address_of n (stage n c w u x) 14 (Immediate offset) % 8 ≡ 0 → first_trap n (stage n c w u x) (load Double Zero (at_stack rd offset)) ≡ None
   unfolding applies memory_applies
   load_double_calm u rd offset even aligned = rw even (rw aligned refl)

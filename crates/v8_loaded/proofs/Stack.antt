@@ -12,7 +12,11 @@ use Rattle.std.proofs.lemmas.Bool.Decides.{nat_tests}
 use Rattle.std.proofs.Math.Nat.{mod-eq_of_lt}
 use Rattle.v8_word.specs.declared.Size.TheVariants.{Double}
 use Rattle.v8_formats.specs.declared.instr.Operand.TheVariants.{Immediate}
-use Rattle.v8_meaning.specs.declared.operation.Operation.TheVariants.{LoadDouble, StoreDouble}
+use Rattle.v8_meaning.specs.Operations.{load, store}
+use Rattle.v8_meaning.specs.Transfers.{odd_of}
+use Rattle.v8_meaning.specs.declared.operation.Extension.TheVariants.{Zero}
+use Rattle.v8_meaning.specs.declared.operation.Transfer.TheVariants.{Load, Store}
+use Rattle.v8_mmu.specs.Meaning.{stored_after}
 use Rattle.v8_mmu.specs.Ram.{entry_of, with_entry, with_double}
 use Rattle.v8_mmu.specs.Paths.{marked_ram}
 use Rattle.v8_mmu.specs.Walked.{walked, root_of}
@@ -24,13 +28,14 @@ use Rattle.v8_mmu.proofs.RamLemmas.{length-with_entry, within_entry}
 use Rattle.v8_mmu.proofs.RamNumbers.{has_double}
 use Rattle.v8_state.specs.declared.state.Control.{Control}
 use Rattle.v8_state.specs.declared.state.Cpu.{Cpu}
-use Rattle.v8_state.specs.Effects.{address_of, advanced, odd_of, reg, written_pair}
-use Rattle.v8_core.specs.declared.access.Loaded.TheVariants.{Value}
-use Rattle.v8_core.specs.declared.access.Stored.TheVariants.{Done}
+use Rattle.v8_state.specs.Effects.{address_of, advanced, reg, taken}
+use Rattle.v8_core.specs.declared.access.Moved.{Moved}
+use Rattle.v8_core.specs.declared.access.Moved.TheVariants.{Done}
 use Rattle.v8_core.specs.declared.turn.DataAccess.{DataAccess}
 use Rattle.v8_core.specs.declared.turn.Event.TheVariants.{Ran}
-use Rattle.v8_core.specs.Memory.{Memory, fetches, loads, load_through, load_answered, stores, store_through, store_answered}
-use Rattle.v8_core.specs.Accesses.{World, world, load_double_does, load_ends, store_double_does, store_ends}
+use Rattle.v8_core.specs.declared.turn.Outcome.{Outcome}
+use Rattle.v8_core.specs.Memory.{Memory, fetches, loaded_from, moves, move_through, move_answered}
+use Rattle.v8_core.specs.Accesses.{World, world, transfer_ends, transfers}
 use Rattle.v8_core.specs.Steps.{acts, ran_event, turn_of}
 use Rattle.v8_core.proofs.Turns.{runs_to}
 use Rattle.v8_handlers.specs.Handlers.{handler_word}
@@ -42,7 +47,7 @@ use Rattle.v8_loaded.specs.Areas.{HasRoom, area_of}
 use Rattle.v8_loaded.specs.Places.{handlers_marked, stack_entry_place}
 use Rattle.v8_loaded.proofs.Fetches.{by_supervisor, fetches_handlers, handlers_kept, handlers_page, page, walk_at}
 use Rattle.v8_loaded.proofs.Words.{Asks, at_stack}
-use Rattle.v8_loaded.proofs.Stages.{Inside, stage, onward, read_other}
+use Rattle.v8_loaded.proofs.Stages.{Inside, stage, onward, read_other, written_pair}
 use Rattle.v8_loaded.proofs.Effects.{load_double_calm, store_double_calm}
 use Rattle.v8_loaded.proofs.Turns.{Setting, saving, filling, Keeps, keeps_marked, keeps_reached, keeps_stored, Comes, one_more}
 
@@ -129,21 +134,21 @@ module _ (n : ℕ) (g : Pages) (words ram : List ℕ) (mmu : MmuRegs) (few : Are
   stack_kept store = mark_keeps n g words ram (stack_entry_place va) (stack_word va) store loaded stack_spot
 
   stores_there : (device : Device) (v : ℕ) →
-      stores board mmu va store_access Double v (memory_of ram device) ≡ (Done (area_of va), memory_of (with_double (marked_ram ram (stack_entry_place va) true) (area_of va) v) device)
-  unfolding stores
+      moves board mmu va store_access (Store Double) v (memory_of ram device) ≡ (Done 0 (area_of va), memory_of (with_double (marked_ram ram (stack_entry_place va) true) (area_of va) v) device)
+  unfolding moves
   stores_there device v =
       let low = on.low in
       let high = on.high in
       let aligned = on.aligned in
       let most = few.stack in
       let marks = marked_ram ram (stack_entry_place va) true in
-      ap (λ o. store_through board store_access Double v (memory_of ram device) o) (stack_walk store_access refl)
-      ∙ ap (λ o. store_answered (memory_of ram device) (page (area_of va) (stack_entry_place va)) store_access o)
+      ap (λ o. move_through board store_access (Store Double) v (memory_of ram device) o) (stack_walk store_access refl)
+      ∙ ap (λ o. move_answered (memory_of ram device) (page (area_of va) (stack_entry_place va)) store_access (stored_after 0 o))
       (double_stored marks device (area_of va) v (stack_kept true).tables.size (omega arith) (omega arith))
 
   loads_there : (device : Device) (x y : ℕ) → entry_of ram (area_of va) ≡ Some x → entry_of ram (area_of va + 4) ≡ Some y →
-      loads board mmu va load_access Double (memory_of ram device) ≡ (Value (x * 2 ^ 32 + y) (area_of va), memory_of (marked_ram ram (stack_entry_place va) false) device)
-  unfolding loads
+      moves board mmu va load_access (Load Double Zero) 0 (memory_of ram device) ≡ (Done (x * 2 ^ 32 + y) (area_of va), memory_of (marked_ram ram (stack_entry_place va) false) device)
+  unfolding moves
   loads_there device x y first second =
       let low = on.low in
       let high = on.high in
@@ -151,8 +156,8 @@ module _ (n : ℕ) (g : Pages) (words ram : List ℕ) (mmu : MmuRegs) (few : Are
       let most = few.stack in
       let marks = marked_ram ram (stack_entry_place va) false in
       let kept : (p : ℕ) → 0x2E00 ≤ p → entry_of marks p ≡ entry_of ram p = λ (p : ℕ) (above : 0x2E00 ≤ p). kept_elsewhere ram (stack_entry_place va) (stack_word va) false stack_spot p (inr (omega arith)) in
-      ap (λ o. load_through board load_access Double (memory_of ram device) o) (stack_walk load_access refl)
-      ∙ ap (λ o. load_answered (memory_of ram device) (page (area_of va) (stack_entry_place va)) load_access marks o)
+      ap (λ o. move_through board load_access (Load Double Zero) 0 (memory_of ram device) o) (stack_walk load_access refl)
+      ∙ ap (λ o. move_answered (memory_of ram device) (page (area_of va) (stack_entry_place va)) load_access (loaded_from marks o))
       (double_loaded marks device (area_of va) x y (omega arith) (omega arith) (kept (area_of va) (omega arith) ∙ first) (kept (area_of va + 4) (omega arith) ∙ second))
 
 -- ---- turns
@@ -168,28 +173,31 @@ module _ (n : ℕ) (g : Pages) (words : List ℕ) (mmu : MmuRegs) (device : Devi
       ap (λ a. (a + offset) % 2 ^ 32) (read_other n x.rows w x.globals x.row u x.mask 14 other (omega arith) (omega arith) ∙ is) ∙ mod-eq_of_lt small
 
   store_acts : (rd offset va a b : ℕ) (ram new : List ℕ) → address_of n cpu 14 (Immediate offset) ≡ va → reg n cpu rd ≡ a → reg n cpu (odd_of rd) ≡ b →
-      stores board mmu va store_access Double (a * 2 ^ 32 + b) (memory_of ram device) ≡ (Done (area_of va), memory_of new device) →
-      acts board n mmu (StoreDouble (at_stack rd offset)) (world n cpu ram device) ≡ (record { access = Some (access_of va true); trap = None }, world n (stage n c w u (onward x)) new device)
-  unfolding store_double_does advanced
+      moves board mmu va store_access (Store Double) (a * 2 ^ 32 + b) (memory_of ram device) ≡ (Done 0 (area_of va), memory_of new device) →
+      acts board n mmu (store Double (at_stack rd offset)) (world n cpu ram device) ≡ (record { access = Some (access_of va true); trap = None }, world n (stage n c w u (onward x)) new device)
+  unfolding transfers taken advanced
   store_acts rd offset va a b ram new at first second there =
       let mem = memory_of ram device in
-      let F : ℕ → ℕ → ℕ → _ = λ p v k. let l = stores board mmu p store_access Double (v * 2 ^ 32 + k) mem in store_ends n p Double cpu l.0 l.1 in
-      ap (λ p. F p (reg n cpu rd) (reg n cpu (odd_of rd))) at ∙ ap (λ v. F va v (reg n cpu (odd_of rd))) first ∙ ap (F va a) second ∙ ap (λ l. store_ends n va Double cpu l.0 l.1) there
+      let first_word = reg n cpu rd in
+      let second_word = reg n cpu (odd_of rd) in
+      let to : ℕ → ℕ → ℕ → Moved × Memory Device = λ p v k. moves board mmu p store_access (Store Double) (v * 2 ^ 32 + k) mem in
+      let end : ℕ → Moved × Memory Device → Outcome × World n Device = λ p l. transfer_ends n p (Store Double) rd cpu l.0 l.1 in
+      ap (λ p. end p (to p first_word second_word)) at ∙ ap (λ v. end va (to va v second_word)) first ∙ ap (λ k. end va (to va a k)) second ∙ ap (end va) there
 
   load_acts : (rd offset va a b : ℕ) (ram new : List ℕ) (next_cpu : Cpu n) → address_of n cpu 14 (Immediate offset) ≡ va → b < 2 ^ 32 →
-      loads board mmu va load_access Double (memory_of ram device) ≡ (Value (a * 2 ^ 32 + b) (area_of va), memory_of new device) → written_pair n cpu rd a b ≡ next_cpu →
-      acts board n mmu (LoadDouble (at_stack rd offset)) (world n cpu ram device) ≡ (record { access = Some (access_of va false); trap = None }, world n next_cpu new device)
-  unfolding load_double_does
+      moves board mmu va load_access (Load Double Zero) 0 (memory_of ram device) ≡ (Done (a * 2 ^ 32 + b) (area_of va), memory_of new device) → written_pair n cpu rd a b ≡ next_cpu →
+      acts board n mmu (load Double Zero (at_stack rd offset)) (world n cpu ram device) ≡ (record { access = Some (access_of va false); trap = None }, world n next_cpu new device)
+  unfolding transfers taken
   load_acts rd offset va a b ram new next_cpu at small there does =
       let mem = memory_of ram device in
-      let takes : ℕ → Cpu n = λ v. written_pair n cpu rd (v / 2 ^ 32) (v % 2 ^ 32) in
-      ap (λ p. load_ends n p Double false cpu takes (loads board mmu p load_access Double mem).0 (loads board mmu p load_access Double mem).1) at
-      ∙ ap (λ l. load_ends n va Double false cpu takes l.0 l.1) there
+      let end : ℕ → Moved × Memory Device → Outcome × World n Device = λ p l. transfer_ends n p (Load Double Zero) rd cpu l.0 l.1 in
+      ap (λ p. end p (moves board mmu p load_access (Load Double Zero) 0 mem)) at
+      ∙ ap (end va) there
       ∙ ap (λ q. (record { access = Some (access_of va false); trap = None }, world n q new device))
       (ap (λ h. written_pair n cpu rd h ((a * 2 ^ 32 + b) % 2 ^ 32)) (high_of a b small) ∙ ap (λ k. written_pair n cpu rd a k) (low_of a b small) ∙ does)
 
   pub in_store : (base : ℕ) (word : ℕ → ℕ) (stored : ℕ) (old : World n Device) (j k rd offset va : ℕ) → Comes n g words mmu device (saving base word stored) j old cpu →
-      k < 1024 → x.pc ≡ 0xF0001000 + 4 * k → Asks (handler_word n k) (StoreDouble (at_stack rd offset)) → rd % 2 ≡ 0 →
+      k < 1024 → x.pc ≡ 0xF0001000 + 4 * k → Asks (handler_word n k) (store Double (at_stack rd offset)) → rd % 2 ≡ 0 →
       address_of n cpu 14 (Immediate offset) ≡ va → OnStack g va → va ≡ base + 0x60000 + 4 * stored →
       reg n cpu rd ≡ word stored → reg n cpu (odd_of rd) ≡ word (suc stored) → word stored < 2 ^ 32 → word (suc stored) < 2 ^ 32 →
       Comes n g words mmu device (saving base word (suc (suc stored))) (suc j) old (stage n c w u (onward x))
@@ -221,12 +229,12 @@ module _ (n : ℕ) (g : Pages) (words : List ℕ) (mmu : MmuRegs) (device : Devi
       let kept1 = keeps_stored base word stored r true old.memory.ram marks2 kept (omega arith) (omega arith) fits in
       let kept2 = keeps_stored base word (suc stored) r true old.memory.ram mid kept1 (omega arith) (omega arith) fits_too in
       let is_stored = stores_there n g words marks mmu s.pages loaded s.root va on device (a * 2 ^ 32 + b)
-      ∙ ap (λ q. (Done (va - 0x60000), memory_of (with_double marks2 q (a * 2 ^ 32 + b)) device)) pa
-      ∙ ap (λ m. (Done (va - 0x60000), memory_of m device)) (double_is marks2 p a b fits_too) in
+      ∙ ap (λ q. (Done 0 (va - 0x60000), memory_of (with_double marks2 q (a * 2 ^ 32 + b)) device)) pa
+      ∙ ap (λ m. (Done 0 (va - 0x60000), memory_of m device)) (double_is marks2 p a b fits_too) in
       let new = stage n c w u (onward x) in
       let fetch = ap (λ q. fetches mmu q (by_supervisor Fetch) before.ram) at ∙ fetches_handlers n g words before.ram mmu s.pages before.loaded s.root k small in
       one_more n g words mmu device s area r r j old cpu new final (turn_of n cpu Ran (Some (handler_word n k)) (Some (access_of va true))) before
-      (runs_to board n mmu cpu before.ram marks device (handler_word n k) (StoreDouble (at_stack rd offset)) (Some (access_of va true)) (world n new final device)
+      (runs_to board n mmu cpu before.ram marks device (handler_word n k) (store Double (at_stack rd offset)) (Some (access_of va true)) (world n new final device)
       (record { running = s.running; sane = refl; straight = refl }) fetch is
       (store_double_calm n c w x u rd offset even (ap (λ q. q % 8) address ∙ aligned))
       (store_acts rd offset va a b marks final address first second is_stored)
@@ -236,7 +244,7 @@ module _ (n : ℕ) (g : Pages) (words : List ℕ) (mmu : MmuRegs) (device : Devi
       (store_keeps n g words mid (p + 4) b s.pages mid_loaded (omega arith) (omega arith) (omega arith))
 
   pub in_load : (base reached i r : ℕ) (old : World n Device) (j k rd offset va a b : ℕ) (new : Cpu n) → Comes n g words mmu device (filling base reached) j old cpu →
-      k < 1024 → x.pc ≡ 0xF0001000 + 4 * k → Asks (handler_word n k) (LoadDouble (at_stack rd offset)) → rd % 2 ≡ 0 →
+      k < 1024 → x.pc ≡ 0xF0001000 + 4 * k → Asks (handler_word n k) (load Double Zero (at_stack rd offset)) → rd % 2 ≡ 0 →
       address_of n cpu 14 (Immediate offset) ≡ va → OnStack g va → va ≡ base + 0x60000 + 4 * i → i < r → reached ≤ r →
       entry_of old.memory.ram (area_of va) ≡ Some a → entry_of old.memory.ram (area_of va + 4) ≡ Some b → b < 2 ^ 32 → written_pair n cpu rd a b ≡ new →
       Comes n g words mmu device (filling base r) (suc j) old new
@@ -256,7 +264,7 @@ module _ (n : ℕ) (g : Pages) (words : List ℕ) (mmu : MmuRegs) (device : Devi
       let second_there : entry_of marks (va - 0x60000 + 4) ≡ Some b = kept.words (va - 0x60000 + 4) (omega arith) (inl refl) ∙ second in
       let fetch = ap (λ q. fetches mmu q (by_supervisor Fetch) before.ram) at ∙ fetches_handlers n g words before.ram mmu s.pages before.loaded s.root k small in
       one_more n g words mmu device s area 0 r j old cpu new marks2 (turn_of n cpu Ran (Some (handler_word n k)) (Some (access_of va false))) before
-      (runs_to board n mmu cpu before.ram marks device (handler_word n k) (LoadDouble (at_stack rd offset)) (Some (access_of va false)) (world n new marks2 device)
+      (runs_to board n mmu cpu before.ram marks device (handler_word n k) (load Double Zero (at_stack rd offset)) (Some (access_of va false)) (world n new marks2 device)
       (record { running = s.running; sane = refl; straight = refl }) fetch is
       (load_double_calm n c w x u rd offset even (ap (λ q. q % 8) address ∙ aligned))
       (load_acts rd offset va a b marks marks2 new address fits (loads_there n g words marks mmu s.pages loaded s.root va on device a b first_there second_there) does)

@@ -14,10 +14,11 @@ use Rattle.std.proofs.lemmas.Bool.Decides.{nat_tests}
 use Rattle.std.proofs.lemmas.List.{get_or-set_same, get_or-set_other, set-set, set_comm}
 use Rattle.v8_alu.specs.Outcomes.{out}
 use Rattle.v8_meaning.specs.Operands.{following}
+use Rattle.v8_meaning.specs.Transfers.{odd_of}
 use Rattle.v8_windows.specs.Windows.{Windows, reg_of, with_reg, above}
 use Rattle.v8_state.specs.declared.state.Control.{Control}
 use Rattle.v8_state.specs.declared.state.Cpu.{Cpu}
-use Rattle.v8_state.specs.Effects.{advanced, computed, written, written_pair, odd_of}
+use Rattle.v8_state.specs.Effects.{advanced, computed, written}
 
 -- windows where window w has the words of `row`
 abbrev pub inside : List (List ℕ) → ℕ → List ℕ → List ℕ → ℕ → ℕ → Windows
@@ -136,6 +137,10 @@ fit_written xs k x fit there small i = by_place (i == k) refl
 abbrev with_regs : (n : ℕ) → Control → Windows → Cpu n
 with_regs n c v = record { regs = v; control = c }
 
+-- a pair of registers written, the even one first, and the next instruction
+abbrev pub written_pair : (n : ℕ) → Cpu n → ℕ → ℕ → ℕ → Cpu n
+written_pair n cpu rd x y = record { regs = with_reg n (with_reg n cpu.regs rd x) (odd_of rd) y; control = advanced cpu.control }
+
 module _ (n : ℕ) (c : Control) (w : ℕ) (x : Inside) where
   abbrev then_control : Control
   then_control = handling c x.npc (following x.npc)
@@ -162,7 +167,7 @@ module _ (n : ℕ) (c : Control) (w : ℕ) (x : Inside) where
   -- two locals of another window u
   pub pair_written : (u rd a b : ℕ) → u ≢ w → 16 ≤ rd → rd < 24 → rd % 2 ≡ 0 →
       written_pair n (stage n c w u x) rd a b ≡ stage n c w u (onward (record x { rows = with_cell (with_cell x.rows u (rd - 8) a) u (rd - 7) b }))
-  unfolding written_pair advanced
+  unfolding advanced
   pair_written u rd a b other low high even =
       let odd : odd_of rd ≡ rd + 1 = omega arith in
       let place : rd + 1 - 8 ≡ rd - 7 = omega arith in
@@ -176,7 +181,7 @@ module _ (n : ℕ) (c : Control) (w : ℕ) (x : Inside) where
   -- two ins of another window u
   pub pair_written_ins : (u rd a b : ℕ) → above n u ≢ w → 24 ≤ rd → rd < 32 → rd % 2 ≡ 0 →
       written_pair n (stage n c w u x) rd a b ≡ stage n c w u (onward (record x { rows = with_cell (with_cell x.rows (above n u) (rd - 24) a) (above n u) (rd - 23) b }))
-  unfolding written_pair advanced
+  unfolding advanced
   pair_written_ins u rd a b other low high even =
       let odd : odd_of rd ≡ rd + 1 = omega arith in
       let place : rd + 1 - 24 ≡ rd - 23 = omega arith in

@@ -1,11 +1,10 @@
 -- A turn in the vector of a trap that user code took: a word of the trap table, which may reach the device.
-use Rattle.std.proofs.Common.{◌≡◌, ℕ, ◌+◌, ◌*◌, ◌/◌, ◌<◌, false, List, Option, Some, None, refl, sym, ap, ◌∙◌, subst, arith}
+use Rattle.std.proofs.Common.{◌≡◌, ℕ, ◌+◌, ◌*◌, ◌/◌, ◌<◌, List, Option, None, refl, sym, ap, ◌∙◌, subst, arith}
 use Rattle.v8_meaning.specs.declared.operation.Operation.{Operation}
 use Rattle.v8_windows.specs.Windows.{Windows}
 use Rattle.v8_mmu.specs.declared.access.AccessKind.TheVariants.{Fetch}
 use Rattle.v8_mmu.specs.declared.translation.MmuRegs.{MmuRegs}
 use Rattle.v8_state.specs.Traps.{first_trap}
-use Rattle.v8_state.specs.declared.state.Cpu.{Cpu}
 use Rattle.v8_core.specs.declared.turn.DataAccess.{DataAccess}
 use Rattle.v8_core.specs.declared.turn.Event.{Event}
 use Rattle.v8_core.specs.declared.turn.Turn.{Turn}

@@ -15,10 +15,12 @@ use Rattle.v8_formats.specs.declared.instr.Operand.TheVariants.{Register, Immedi
 use Rattle.v8_formats.specs.declared.instr.Three.{Three}
 use Rattle.v8_formats.specs.declared.instr.Two.{Two}
 use Rattle.v8_alu.specs.declared.Op.TheVariants as ops
-use Rattle.v8_meaning.specs.Operations.{operation_of}
+use Rattle.v8_word.specs.declared.Size.TheVariants.{Double}
+use Rattle.v8_meaning.specs.declared.operation.Extension.TheVariants.{Zero}
+use Rattle.v8_meaning.specs.Operations.{operation_of, load, store}
 use Rattle.v8_meaning.specs.declared.operation.MemoryOperand.{MemoryOperand}
 use Rattle.v8_meaning.specs.declared.operation.Operation.{Operation}
-use Rattle.v8_meaning.specs.declared.operation.Operation.TheVariants.{Compute, SetHigh, ReadState, WriteState, LoadDouble, StoreDouble, Save, Restore, BranchOnCondition, JumpAndLink, ReturnFromTrap}
+use Rattle.v8_meaning.specs.declared.operation.Operation.TheVariants.{Compute, SetHigh, ReadState, WriteState, Save, Restore, BranchOnCondition, JumpAndLink, ReturnFromTrap}
 use Rattle.v8_meaning.specs.declared.operation.Space.TheVariants.{Normal}
 use Rattle.v8_meaning.specs.declared.operation.StateRegister.TheVariants.{Wim}
 
@@ -127,66 +129,66 @@ pub returns : Asks 0x81CC8000 (ReturnFromTrap (source 18 (Register 0)))
 unfolding meaning operation_of
 returns = refl
 
-pub stores_0 : Asks 0xE03BA000 (StoreDouble (at_stack 16 0))
+pub stores_0 : Asks 0xE03BA000 (store Double (at_stack 16 0))
 unfolding meaning operation_of
 stores_0 = refl
 
-pub stores_1 : Asks 0xE43BA008 (StoreDouble (at_stack 18 8))
+pub stores_1 : Asks 0xE43BA008 (store Double (at_stack 18 8))
 unfolding meaning operation_of
 stores_1 = refl
 
-pub stores_2 : Asks 0xE83BA010 (StoreDouble (at_stack 20 16))
+pub stores_2 : Asks 0xE83BA010 (store Double (at_stack 20 16))
 unfolding meaning operation_of
 stores_2 = refl
 
-pub stores_3 : Asks 0xEC3BA018 (StoreDouble (at_stack 22 24))
+pub stores_3 : Asks 0xEC3BA018 (store Double (at_stack 22 24))
 unfolding meaning operation_of
 stores_3 = refl
 
-pub stores_4 : Asks 0xF03BA020 (StoreDouble (at_stack 24 32))
+pub stores_4 : Asks 0xF03BA020 (store Double (at_stack 24 32))
 unfolding meaning operation_of
 stores_4 = refl
 
-pub stores_5 : Asks 0xF43BA028 (StoreDouble (at_stack 26 40))
+pub stores_5 : Asks 0xF43BA028 (store Double (at_stack 26 40))
 unfolding meaning operation_of
 stores_5 = refl
 
-pub stores_6 : Asks 0xF83BA030 (StoreDouble (at_stack 28 48))
+pub stores_6 : Asks 0xF83BA030 (store Double (at_stack 28 48))
 unfolding meaning operation_of
 stores_6 = refl
 
-pub stores_7 : Asks 0xFC3BA038 (StoreDouble (at_stack 30 56))
+pub stores_7 : Asks 0xFC3BA038 (store Double (at_stack 30 56))
 unfolding meaning operation_of
 stores_7 = refl
 
-pub loads_0 : Asks 0xE01BA000 (LoadDouble (at_stack 16 0))
+pub loads_0 : Asks 0xE01BA000 (load Double Zero (at_stack 16 0))
 unfolding meaning operation_of
 loads_0 = refl
 
-pub loads_1 : Asks 0xE41BA008 (LoadDouble (at_stack 18 8))
+pub loads_1 : Asks 0xE41BA008 (load Double Zero (at_stack 18 8))
 unfolding meaning operation_of
 loads_1 = refl
 
-pub loads_2 : Asks 0xE81BA010 (LoadDouble (at_stack 20 16))
+pub loads_2 : Asks 0xE81BA010 (load Double Zero (at_stack 20 16))
 unfolding meaning operation_of
 loads_2 = refl
 
-pub loads_3 : Asks 0xEC1BA018 (LoadDouble (at_stack 22 24))
+pub loads_3 : Asks 0xEC1BA018 (load Double Zero (at_stack 22 24))
 unfolding meaning operation_of
 loads_3 = refl
 
-pub loads_4 : Asks 0xF01BA020 (LoadDouble (at_stack 24 32))
+pub loads_4 : Asks 0xF01BA020 (load Double Zero (at_stack 24 32))
 unfolding meaning operation_of
 loads_4 = refl
 
-pub loads_5 : Asks 0xF41BA028 (LoadDouble (at_stack 26 40))
+pub loads_5 : Asks 0xF41BA028 (load Double Zero (at_stack 26 40))
 unfolding meaning operation_of
 loads_5 = refl
 
-pub loads_6 : Asks 0xF81BA030 (LoadDouble (at_stack 28 48))
+pub loads_6 : Asks 0xF81BA030 (load Double Zero (at_stack 28 48))
 unfolding meaning operation_of
 loads_6 = refl
 
-pub loads_7 : Asks 0xFC1BA038 (LoadDouble (at_stack 30 56))
+pub loads_7 : Asks 0xFC1BA038 (load Double Zero (at_stack 30 56))
 unfolding meaning operation_of
 loads_7 = refl

@@ -8,11 +8,12 @@ use Rattle.std.proofs.Common.{◌≡◌, ◌≢◌, ℕ, suc, ◌+◌, ◌-◌, 
 use Rattle.std.specs.Prelude.{slice_index, bit_xor}
 use Rattle.v8_formats.specs.declared.instr.Operand.TheVariants.{Register}
 use Rattle.v8_meaning.specs.declared.operation.Operation.{Operation}
-use Rattle.v8_meaning.specs.declared.operation.Operation.TheVariants.{LoadDouble}
+use Rattle.v8_word.specs.declared.Size.TheVariants.{Double}
+use Rattle.v8_meaning.specs.Operations.{load}
+use Rattle.v8_meaning.specs.declared.operation.Extension.TheVariants.{Zero}
 use Rattle.v8_mmu.specs.Ram.{entry_of}
 use Rattle.v8_mmu.specs.declared.translation.MmuRegs.{MmuRegs}
 use Rattle.v8_windows.specs.Windows.{AreRows, below, above, is_masked}
-use Rattle.v8_state.specs.Effects.{written_pair}
 use Rattle.v8_state.specs.declared.state.Control.{Control}
 use Rattle.v8_state.specs.declared.state.Cpu.{Cpu}
 use Rattle.v8_core.specs.Accesses.{World, world}
@@ -22,7 +23,7 @@ use Rattle.v8_memory.specs.Board.{Device}
 use Rattle.v8_loaded.specs.Areas.{HasRoom, area_of}
 use Rattle.v8_loaded.proofs.Words.{Asks, at_stack, reads_mask, goes_underflow, shifts_mask_left, shifts_right, joins_local, writes_mask_local, nothing, restores, loads_0, loads_1, loads_2, loads_3, loads_4, loads_5, loads_6, loads_7, saves, jumps, returns}
 use Rattle.v8_loaded.proofs.Windows.{above_below, below_above, below_within, above_within, above_differs, two_above_differs, three_above_differs, not_masked}
-use Rattle.v8_loaded.proofs.Stages.{Inside, stage, finished, pair_written, pair_written_ins}
+use Rattle.v8_loaded.proofs.Stages.{Inside, stage, finished, pair_written, pair_written_ins, written_pair}
 use Rattle.v8_loaded.proofs.Effects.{Does, reads_mask_does, goes_does, shifts_mask_left_does, shifts_right_does, joins_local_does, writes_mask_local_does, nothing_does, restores_does, saves_does, jumps_does, returns_does, address_of_local}
 use Rattle.v8_loaded.proofs.Turns.{Setting, Comes, filling, starts, table, handler}
 use Rattle.v8_loaded.proofs.Stack.{in_load, on_stack, stack_address}
@@ -189,7 +190,7 @@ module _ (n : ℕ) (g : Pages) (words : List ℕ) (mmu : MmuRegs) (device : Devi
 
   -- ldd of words 2 j and 2 j + 1
   loads : (t j pc npc rd : ℕ) (new : Cpu n) → At (2 * j) t (stage n c w u (on (cells (2 * j)) r5 marks pc npc)) → j < 8 → pc ≡ 0xF00010A0 + 4 * j → rd % 2 ≡ 0 →
-      Asks (handler_word n (40 + j)) (LoadDouble (at_stack rd (8 * j))) → written_pair n (stage n c w u (on (cells (2 * j)) r5 marks pc npc)) rd (v (2 * j)) (v (2 * j + 1)) ≡ new →
+      Asks (handler_word n (40 + j)) (load Double Zero (at_stack rd (8 * j))) → written_pair n (stage n c w u (on (cells (2 * j)) r5 marks pc npc)) rd (v (2 * j)) (v (2 * j + 1)) ≡ new →
       At (2 * j + 2) (suc t) new
   loads t j pc npc rd new before small at even asks written =
       let low = f.room.low in

@@ -2,32 +2,38 @@
 use Rattle.std.proofs.Common.{◌≡◌, ℕ, ◌+◌, ◌%◌, ◌^◌, ◌<◌, true, false, List, [], ◌∷◌, ◌++◌, Some, None, refl, ap, ◌∙◌, arith}
 use Rattle.std.specs.Prelude.{◌==◌}
 use Rattle.v8_word.specs.declared.Size.TheVariants.{Word}
+use Rattle.v8_formats.specs.Table.{meaning}
 use Rattle.v8_formats.specs.declared.instr.Operand.TheVariants.{Register, Immediate}
 use Rattle.v8_formats.specs.declared.instr.Three.{Three}
 use Rattle.v8_formats.specs.declared.instr.Two.{Two}
 use Rattle.v8_meaning.specs.Operands.{following}
-use Rattle.v8_meaning.specs.declared.operation.Loading.TheVariants as loadings
+use Rattle.v8_meaning.specs.Operations.{operation_of, load, store}
+use Rattle.v8_meaning.specs.declared.operation.Extension.TheVariants.{Zero}
 use Rattle.v8_meaning.specs.declared.operation.MemoryOperand.{MemoryOperand}
 use Rattle.v8_meaning.specs.declared.operation.Operation.{Operation}
-use Rattle.v8_meaning.specs.declared.operation.Operation.TheVariants.{SetHigh, Load, Store, JumpAndLink, ReturnFromTrap}
+use Rattle.v8_meaning.specs.declared.operation.Operation.TheVariants.{SetHigh, JumpAndLink, ReturnFromTrap}
 use Rattle.v8_meaning.specs.declared.operation.Space.TheVariants.{Normal}
-use Rattle.v8_meaning.specs.declared.operation.Storing.TheVariants as storings
+use Rattle.v8_meaning.specs.declared.operation.Transfer.TheVariants as transfer
 use Rattle.v8_windows.specs.Windows.{Windows, above, can_enter, moved, reg_of, trapped, with_reg}
 use Rattle.v8_mmu.specs.declared.access.AccessKind.TheVariants as kinds
 use Rattle.v8_mmu.specs.declared.bus.Stop.TheVariants.{Exit}
 use Rattle.v8_mmu.specs.declared.translation.MmuRegs.{MmuRegs}
 use Rattle.v8_mmu.specs.Walked.{root_of}
-use Rattle.v8_state.specs.Effects.{address_of, effect, written, advanced, jumped, returned}
-use Rattle.v8_state.specs.Traps.{applies, first_trap, memory_applies}
+use Rattle.v8_handlers.specs.Handlers.{trap_word}
+use Rattle.v8_state.specs.Effects.{address_of, effect, taken, written, advanced, jumped, returned}
+use Rattle.v8_state.specs.Traps.{applies, entered, first_trap, memory_applies}
 use Rattle.v8_state.specs.declared.state.Cpu.{Cpu}
-use Rattle.v8_core.specs.declared.access.Loaded.{Loaded}
-use Rattle.v8_core.specs.declared.access.Loaded.TheVariants.{Value}
-use Rattle.v8_core.specs.declared.access.Stored.{Stored}
-use Rattle.v8_core.specs.declared.access.Stored.TheVariants.{Done}
+use Rattle.v8_core.specs.declared.access.Moved.{Moved}
+use Rattle.v8_core.specs.declared.access.Moved.TheVariants.{Done}
+use Rattle.v8_core.specs.declared.turn.DataAccess.{DataAccess}
+use Rattle.v8_core.specs.declared.turn.Event.{Event}
+use Rattle.v8_core.specs.declared.turn.Event.TheVariants.{Ran, Trapped, ErrorMode}
 use Rattle.v8_core.specs.declared.turn.Outcome.{Outcome}
-use Rattle.v8_core.specs.Accesses.{World, world, moving, quiet, load_does, load_ends, store_does, store_ends}
-use Rattle.v8_core.specs.Memory.{Memory, loads, load_through, stores, store_through}
-use Rattle.v8_core.specs.Steps.{acts}
+use Rattle.v8_core.specs.declared.turn.Turn.{Turn}
+use Rattle.v8_core.specs.Accesses.{World, world, moving, quiet, transfer_ends, transfers}
+use Rattle.v8_core.specs.Memory.{Memory, fetches, moves, move_through}
+use Rattle.v8_core.specs.Steps.{acts, next, ran_event, trap_event, turn_of}
+use Rattle.v8_core.proofs.Turns.{Ready, runs_to, traps_to}
 use Rattle.v8_layout.specs.Layout.{Pages, AreFew, IsLoaded}
 use Rattle.v8_memory.specs.Board.{Device, board, board_load, board_store, device_load, device_store, gets}
 use Rattle.v8_loaded.specs.Places.{device_marked}
@@ -51,11 +57,11 @@ abbrev pub at_device : ℕ → MemoryOperand
 at_device offset = record { rd = 24; rs1 = 19; operand2 = Immediate offset; space = Normal }
 
 abbrev pub load_input : Operation
-load_input = Load loadings.Word (at_device 0)
+load_input = load Word Zero (at_device 0)
 
 -- st %i0,[%l3+4] and st %i0,[%l3+8]
 abbrev pub store_word : ℕ → Operation
-store_word offset = Store storings.Word (at_device offset)
+store_word offset = store Word (at_device offset)
 
 pub calm_load : (n : ℕ) (cpu : Cpu n) (place : ℕ) → address_of n cpu 19 (Immediate 0) ≡ place → (place % 4 == 0) ≡ true → first_trap n cpu load_input ≡ None
 unfolding applies memory_applies
@@ -76,22 +82,22 @@ calm_return n c t regs pc npc f place free at whole = rw free (rw at (rw whole r
 
 -- what the device gives, and takes
 pub input_loaded : (n : ℕ) (g : Pages) (words ram : List ℕ) (mmu : MmuRegs) (d : Device) → AreFew g → IsLoaded n g words ram → root_of mmu ≡ 0x2000 →
-    loads board mmu 0xF0010000 (by_supervisor kinds.Load) Word (record { ram = ram; device = d }) ≡ (Value (gets d).0 0x100000000, record { ram = device_marked false ram; device = (gets d).1 })
-unfolding loads board_load device_load
+    moves board mmu 0xF0010000 (by_supervisor kinds.Load) (transfer.Load Word Zero) 0 (record { ram = ram; device = d }) ≡ (Done (gets d).0 0x100000000, record { ram = device_marked false ram; device = (gets d).1 })
+unfolding moves board_load device_load
 input_loaded n g words ram mmu d few loaded root =
-    ap (λ r. load_through board (by_supervisor kinds.Load) Word (record { ram = ram; device = d }) r) (reaches_input n g words ram mmu few loaded root)
+    ap (λ r. move_through board (by_supervisor kinds.Load) (transfer.Load Word Zero) 0 (record { ram = ram; device = d }) r) (reaches_input n g words ram mmu few loaded root)
 
 pub word_put : (n : ℕ) (g : Pages) (words ram : List ℕ) (mmu : MmuRegs) (d : Device) (v : ℕ) → AreFew g → IsLoaded n g words ram → root_of mmu ≡ 0x2000 →
-    stores board mmu 0xF0010004 (by_supervisor kinds.Store) Word v (record { ram = ram; device = d }) ≡ (Done 0x100000004, record { ram = device_marked true ram; device = record d { output = d.output ++ (v % 2 ^ 8) ∷ [] } })
-unfolding stores board_store device_store
+    moves board mmu 0xF0010004 (by_supervisor kinds.Store) (transfer.Store Word) v (record { ram = ram; device = d }) ≡ (Done 0 0x100000004, record { ram = device_marked true ram; device = record d { output = d.output ++ (v % 2 ^ 8) ∷ [] } })
+unfolding moves board_store device_store
 word_put n g words ram mmu d v few loaded root =
-    ap (λ r. store_through board (by_supervisor kinds.Store) Word v (record { ram = ram; device = d }) r) (reaches_device n g words ram mmu few loaded root 0xF0010004 (omega arith) (omega arith))
+    ap (λ r. move_through board (by_supervisor kinds.Store) (transfer.Store Word) v (record { ram = ram; device = d }) r) (reaches_device n g words ram mmu few loaded root 0xF0010004 (omega arith) (omega arith))
 
 pub word_stopped : (n : ℕ) (g : Pages) (words ram : List ℕ) (mmu : MmuRegs) (d : Device) (v : ℕ) → AreFew g → IsLoaded n g words ram → root_of mmu ≡ 0x2000 →
-    stores board mmu 0xF0010008 (by_supervisor kinds.Store) Word v (record { ram = ram; device = d }) ≡ (Done 0x100000008, record { ram = device_marked true ram; device = record d { stopped = Some (Exit v) } })
-unfolding stores board_store device_store
+    moves board mmu 0xF0010008 (by_supervisor kinds.Store) (transfer.Store Word) v (record { ram = ram; device = d }) ≡ (Done 0 0x100000008, record { ram = device_marked true ram; device = record d { stopped = Some (Exit v) } })
+unfolding moves board_store device_store
 word_stopped n g words ram mmu d v few loaded root =
-    ap (λ r. store_through board (by_supervisor kinds.Store) Word v (record { ram = ram; device = d }) r) (reaches_device n g words ram mmu few loaded root 0xF0010008 (omega arith) (omega arith))
+    ap (λ r. move_through board (by_supervisor kinds.Store) (transfer.Store Word) v (record { ram = ram; device = d }) r) (reaches_device n g words ram mmu few loaded root 0xF0010008 (omega arith) (omega arith))
 
 pub address_is : (n : ℕ) (c : Cpu n) (t : ℕ) (regs : Windows) (pc npc rs1 v offset : ℕ) → reg_of n regs rs1 ≡ v → address_of n (in_vector n c t regs pc npc) rs1 (Immediate offset) ≡ (v + offset) % 2 ^ 32
 unfolding address_of
@@ -109,23 +115,23 @@ register_address_is n c t regs pc npc rs1 v reads small =
 -- ---- what the words of a vector do
 
 pub loads_input : (n : ℕ) (mmu : MmuRegs) (c : Cpu n) (t : ℕ) (regs : Windows) (a b : ℕ) (ram after : List ℕ) (d e : Device) (va pa v : ℕ) →
-    address_of n (in_vector n c t regs a b) 19 (Immediate 0) ≡ va → loads board mmu va (by_supervisor kinds.Load) Word (record { ram = ram; device = d }) ≡ (Value v pa, record { ram = after; device = e }) →
+    address_of n (in_vector n c t regs a b) 19 (Immediate 0) ≡ va → moves board mmu va (by_supervisor kinds.Load) (transfer.Load Word Zero) 0 (record { ram = ram; device = d }) ≡ (Done v pa, record { ram = after; device = e }) →
     acts board n mmu load_input (world n (in_vector n c t regs a b) ram d) ≡ (moving va pa Word false, world n (in_vector n c t (with_reg n regs 24 v) b (following b)) after e)
-unfolding load_does written advanced
+unfolding transfers taken advanced
 loads_input n mmu c t regs a b ram after d e va pa v at done =
     let cpu = in_vector n c t regs a b in
-    let F : ℕ → Loaded × Memory Device → Outcome × World n Device = λ p l. load_ends n p Word false cpu (λ x. written n cpu 24 x) l.0 l.1 in
-    ap (λ p. F p (loads board mmu p (by_supervisor kinds.Load) Word (record { ram = ram; device = d }))) at ∙ ap (F va) done
+    let F : ℕ → Moved × Memory Device → Outcome × World n Device = λ p l. transfer_ends n p (transfer.Load Word Zero) 24 cpu l.0 l.1 in
+    ap (λ p. F p (moves board mmu p (by_supervisor kinds.Load) (transfer.Load Word Zero) 0 (record { ram = ram; device = d }))) at ∙ ap (F va) done
 
 pub stores_word : (n : ℕ) (mmu : MmuRegs) (c : Cpu n) (t : ℕ) (regs : Windows) (a b offset : ℕ) (ram after : List ℕ) (d e : Device) (va pa v : ℕ) →
-    address_of n (in_vector n c t regs a b) 19 (Immediate offset) ≡ va → reg_of n regs 24 ≡ v → stores board mmu va (by_supervisor kinds.Store) Word v (record { ram = ram; device = d }) ≡ (Done pa, record { ram = after; device = e }) →
+    address_of n (in_vector n c t regs a b) 19 (Immediate offset) ≡ va → reg_of n regs 24 ≡ v → moves board mmu va (by_supervisor kinds.Store) (transfer.Store Word) v (record { ram = ram; device = d }) ≡ (Done 0 pa, record { ram = after; device = e }) →
     acts board n mmu (store_word offset) (world n (in_vector n c t regs a b) ram d) ≡ (moving va pa Word true, world n (in_vector n c t regs b (following b)) after e)
-unfolding store_does advanced
+unfolding transfers taken advanced
 stores_word n mmu c t regs a b offset ram after d e va pa v at reads done =
     let cpu = in_vector n c t regs a b in
-    let F : ℕ → Stored × Memory Device → Outcome × World n Device = λ p l. store_ends n p Word cpu l.0 l.1 in
-    ap (λ p. F p (stores board mmu p (by_supervisor kinds.Store) Word (reg_of n regs 24) (record { ram = ram; device = d }))) at
-    ∙ ap (λ w. F va (stores board mmu va (by_supervisor kinds.Store) Word w (record { ram = ram; device = d }))) reads
+    let F : ℕ → Moved × Memory Device → Outcome × World n Device = λ p l. transfer_ends n p (transfer.Store Word) 24 cpu l.0 l.1 in
+    ap (λ p. F p (moves board mmu p (by_supervisor kinds.Store) (transfer.Store Word) (reg_of n regs 24) (record { ram = ram; device = d }))) at
+    ∙ ap (λ w. F va (moves board mmu va (by_supervisor kinds.Store) (transfer.Store Word) w (record { ram = ram; device = d }))) reads
     ∙ ap (F va) done
 
 -- jmpl %l2,%g0

@@ -10,12 +10,14 @@ use Rattle.std.proofs.lemmas.Bool.Decides.{nat_tests}
 use Rattle.v8_meaning.specs.Operands.{following}
 use Rattle.v8_meaning.specs.declared.operation.Operation.{Operation}
 use Rattle.v8_formats.specs.declared.instr.Operand.TheVariants.{Register}
-use Rattle.v8_meaning.specs.declared.operation.Operation.TheVariants.{StoreDouble}
+use Rattle.v8_word.specs.declared.Size.TheVariants.{Double}
+use Rattle.v8_meaning.specs.Operations.{store}
 use Rattle.v8_mmu.specs.declared.translation.MmuRegs.{MmuRegs}
 use Rattle.v8_windows.specs.Windows.{reg_of, below, above, is_masked}
 use Rattle.v8_state.specs.declared.state.Control.{Control}
 use Rattle.v8_state.specs.declared.state.Cpu.{Cpu}
-use Rattle.v8_state.specs.Effects.{odd_of, reg}
+use Rattle.v8_meaning.specs.Transfers.{odd_of}
+use Rattle.v8_state.specs.Effects.{reg}
 use Rattle.v8_core.specs.Accesses.{World, world}
 use Rattle.v8_handlers.specs.Handlers.{trap_word, handler_word, page_word}
 use Rattle.v8_layout.specs.Layout.{Pages, IsLoaded}
@@ -136,7 +138,7 @@ module _ (n : ℕ) (g : Pages) (words : List ℕ) (mmu : MmuRegs) (device : Devi
 
   -- std of words 2 j and 2 j + 1
   stores : (t j pc npc : ℕ) → At (2 * j) t (stage n c w u (on g6 r5 (2 ^ u) pc npc)) → j < 8 → pc ≡ 0xF0001020 + 4 * j →
-      Asks (handler_word n (8 + j)) (StoreDouble (at_stack (16 + 2 * j) (8 * j))) → At (suc (suc (2 * j))) (suc t) (stage n c w u (on g6 r5 (2 ^ u) npc (following npc)))
+      Asks (handler_word n (8 + j)) (store Double (at_stack (16 + 2 * j) (8 * j))) → At (suc (suc (2 * j))) (suc t) (stage n c w u (on g6 r5 (2 ^ u) npc (following npc)))
   stores t j pc npc before small at is =
       let x = on g6 r5 (2 ^ u) pc npc in
       let most = s.pages.stack in
