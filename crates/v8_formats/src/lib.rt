@@ -9,6 +9,7 @@ ghost use Rattle.v8_formats.specs.Table.{meaning, table, IsCanonical, AreApart};
 mod encoding;
 mod fields;
 mod instr;
+
 pub use encoding::encode;
 use fields::{
     alternate_of, branch_of, displacement30, shift_of, three_of, trap_of, two_of, upper_of,
