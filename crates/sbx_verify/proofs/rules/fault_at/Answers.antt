@@ -11,3 +11,21 @@ returns-then-breaks_v3 c =
       breaks = subst P c.requires.operation (c.if-breaks_v3.ensures.0 refl);
       least = search rules;
     }
+
+pub returns-then-touches_special : goal.returns-then-touches_special
+returns-then-touches_special c = search rules
+
+pub returns-then-not-is_declared : goal.returns-then-not-is_declared
+returns-then-not-is_declared c = search rules
+
+pub returns-then-breaks_v14 : goal.returns-then-breaks_v14
+returns-then-breaks_v14 c = search rules
+
+pub returns-then-from : goal.returns-then-from
+returns-then-from c = search rules
+
+pub returns-then-not-is_exit : goal.returns-then-not-is_exit
+returns-then-not-is_exit c = search rules
+
+pub returns : goal.returns
+returns c = search rules

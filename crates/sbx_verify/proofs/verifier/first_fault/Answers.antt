@@ -1,4 +1,4 @@
-use Rattle.std.proofs.Common.{◌∙◌, ap, refl, arith, subst, get_or, length, ◌<◌, List, ℕ}
+use Rattle.std.proofs.Common.{◌∙◌, ap, refl, arith, subst, get_or, length, ◌<◌, List, ℕ, rules}
 use Rattle.std.specs.Prelude.{if◌then◌else◌, slice_get, Some, true}
 use Rattle.sbx_flat.specs.Turns.{asked}
 use Rattle.sbx_verify.specs.declared.cause.Cause.{Cause}
@@ -28,3 +28,6 @@ loop-i-preserved c =
       weight = weight_step words c.words.result.now _ _ _ _ same read c.loop-i.invariant.weight c.asked-operation.ensures c.weight_of-weight.ensures.value;
       bound = omega arith;
     }
+
+pub returns-in-Some : goal.returns-in-Some
+returns-in-Some c = search rules
