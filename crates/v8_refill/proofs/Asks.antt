@@ -4,8 +4,7 @@ use Rattle.v8_word.specs.declared.Cond.TheVariants.{Always}
 use Rattle.v8_formats.specs.declared.instr.Operand.TheVariants.{Register, Immediate}
 use Rattle.v8_alu.specs.declared.Op.TheVariants as ops
 use Rattle.v8_meaning.specs.Operations.{load}
-use Rattle.v8_word.specs.declared.Size.TheVariants.{Double}
-use Rattle.v8_meaning.specs.declared.operation.Extension.TheVariants.{Zero}
+use Rattle.v8_meaning.specs.declared.operation.Loading.TheVariants as loadings
 use Rattle.v8_meaning.specs.declared.operation.Operation.TheVariants.{Compute, SetHigh, ReadState, WriteState, Save, Restore, BranchOnCondition, JumpAndLink, ReturnFromTrap}
 use Rattle.v8_meaning.specs.declared.operation.StateRegister.TheVariants.{Wim}
 use Rattle.v8_handlers.specs.Handlers.{trap_word, handler_word, page_word}
@@ -55,35 +54,35 @@ pub word_39 : (n : ℕ) → Asks (handler_word n 39) (Restore (fields 0 0 (Regis
 unfolding page_word
 word_39 n = restores
 
-pub word_40 : (n : ℕ) → Asks (handler_word n 40) (load Double Zero (at_stack 16 0))
+pub word_40 : (n : ℕ) → Asks (handler_word n 40) (load loadings.Double (at_stack 16 0))
 unfolding page_word
 word_40 n = loads_0
 
-pub word_41 : (n : ℕ) → Asks (handler_word n 41) (load Double Zero (at_stack 18 8))
+pub word_41 : (n : ℕ) → Asks (handler_word n 41) (load loadings.Double (at_stack 18 8))
 unfolding page_word
 word_41 n = loads_1
 
-pub word_42 : (n : ℕ) → Asks (handler_word n 42) (load Double Zero (at_stack 20 16))
+pub word_42 : (n : ℕ) → Asks (handler_word n 42) (load loadings.Double (at_stack 20 16))
 unfolding page_word
 word_42 n = loads_2
 
-pub word_43 : (n : ℕ) → Asks (handler_word n 43) (load Double Zero (at_stack 22 24))
+pub word_43 : (n : ℕ) → Asks (handler_word n 43) (load loadings.Double (at_stack 22 24))
 unfolding page_word
 word_43 n = loads_3
 
-pub word_44 : (n : ℕ) → Asks (handler_word n 44) (load Double Zero (at_stack 24 32))
+pub word_44 : (n : ℕ) → Asks (handler_word n 44) (load loadings.Double (at_stack 24 32))
 unfolding page_word
 word_44 n = loads_4
 
-pub word_45 : (n : ℕ) → Asks (handler_word n 45) (load Double Zero (at_stack 26 40))
+pub word_45 : (n : ℕ) → Asks (handler_word n 45) (load loadings.Double (at_stack 26 40))
 unfolding page_word
 word_45 n = loads_5
 
-pub word_46 : (n : ℕ) → Asks (handler_word n 46) (load Double Zero (at_stack 28 48))
+pub word_46 : (n : ℕ) → Asks (handler_word n 46) (load loadings.Double (at_stack 28 48))
 unfolding page_word
 word_46 n = loads_6
 
-pub word_47 : (n : ℕ) → Asks (handler_word n 47) (load Double Zero (at_stack 30 56))
+pub word_47 : (n : ℕ) → Asks (handler_word n 47) (load loadings.Double (at_stack 30 56))
 unfolding page_word
 word_47 n = loads_7
 

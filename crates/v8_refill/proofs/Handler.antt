@@ -12,8 +12,7 @@ use Rattle.v8_word.specs.declared.Cond.TheVariants.{Always}
 use Rattle.v8_formats.specs.declared.instr.Operand.TheVariants.{Register, Immediate}
 use Rattle.v8_alu.specs.declared.Op.TheVariants as ops
 use Rattle.v8_meaning.specs.Operations.{load}
-use Rattle.v8_word.specs.declared.Size.TheVariants.{Double}
-use Rattle.v8_meaning.specs.declared.operation.Extension.TheVariants.{Zero}
+use Rattle.v8_meaning.specs.declared.operation.Loading.TheVariants as loadings
 use Rattle.v8_meaning.specs.declared.operation.Operation.TheVariants.{Compute, SetHigh, ReadState, WriteState, Save, Restore, BranchOnCondition, JumpAndLink, ReturnFromTrap}
 use Rattle.v8_meaning.specs.declared.operation.StateRegister.TheVariants.{Wim}
 use Rattle.v8_mmu.specs.Ram.{entry_of}
@@ -115,7 +114,7 @@ area_address n c rows w globals row m a mask pc npc v k offset l other few small
 loads_pair : {D : Type 0} (m : Meaning D) (n : ℕ) (g : Pages) (code : List ℕ) (mmu : MmuRegs) (device : D) → Setting m n g code mmu device → Doubles m device →
     (old : World n D) (t : ℕ) (c : Control) (rows : List (List ℕ)) (cur : ℕ) (globals row : List ℕ) (mask : ℕ) (v : ℕ → ℕ) (j pc npc rd : ℕ) (new : Cpu n) → Frame n g old.memory.ram rows cur v →
     Comes m n g code mmu device (area (pointer rows (above n cur) - 0x60000) v 0 (2 * j)) t old (stage n c (refilled rows (above n cur) (above n (above n cur)) v (2 * j)) (below n cur) globals row (above n cur) mask pc npc) →
-    j < 8 → pc ≡ 0xF0001000 + 4 * (40 + j) → rd % 2 ≡ 0 → Asks (handler_word n (40 + j)) (load Double Zero (at_stack rd (8 * j))) →
+    j < 8 → pc ≡ 0xF0001000 + 4 * (40 + j) → rd % 2 ≡ 0 → Asks (handler_word n (40 + j)) (load loadings.Double (at_stack rd (8 * j))) →
     written_pair n (stage n c (refilled rows (above n cur) (above n (above n cur)) v (2 * j)) (below n cur) globals row (above n cur) mask pc npc) rd (v (2 * j)) (v (2 * j + 1)) ≡ new →
     Comes m n g code mmu device (area (pointer rows (above n cur) - 0x60000) v 0 (2 * j + 2)) (suc t) old new
 loads_pair m n g code mmu device s d old t c rows cur globals row mask v j pc npc rd new f before small place even asks written =

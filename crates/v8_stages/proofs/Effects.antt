@@ -21,7 +21,7 @@ use Rattle.v8_alu.specs.Outcomes.{out, outcome}
 use Rattle.v8_alu.specs.Results.{shifted_left, shifted_right}
 use Rattle.v8_meaning.specs.Operations.{load, store}
 use Rattle.v8_word.specs.declared.Size.TheVariants.{Double}
-use Rattle.v8_meaning.specs.declared.operation.Extension.TheVariants.{Zero}
+use Rattle.v8_meaning.specs.declared.operation.Loading.TheVariants as loadings
 use Rattle.v8_meaning.specs.Operands.{following, second, target}
 use Rattle.v8_meaning.specs.declared.operation.Operation.TheVariants.{Compute, SetHigh, ReadState, WriteState, Save, Restore, BranchOnCondition, JumpAndLink, ReturnFromTrap}
 use Rattle.v8_meaning.specs.declared.operation.StateRegister.TheVariants.{Wim}
@@ -240,6 +240,6 @@ unfolding applies memory_applies
 store_double_calm n c rows w globals row current mask pc npc rd offset even aligned = rw even (rw aligned refl)
 
 pub load_double_calm : (n : ℕ) (c : Control) (rows : List (List ℕ)) (w : ℕ) (globals row : List ℕ) (current mask pc npc rd offset : ℕ) → rd % 2 ≡ 0 → address_of n (stage n c rows w globals row current mask pc npc) 14 (Immediate offset) % 8 ≡ 0 →
-    first_trap n (stage n c rows w globals row current mask pc npc) (load Double Zero (at_stack rd offset)) ≡ None
+    first_trap n (stage n c rows w globals row current mask pc npc) (load loadings.Double (at_stack rd offset)) ≡ None
 unfolding applies memory_applies
 load_double_calm n c rows w globals row current mask pc npc rd offset even aligned = rw even (rw aligned refl)

@@ -8,7 +8,7 @@ use Rattle.std.proofs.Common.{◌≡◌, ℕ, suc, ◌+◌, ◌-◌, ◌*◌, �
 use Rattle.v8_word.specs.declared.Size.TheVariants.{Double}
 use Rattle.v8_formats.specs.Table.{meaning}
 use Rattle.v8_formats.specs.declared.instr.Operand.TheVariants.{Immediate}
-use Rattle.v8_meaning.specs.declared.operation.Extension.TheVariants.{Zero}
+use Rattle.v8_meaning.specs.declared.operation.Loading.TheVariants as loadings
 use Rattle.v8_meaning.specs.Operands.{following}
 use Rattle.v8_meaning.specs.Operations.{operation_of, load, store}
 use Rattle.v8_meaning.specs.Transfers.{odd_of}
@@ -173,7 +173,7 @@ in_store m n g code mmu device s d base word stored old j c rows w globals row u
 
 loads_there : {D : Type 0} (m : Meaning D) (n : ℕ) (g : Pages) (code ram : List ℕ) (mmu : MmuRegs) (device : D) → Setting m n g code mmu device → Doubles m device → IsLoaded n g code ram → (va x y : ℕ) → OnStack g va →
     entry_of ram (va - 0x60000) ≡ Some x → entry_of ram (va - 0x60000 + 4) ≡ Some y →
-    moves m mmu va load_access (Load Double Zero) 0 (record { ram = ram; device = device }) ≡ (Done (x * 2 ^ 32 + y) (va - 0x60000), record { ram = marked_ram ram (stack_entry_place va) false; device = device })
+    moves m mmu va load_access (Load loadings.Double) 0 (record { ram = ram; device = device }) ≡ (Done (x * 2 ^ 32 + y) (va - 0x60000), record { ram = marked_ram ram (stack_entry_place va) false; device = device })
 unfolding moves
 loads_there m n g code ram mmu device s d loaded va x y on first second =
     let low = on.low in
@@ -184,31 +184,31 @@ loads_there m n g code ram mmu device s d loaded va x y on first second =
     let mem : Memory _ = record { ram = ram; device = device } in
     let spot = stack_spot n g code ram s.pages loaded va on in
     let marks = marked_ram ram (stack_entry_place va) false in
-    ap (λ o. move_through m load_access (Load Double Zero) 0 mem o) (stack_walk n g code ram mmu s.root s.pages loaded va on load_access refl)
+    ap (λ o. move_through m load_access (Load loadings.Double) 0 mem o) (stack_walk n g code ram mmu s.root s.pages loaded va on load_access refl)
     ∙ ap (λ o. move_answered mem page load_access (loaded_from marks o)) (d.load marks (va - 0x60000) x y (omega arith) (omega arith)
     (kept_elsewhere ram (stack_entry_place va) (stack_word va) false spot (va - 0x60000) (inr (omega arith)) ∙ first)
     (kept_elsewhere ram (stack_entry_place va) (stack_word va) false spot (va - 0x60000 + 4) (inr (omega arith)) ∙ second))
 
 load_acts : {D : Type 0} (m : Meaning D) (n : ℕ) (mmu : MmuRegs) (c : Control) (rows : List (List ℕ)) (w : ℕ) (globals row : List ℕ) (u mask pc npc rd offset va x y : ℕ) (ram new : List ℕ) (device : D) (next_cpu : Cpu n) →
     address_of n (stage n c rows w globals row u mask pc npc) 14 (Immediate offset) ≡ va → y < 2 ^ 32 →
-    moves m mmu va load_access (Load Double Zero) 0 (record { ram = ram; device = device }) ≡ (Done (x * 2 ^ 32 + y) (va - 0x60000), record { ram = new; device = device }) →
+    moves m mmu va load_access (Load loadings.Double) 0 (record { ram = ram; device = device }) ≡ (Done (x * 2 ^ 32 + y) (va - 0x60000), record { ram = new; device = device }) →
     written_pair n (stage n c rows w globals row u mask pc npc) rd x y ≡ next_cpu →
-    acts m n mmu (load Double Zero (at_stack rd offset)) (world n (stage n c rows w globals row u mask pc npc) ram device)
+    acts m n mmu (load loadings.Double (at_stack rd offset)) (world n (stage n c rows w globals row u mask pc npc) ram device)
     ≡ (record { access = Some (record { va = va; pa = va - 0x60000; size = Double; store = false }); trap = None }, world n next_cpu new device)
 unfolding transfers taken
 load_acts m n mmu c rows w globals row u mask pc npc rd offset va x y ram new device next_cpu at small there does =
     let cpu = stage n c rows w globals row u mask pc npc in
     let mem : Memory _ = record { ram = ram; device = device } in
     let access : DataAccess = record { va = va; pa = va - 0x60000; size = Double; store = false } in
-    ap (λ p. transfer_ends n p (Load Double Zero) rd cpu (moves m mmu p load_access (Load Double Zero) 0 mem).0 (moves m mmu p load_access (Load Double Zero) 0 mem).1) at
-    ∙ ap (λ l. transfer_ends n va (Load Double Zero) rd cpu l.0 l.1) there
+    ap (λ p. transfer_ends n p (Load loadings.Double) rd cpu (moves m mmu p load_access (Load loadings.Double) 0 mem).0 (moves m mmu p load_access (Load loadings.Double) 0 mem).1) at
+    ∙ ap (λ l. transfer_ends n va (Load loadings.Double) rd cpu l.0 l.1) there
     ∙ ap (λ q. (record { access = Some access; trap = None }, world n q new device))
     (ap (λ a. written_pair n cpu rd a ((x * 2 ^ 32 + y) % 2 ^ 32)) (high_of x y small) ∙ ap (λ b. written_pair n cpu rd x b) (low_of x y small) ∙ does)
 
 pub in_load : {D : Type 0} (m : Meaning D) (n : ℕ) (g : Pages) (code : List ℕ) (mmu : MmuRegs) (device : D) → Setting m n g code mmu device → Doubles m device →
     (base : ℕ) (word : ℕ → ℕ) (reached i r : ℕ) (old : World n D) (j : ℕ) (c : Control) (rows : List (List ℕ)) (w : ℕ) (globals row : List ℕ) (u mask k pc npc rd offset va x y : ℕ) (new : Cpu n) →
     Comes m n g code mmu device (area base word 0 reached) j old (stage n c rows w globals row u mask pc npc) →
-    k < 1024 → pc ≡ 0xF0001000 + 4 * k → operation_of (meaning (handler_word n k)) ≡ load Double Zero (at_stack rd offset) → rd % 2 ≡ 0 →
+    k < 1024 → pc ≡ 0xF0001000 + 4 * k → operation_of (meaning (handler_word n k)) ≡ load loadings.Double (at_stack rd offset) → rd % 2 ≡ 0 →
     address_of n (stage n c rows w globals row u mask pc npc) 14 (Immediate offset) ≡ va → OnStack g va → va ≡ base + 0x60000 + 4 * i → i < r → reached ≤ r →
     entry_of old.memory.ram (va - 0x60000) ≡ Some x → entry_of old.memory.ram (va - 0x60000 + 4) ≡ Some y → y < 2 ^ 32 →
     written_pair n (stage n c rows w globals row u mask pc npc) rd x y ≡ new →
@@ -229,7 +229,7 @@ in_load m n g code mmu device s d base word reached i r old j c rows w globals r
     let first_there : entry_of marks (va - 0x60000) ≡ Some x = kept.words (va - 0x60000) (omega arith) (inr (omega arith)) ∙ first in
     let second_there : entry_of marks (va - 0x60000 + 4) ≡ Some y = kept.words (va - 0x60000 + 4) (omega arith) (inr (omega arith)) ∙ second in
     one_more m n g code mmu device (area base word 0 reached) (area base word 0 r) old j cpu new marks2 (turn_of n cpu (ran_event (m.stopped device)) (Some (handler_word n k)) (Some access)) before
-    (runs_to m n mmu cpu before.ram marks device (handler_word n k) (load Double Zero (at_stack rd offset)) (Some access) (world n new marks2 device)
+    (runs_to m n mmu cpu before.ram marks device (handler_word n k) (load loadings.Double (at_stack rd offset)) (Some access) (world n new marks2 device)
     (record { running = s.running; sane = refl; straight = refl })
     (fetches_handler n g code before.ram mmu s.root s.pages before.loaded k pc small at) is
     (load_double_calm n c rows w globals row u mask pc npc rd offset even (ap (λ q. q % 8) address ∙ aligned))
