@@ -10,6 +10,7 @@ use v8_word::{Reg, Size};
 
 impl<const N: usize> Cpu<N> {
     /// The number in the low bytes of a register, or in the words of its pair.
+    #[inline(always)]
     fn stored(&self, size: Size, rd: Reg) -> u64
         ensures value { result ≡ stored (reg_of N self.now.regs) size rd }
         ensures bound { result < 2 ^ (8 * bytes_in size) }
@@ -24,6 +25,7 @@ impl<const N: usize> Cpu<N> {
     }
 
     /// The number that goes out to memory; of a load it is 0.
+    #[inline(always)]
     pub fn sent(&self, transfer: Transfer, rd: Reg) -> u64
         ensures value { result ≡ sent (reg_of N self.now.regs) transfer rd }
         ensures bound { result < 2 ^ (8 * bytes_in (size_of transfer)) }
@@ -37,6 +39,7 @@ impl<const N: usize> Cpu<N> {
     }
 
     /// Writes the registers that a loaded number fills.
+    #[inline(always)]
     fn load(&mut self, loading: Loading, rd: Reg, number: u64)
         requires { number < 2 ^ (8 * bytes_in (loaded_size loading)) }
         ensures regs { self.new.regs ≡ with_regs N self.old.regs (loaded loading rd number) }
@@ -52,6 +55,7 @@ impl<const N: usize> Cpu<N> {
 
     /// Takes the number that came in from memory, of a store 0, and the next instruction comes.
     #[tactic(auto, unfolding(crate::specs::Effects::taken))]
+    #[inline(always)]
     pub fn take(&mut self, transfer: Transfer, rd: Reg, number: u64)
         requires { number < 2 ^ (8 * bytes_in (size_of transfer)) }
         ensures { self.new ≡ taken N self.old transfer rd number }
