@@ -19,7 +19,7 @@ use Rattle.v8_alu.specs.Results.{shifted_left, shifted_right}
 use Rattle.v8_meaning.specs.Operands.{second, target}
 use Rattle.v8_meaning.specs.declared.operation.Operation.{Operation}
 use Rattle.v8_meaning.specs.Operations.{load, store}
-use Rattle.v8_meaning.specs.declared.operation.Extension.TheVariants.{Zero}
+use Rattle.v8_meaning.specs.declared.operation.Loading.TheVariants as loadings
 use Rattle.v8_meaning.specs.declared.operation.Operation.TheVariants.{Compute, SetHigh, ReadState, WriteState, Save, Restore, BranchOnCondition, JumpAndLink, ReturnFromTrap}
 use Rattle.v8_meaning.specs.declared.operation.StateRegister.TheVariants.{Wim}
 use Rattle.v8_mmu.specs.declared.translation.MmuRegs.{MmuRegs}
@@ -256,6 +256,6 @@ module _ (n : ℕ) (c : Control) (w : ℕ) (x : Inside) where
   unfolding applies memory_applies
   store_double_calm u rd offset even aligned = rw even (rw aligned refl)
 
-  pub load_double_calm : (u rd offset : ℕ) → rd % 2 ≡ 0 → address_of n (stage n c w u x) 14 (Immediate offset) % 8 ≡ 0 → first_trap n (stage n c w u x) (load Double Zero (at_stack rd offset)) ≡ None
+  pub load_double_calm : (u rd offset : ℕ) → rd % 2 ≡ 0 → address_of n (stage n c w u x) 14 (Immediate offset) % 8 ≡ 0 → first_trap n (stage n c w u x) (load loadings.Double (at_stack rd offset)) ≡ None
   unfolding applies memory_applies
   load_double_calm u rd offset even aligned = rw even (rw aligned refl)

@@ -14,7 +14,7 @@ use Rattle.v8_word.specs.declared.Size.TheVariants.{Double}
 use Rattle.v8_formats.specs.declared.instr.Operand.TheVariants.{Immediate}
 use Rattle.v8_meaning.specs.Operations.{load, store}
 use Rattle.v8_meaning.specs.Transfers.{odd_of}
-use Rattle.v8_meaning.specs.declared.operation.Extension.TheVariants.{Zero}
+use Rattle.v8_meaning.specs.declared.operation.Loading.TheVariants as loadings
 use Rattle.v8_meaning.specs.declared.operation.Transfer.TheVariants.{Load, Store}
 use Rattle.v8_mmu.specs.Meaning.{stored_after}
 use Rattle.v8_mmu.specs.Ram.{entry_of, with_entry, with_double}
@@ -147,7 +147,7 @@ module _ (n : ℕ) (g : Pages) (words ram : List ℕ) (mmu : MmuRegs) (few : Are
       (double_stored marks device (area_of va) v (stack_kept true).tables.size (omega arith) (omega arith))
 
   loads_there : (device : Device) (x y : ℕ) → entry_of ram (area_of va) ≡ Some x → entry_of ram (area_of va + 4) ≡ Some y →
-      moves board mmu va load_access (Load Double Zero) 0 (memory_of ram device) ≡ (Done (x * 2 ^ 32 + y) (area_of va), memory_of (marked_ram ram (stack_entry_place va) false) device)
+      moves board mmu va load_access (Load loadings.Double) 0 (memory_of ram device) ≡ (Done (x * 2 ^ 32 + y) (area_of va), memory_of (marked_ram ram (stack_entry_place va) false) device)
   unfolding moves
   loads_there device x y first second =
       let low = on.low in
@@ -156,7 +156,7 @@ module _ (n : ℕ) (g : Pages) (words ram : List ℕ) (mmu : MmuRegs) (few : Are
       let most = few.stack in
       let marks = marked_ram ram (stack_entry_place va) false in
       let kept : (p : ℕ) → 0x2E00 ≤ p → entry_of marks p ≡ entry_of ram p = λ (p : ℕ) (above : 0x2E00 ≤ p). kept_elsewhere ram (stack_entry_place va) (stack_word va) false stack_spot p (inr (omega arith)) in
-      ap (λ o. move_through board load_access (Load Double Zero) 0 (memory_of ram device) o) (stack_walk load_access refl)
+      ap (λ o. move_through board load_access (Load loadings.Double) 0 (memory_of ram device) o) (stack_walk load_access refl)
       ∙ ap (λ o. move_answered (memory_of ram device) (page (area_of va) (stack_entry_place va)) load_access (loaded_from marks o))
       (double_loaded marks device (area_of va) x y (omega arith) (omega arith) (kept (area_of va) (omega arith) ∙ first) (kept (area_of va + 4) (omega arith) ∙ second))
 
@@ -185,13 +185,13 @@ module _ (n : ℕ) (g : Pages) (words : List ℕ) (mmu : MmuRegs) (device : Devi
       ap (λ p. end p (to p first_word second_word)) at ∙ ap (λ v. end va (to va v second_word)) first ∙ ap (λ k. end va (to va a k)) second ∙ ap (end va) there
 
   load_acts : (rd offset va a b : ℕ) (ram new : List ℕ) (next_cpu : Cpu n) → address_of n cpu 14 (Immediate offset) ≡ va → b < 2 ^ 32 →
-      moves board mmu va load_access (Load Double Zero) 0 (memory_of ram device) ≡ (Done (a * 2 ^ 32 + b) (area_of va), memory_of new device) → written_pair n cpu rd a b ≡ next_cpu →
-      acts board n mmu (load Double Zero (at_stack rd offset)) (world n cpu ram device) ≡ (record { access = Some (access_of va false); trap = None }, world n next_cpu new device)
+      moves board mmu va load_access (Load loadings.Double) 0 (memory_of ram device) ≡ (Done (a * 2 ^ 32 + b) (area_of va), memory_of new device) → written_pair n cpu rd a b ≡ next_cpu →
+      acts board n mmu (load loadings.Double (at_stack rd offset)) (world n cpu ram device) ≡ (record { access = Some (access_of va false); trap = None }, world n next_cpu new device)
   unfolding transfers taken
   load_acts rd offset va a b ram new next_cpu at small there does =
       let mem = memory_of ram device in
-      let end : ℕ → Moved × Memory Device → Outcome × World n Device = λ p l. transfer_ends n p (Load Double Zero) rd cpu l.0 l.1 in
-      ap (λ p. end p (moves board mmu p load_access (Load Double Zero) 0 mem)) at
+      let end : ℕ → Moved × Memory Device → Outcome × World n Device = λ p l. transfer_ends n p (Load loadings.Double) rd cpu l.0 l.1 in
+      ap (λ p. end p (moves board mmu p load_access (Load loadings.Double) 0 mem)) at
       ∙ ap (end va) there
       ∙ ap (λ q. (record { access = Some (access_of va false); trap = None }, world n q new device))
       (ap (λ h. written_pair n cpu rd h ((a * 2 ^ 32 + b) % 2 ^ 32)) (high_of a b small) ∙ ap (λ k. written_pair n cpu rd a k) (low_of a b small) ∙ does)
@@ -244,7 +244,7 @@ module _ (n : ℕ) (g : Pages) (words : List ℕ) (mmu : MmuRegs) (device : Devi
       (store_keeps n g words mid (p + 4) b s.pages mid_loaded (omega arith) (omega arith) (omega arith))
 
   pub in_load : (base reached i r : ℕ) (old : World n Device) (j k rd offset va a b : ℕ) (new : Cpu n) → Comes n g words mmu device (filling base reached) j old cpu →
-      k < 1024 → x.pc ≡ 0xF0001000 + 4 * k → Asks (handler_word n k) (load Double Zero (at_stack rd offset)) → rd % 2 ≡ 0 →
+      k < 1024 → x.pc ≡ 0xF0001000 + 4 * k → Asks (handler_word n k) (load loadings.Double (at_stack rd offset)) → rd % 2 ≡ 0 →
       address_of n cpu 14 (Immediate offset) ≡ va → OnStack g va → va ≡ base + 0x60000 + 4 * i → i < r → reached ≤ r →
       entry_of old.memory.ram (area_of va) ≡ Some a → entry_of old.memory.ram (area_of va + 4) ≡ Some b → b < 2 ^ 32 → written_pair n cpu rd a b ≡ new →
       Comes n g words mmu device (filling base r) (suc j) old new
@@ -264,7 +264,7 @@ module _ (n : ℕ) (g : Pages) (words : List ℕ) (mmu : MmuRegs) (device : Devi
       let second_there : entry_of marks (va - 0x60000 + 4) ≡ Some b = kept.words (va - 0x60000 + 4) (omega arith) (inl refl) ∙ second in
       let fetch = ap (λ q. fetches mmu q (by_supervisor Fetch) before.ram) at ∙ fetches_handlers n g words before.ram mmu s.pages before.loaded s.root k small in
       one_more n g words mmu device s area 0 r j old cpu new marks2 (turn_of n cpu Ran (Some (handler_word n k)) (Some (access_of va false))) before
-      (runs_to board n mmu cpu before.ram marks device (handler_word n k) (load Double Zero (at_stack rd offset)) (Some (access_of va false)) (world n new marks2 device)
+      (runs_to board n mmu cpu before.ram marks device (handler_word n k) (load loadings.Double (at_stack rd offset)) (Some (access_of va false)) (world n new marks2 device)
       (record { running = s.running; sane = refl; straight = refl }) fetch is
       (load_double_calm n c w x u rd offset even (ap (λ q. q % 8) address ∙ aligned))
       (load_acts rd offset va a b marks marks2 new address fits (loads_there n g words marks mmu s.pages loaded s.root va on device a b first_there second_there) does)

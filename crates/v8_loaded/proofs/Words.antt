@@ -16,7 +16,7 @@ use Rattle.v8_formats.specs.declared.instr.Three.{Three}
 use Rattle.v8_formats.specs.declared.instr.Two.{Two}
 use Rattle.v8_alu.specs.declared.Op.TheVariants as ops
 use Rattle.v8_word.specs.declared.Size.TheVariants.{Double}
-use Rattle.v8_meaning.specs.declared.operation.Extension.TheVariants.{Zero}
+use Rattle.v8_meaning.specs.declared.operation.Loading.TheVariants as loadings
 use Rattle.v8_meaning.specs.Operations.{operation_of, load, store}
 use Rattle.v8_meaning.specs.declared.operation.MemoryOperand.{MemoryOperand}
 use Rattle.v8_meaning.specs.declared.operation.Operation.{Operation}
@@ -161,34 +161,34 @@ pub stores_7 : Asks 0xFC3BA038 (store Double (at_stack 30 56))
 unfolding meaning operation_of
 stores_7 = refl
 
-pub loads_0 : Asks 0xE01BA000 (load Double Zero (at_stack 16 0))
+pub loads_0 : Asks 0xE01BA000 (load loadings.Double (at_stack 16 0))
 unfolding meaning operation_of
 loads_0 = refl
 
-pub loads_1 : Asks 0xE41BA008 (load Double Zero (at_stack 18 8))
+pub loads_1 : Asks 0xE41BA008 (load loadings.Double (at_stack 18 8))
 unfolding meaning operation_of
 loads_1 = refl
 
-pub loads_2 : Asks 0xE81BA010 (load Double Zero (at_stack 20 16))
+pub loads_2 : Asks 0xE81BA010 (load loadings.Double (at_stack 20 16))
 unfolding meaning operation_of
 loads_2 = refl
 
-pub loads_3 : Asks 0xEC1BA018 (load Double Zero (at_stack 22 24))
+pub loads_3 : Asks 0xEC1BA018 (load loadings.Double (at_stack 22 24))
 unfolding meaning operation_of
 loads_3 = refl
 
-pub loads_4 : Asks 0xF01BA020 (load Double Zero (at_stack 24 32))
+pub loads_4 : Asks 0xF01BA020 (load loadings.Double (at_stack 24 32))
 unfolding meaning operation_of
 loads_4 = refl
 
-pub loads_5 : Asks 0xF41BA028 (load Double Zero (at_stack 26 40))
+pub loads_5 : Asks 0xF41BA028 (load loadings.Double (at_stack 26 40))
 unfolding meaning operation_of
 loads_5 = refl
 
-pub loads_6 : Asks 0xF81BA030 (load Double Zero (at_stack 28 48))
+pub loads_6 : Asks 0xF81BA030 (load loadings.Double (at_stack 28 48))
 unfolding meaning operation_of
 loads_6 = refl
 
-pub loads_7 : Asks 0xFC1BA038 (load Double Zero (at_stack 30 56))
+pub loads_7 : Asks 0xFC1BA038 (load loadings.Double (at_stack 30 56))
 unfolding meaning operation_of
 loads_7 = refl

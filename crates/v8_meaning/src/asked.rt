@@ -1,9 +1,9 @@
 // What an instruction asks of a machine, whatever its opcode.
 ghost use Rattle.std.specs.Prelude.{◌≡◌};
-ghost use Rattle.v8_meaning.specs.Operations.{elsewhere, exchange, load, normal, operation_of, second_of, space_of, store};
+ghost use Rattle.v8_meaning.specs.Operations.{elsewhere, normal, operation_of, second_of, space_of};
 
 use crate::operation::{
-    Extension, MemoryOperand, Operation, Source, Space, StateRegister, Transfer,
+    Exchange, Loading, MemoryOperand, Operation, Space, StateRegister, Transfer,
 };
 use v8_alu::{Division, Op, TaggedOp};
 use v8_formats::{Alternate, Instr, Operand, Place, Three};
@@ -47,24 +47,6 @@ fn elsewhere(fields: Alternate) -> MemoryOperand
         operand2: second_of(&fields.place),
         space: space_of(&fields.place),
     }
-}
-
-fn load(size: Size, extension: Extension, operand: MemoryOperand) -> Operation
-    ensures { result ≡ load size extension operand }
-{
-    Operation::Transfer(Transfer::Load(size, extension), operand)
-}
-
-fn store(size: Size, operand: MemoryOperand) -> Operation
-    ensures { result ≡ store size operand }
-{
-    Operation::Transfer(Transfer::Store(size), operand)
-}
-
-fn exchange(size: Size, source: Source, operand: MemoryOperand) -> Operation
-    ensures { result ≡ exchange size source operand }
-{
-    Operation::Transfer(Transfer::Exchange(size, source), operand)
 }
 
 /// The operation of an instruction.
@@ -127,58 +109,96 @@ pub fn operation_of(instr: &Instr) -> Operation
         Instr::Save(fields) => Operation::Save(fields),
         Instr::Restore(fields) => Operation::Restore(fields),
         Instr::Ticc(fields) => Operation::TrapOnCondition(fields),
-        Instr::Load(fields) => load(Size::Word, Extension::Zero, normal(fields)),
-        Instr::LoadUnsignedByte(fields) => load(Size::Byte, Extension::Zero, normal(fields)),
-        Instr::LoadUnsignedHalf(fields) => load(Size::Half, Extension::Zero, normal(fields)),
-        Instr::LoadDouble(fields) => load(Size::Double, Extension::Zero, normal(fields)),
-        Instr::Store(fields) => store(Size::Word, normal(fields)),
-        Instr::StoreByte(fields) => store(Size::Byte, normal(fields)),
-        Instr::StoreHalf(fields) => store(Size::Half, normal(fields)),
-        Instr::StoreDouble(fields) => store(Size::Double, normal(fields)),
-        Instr::LoadSignedByte(fields) => load(Size::Byte, Extension::Sign, normal(fields)),
-        Instr::LoadSignedHalf(fields) => load(Size::Half, Extension::Sign, normal(fields)),
-        Instr::LoadStoreUnsignedByte(fields) => exchange(
-            Size::Byte,
-            Source::AllOnes,
+        Instr::Load(fields) => Operation::Transfer(Transfer::Load(Loading::Word), normal(fields)),
+        Instr::LoadUnsignedByte(fields) => Operation::Transfer(
+            Transfer::Load(Loading::UnsignedByte),
             normal(fields),
         ),
-        Instr::Swap(fields) => exchange(Size::Word, Source::Register, normal(fields)),
-        Instr::LoadAlternate(fields) => load(Size::Word, Extension::Zero, elsewhere(fields)),
-        Instr::LoadUnsignedByteAlternate(fields) => load(
-            Size::Byte,
-            Extension::Zero,
+        Instr::LoadUnsignedHalf(fields) => Operation::Transfer(
+            Transfer::Load(Loading::UnsignedHalf),
+            normal(fields),
+        ),
+        Instr::LoadDouble(fields) => Operation::Transfer(
+            Transfer::Load(Loading::Double),
+            normal(fields),
+        ),
+        Instr::Store(fields) => Operation::Transfer(Transfer::Store(Size::Word), normal(fields)),
+        Instr::StoreByte(fields) => Operation::Transfer(
+            Transfer::Store(Size::Byte),
+            normal(fields),
+        ),
+        Instr::StoreHalf(fields) => Operation::Transfer(
+            Transfer::Store(Size::Half),
+            normal(fields),
+        ),
+        Instr::StoreDouble(fields) => Operation::Transfer(
+            Transfer::Store(Size::Double),
+            normal(fields),
+        ),
+        Instr::LoadSignedByte(fields) => Operation::Transfer(
+            Transfer::Load(Loading::SignedByte),
+            normal(fields),
+        ),
+        Instr::LoadSignedHalf(fields) => Operation::Transfer(
+            Transfer::Load(Loading::SignedHalf),
+            normal(fields),
+        ),
+        Instr::LoadStoreUnsignedByte(fields) => Operation::Transfer(
+            Transfer::Exchange(Exchange::Ones),
+            normal(fields),
+        ),
+        Instr::Swap(fields) => Operation::Transfer(
+            Transfer::Exchange(Exchange::Register),
+            normal(fields),
+        ),
+        Instr::LoadAlternate(fields) => Operation::Transfer(
+            Transfer::Load(Loading::Word),
             elsewhere(fields),
         ),
-        Instr::LoadUnsignedHalfAlternate(fields) => load(
-            Size::Half,
-            Extension::Zero,
+        Instr::LoadUnsignedByteAlternate(fields) => Operation::Transfer(
+            Transfer::Load(Loading::UnsignedByte),
             elsewhere(fields),
         ),
-        Instr::LoadDoubleAlternate(fields) => load(
-            Size::Double,
-            Extension::Zero,
+        Instr::LoadUnsignedHalfAlternate(fields) => Operation::Transfer(
+            Transfer::Load(Loading::UnsignedHalf),
             elsewhere(fields),
         ),
-        Instr::StoreAlternate(fields) => store(Size::Word, elsewhere(fields)),
-        Instr::StoreByteAlternate(fields) => store(Size::Byte, elsewhere(fields)),
-        Instr::StoreHalfAlternate(fields) => store(Size::Half, elsewhere(fields)),
-        Instr::StoreDoubleAlternate(fields) => store(Size::Double, elsewhere(fields)),
-        Instr::LoadSignedByteAlternate(fields) => load(
-            Size::Byte,
-            Extension::Sign,
+        Instr::LoadDoubleAlternate(fields) => Operation::Transfer(
+            Transfer::Load(Loading::Double),
             elsewhere(fields),
         ),
-        Instr::LoadSignedHalfAlternate(fields) => load(
-            Size::Half,
-            Extension::Sign,
+        Instr::StoreAlternate(fields) => Operation::Transfer(
+            Transfer::Store(Size::Word),
             elsewhere(fields),
         ),
-        Instr::LoadStoreUnsignedByteAlternate(fields) => exchange(
-            Size::Byte,
-            Source::AllOnes,
+        Instr::StoreByteAlternate(fields) => Operation::Transfer(
+            Transfer::Store(Size::Byte),
             elsewhere(fields),
         ),
-        Instr::SwapAlternate(fields) => exchange(Size::Word, Source::Register, elsewhere(fields)),
+        Instr::StoreHalfAlternate(fields) => Operation::Transfer(
+            Transfer::Store(Size::Half),
+            elsewhere(fields),
+        ),
+        Instr::StoreDoubleAlternate(fields) => Operation::Transfer(
+            Transfer::Store(Size::Double),
+            elsewhere(fields),
+        ),
+        Instr::LoadSignedByteAlternate(fields) => Operation::Transfer(
+            Transfer::Load(Loading::SignedByte),
+            elsewhere(fields),
+        ),
+        Instr::LoadSignedHalfAlternate(fields) => Operation::Transfer(
+            Transfer::Load(Loading::SignedHalf),
+            elsewhere(fields),
+        ),
+        Instr::LoadStoreUnsignedByteAlternate(fields) => Operation::Transfer(
+            Transfer::Exchange(Exchange::Ones),
+            elsewhere(fields),
+        ),
+        Instr::SwapAlternate(fields) => Operation::Transfer(
+            Transfer::Exchange(Exchange::Register),
+            elsewhere(fields),
+        ),
         Instr::FpMemory(_) => Operation::FloatingPoint,
         Instr::CpMemory(_) => Operation::Coprocessor,
         Instr::Call(displacement) => Operation::Call(displacement),

@@ -12,8 +12,8 @@ mod transfer;
 
 pub use admitted::{is_admitted, is_ret, is_retl, is_service_call};
 pub use asked::operation_of;
-pub use moved::{all_ones, bytes_in, odd_of, splits_pair};
-pub use operation::{Extension, MemoryOperand, Operation, Source, Space, StateRegister, Transfer};
+pub use moved::{bytes_in, odd_of, splits_pair};
+pub use operation::{Exchange, Loading, MemoryOperand, Operation, Space, StateRegister, Transfer};
 pub use spaces::{is_code_space, is_missing, is_normal, is_unknown, is_user_space};
 pub use transfer::{
     address, annuls, following, is_always, is_never, is_taken, software_trap, target,

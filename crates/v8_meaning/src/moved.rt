@@ -1,6 +1,6 @@
 // Sizes and registers of what moves between memory and registers.
 ghost use Rattle.std.specs.Prelude.{◌≡◌, ◌<◌};
-ghost use Rattle.v8_meaning.specs.Transfers.{all_ones, bytes_in, odd_of, splits_pair};
+ghost use Rattle.v8_meaning.specs.Transfers.{bytes_in, odd_of, splits_pair};
 
 use v8_word::{Reg, Size};
 
@@ -31,17 +31,5 @@ pub fn splits_pair(size: Size, rd: Reg) -> bool
     match size {
         Size::Double => rd.number() % 2 != 0,
         Size::Byte | Size::Half | Size::Word => false,
-    }
-}
-
-/// The greatest number of this size, which LDSTUB leaves in memory (appendix B, "Atomic Load-Store Unsigned Byte").
-pub fn all_ones(size: Size) -> u64
-    ensures { result ≡ all_ones size }
-{
-    match size {
-        Size::Byte => 0xff,
-        Size::Half => 0xffff,
-        Size::Word => 0xffff_ffff,
-        Size::Double => 0xffff_ffff_ffff_ffff,
     }
 }

@@ -22,51 +22,65 @@ pub struct MemoryOperand {
     pub space: Space,
 }
 
-/// How a number of one or two bytes fills a word (appendix B, "Load Integer Instructions").
+/// What a load fetches, and how it fills its register (appendix B, "Load Integer Instructions").
 #[derive(Clone, Copy)]
-pub enum Extension {
-    /// With zeros.
-    Zero,
-    /// With copies of its first bit.
-    Sign,
+pub enum Loading {
+    UnsignedByte,
+    SignedByte,
+    UnsignedHalf,
+    SignedHalf,
+    Word,
+    /// Two words, into an even register and the odd one after it.
+    Double,
 }
 
-impl Extension {
+impl Loading {
     ghost use Rattle.std.specs.Prelude.{◌≡◌, ◌*◌, ◌^◌, ◌<◌};
-    ghost use Rattle.v8_meaning.specs.Transfers.{bytes_in, filled};
+    ghost use Rattle.v8_meaning.specs.Transfers.{bytes_in, filled, loaded_size};
 
-    /// The word that a register gets from loaded bytes of this size, read as a number.
-    pub fn fill(self, size: Size, number: u32) -> u32
-        requires { number < 2 ^ (8 * bytes_in size) }
-        ensures { result ≡ filled size self number }
+    /// How many bytes come in.
+    pub fn size(self) -> Size
+        ensures { result ≡ loaded_size self }
     {
-        match (size, self) {
-            (Size::Byte, Extension::Sign) if number >= 0x80 => number + 0xffff_ff00,
-            (Size::Half, Extension::Sign) if number >= 0x8000 => number + 0xffff_0000,
+        match self {
+            Loading::UnsignedByte | Loading::SignedByte => Size::Byte,
+            Loading::UnsignedHalf | Loading::SignedHalf => Size::Half,
+            Loading::Word => Size::Word,
+            Loading::Double => Size::Double,
+        }
+    }
+
+    /// The word that a register gets from the loaded bytes, read as a number of that many bytes.
+    pub fn word(self, number: u32) -> u32
+        requires { number < 2 ^ (8 * bytes_in (loaded_size self)) }
+        ensures { result ≡ filled self number }
+    {
+        match self {
+            Loading::SignedByte if number >= 0x80 => number + 0xffff_ff00,
+            Loading::SignedHalf if number >= 0x8000 => number + 0xffff_0000,
             _ => number,
         }
     }
 }
 
-/// What an exchange leaves in memory.
+/// What takes the place of the bytes that an exchange loads.
 #[derive(Clone, Copy)]
-pub enum Source {
-    /// What a store of the register would.
+pub enum Exchange {
+    /// A byte of ones, which LDSTUB leaves (appendix B, "Atomic Load-Store Unsigned Byte Instructions").
+    Ones,
+    /// The word of the register that gets the loaded one, by SWAP (appendix B, "SWAP Register with Memory").
     Register,
-    /// Ones in each bit.
-    AllOnes,
 }
 
-/// What moves between memory and registers. Eight bytes are two words: that of an even register, then that of the odd one
-/// after it.
+/// What moves between memory and registers.
 #[derive(Clone, Copy)]
 pub enum Transfer {
-    /// Bytes come in, and their number fills a register.
-    Load(Size, Extension),
-    /// The low bytes of a register go out.
+    /// Bytes come in.
+    Load(Loading),
+    /// The low bytes of a register go out, or the words of an even register and the odd one after it.
     Store(Size),
-    /// What was there comes in, filled with zeros, and other bytes take its place: one access of the store kind.
-    Exchange(Size, Source),
+    /// Bytes come in, and others go out in their place, as one access of the store kind.
+    Exchange(Exchange),
 }
 
 impl Transfer {
@@ -78,7 +92,10 @@ impl Transfer {
         ensures { result ≡ size_of self }
     {
         match self {
-            Transfer::Load(size, _) | Transfer::Store(size) | Transfer::Exchange(size, _) => size,
+            Transfer::Load(loading) => loading.size(),
+            Transfer::Store(size) => size,
+            Transfer::Exchange(Exchange::Ones) => Size::Byte,
+            Transfer::Exchange(Exchange::Register) => Size::Word,
         }
     }
 
@@ -87,8 +104,8 @@ impl Transfer {
         ensures { result ≡ writes_memory self }
     {
         match self {
-            Transfer::Load(_, _) => false,
-            Transfer::Store(_) | Transfer::Exchange(_, _) => true,
+            Transfer::Load(_) => false,
+            Transfer::Store(_) | Transfer::Exchange(_) => true,
         }
     }
 }

@@ -8,9 +8,8 @@ use Rattle.std.proofs.Common.{◌≡◌, ◌≢◌, ℕ, suc, ◌+◌, ◌-◌, 
 use Rattle.std.specs.Prelude.{slice_index, bit_xor}
 use Rattle.v8_formats.specs.declared.instr.Operand.TheVariants.{Register}
 use Rattle.v8_meaning.specs.declared.operation.Operation.{Operation}
-use Rattle.v8_word.specs.declared.Size.TheVariants.{Double}
 use Rattle.v8_meaning.specs.Operations.{load}
-use Rattle.v8_meaning.specs.declared.operation.Extension.TheVariants.{Zero}
+use Rattle.v8_meaning.specs.declared.operation.Loading.TheVariants as loadings
 use Rattle.v8_mmu.specs.Ram.{entry_of}
 use Rattle.v8_mmu.specs.declared.translation.MmuRegs.{MmuRegs}
 use Rattle.v8_windows.specs.Windows.{AreRows, below, above, is_masked}
@@ -190,7 +189,7 @@ module _ (n : ℕ) (g : Pages) (words : List ℕ) (mmu : MmuRegs) (device : Devi
 
   -- ldd of words 2 j and 2 j + 1
   loads : (t j pc npc rd : ℕ) (new : Cpu n) → At (2 * j) t (stage n c w u (on (cells (2 * j)) r5 marks pc npc)) → j < 8 → pc ≡ 0xF00010A0 + 4 * j → rd % 2 ≡ 0 →
-      Asks (handler_word n (40 + j)) (load Double Zero (at_stack rd (8 * j))) → written_pair n (stage n c w u (on (cells (2 * j)) r5 marks pc npc)) rd (v (2 * j)) (v (2 * j + 1)) ≡ new →
+      Asks (handler_word n (40 + j)) (load loadings.Double (at_stack rd (8 * j))) → written_pair n (stage n c w u (on (cells (2 * j)) r5 marks pc npc)) rd (v (2 * j)) (v (2 * j + 1)) ≡ new →
       At (2 * j + 2) (suc t) new
   loads t j pc npc rd new before small at even asks written =
       let low = f.room.low in

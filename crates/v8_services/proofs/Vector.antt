@@ -8,7 +8,7 @@ use Rattle.v8_formats.specs.declared.instr.Three.{Three}
 use Rattle.v8_formats.specs.declared.instr.Two.{Two}
 use Rattle.v8_meaning.specs.Operands.{following}
 use Rattle.v8_meaning.specs.Operations.{operation_of, load, store}
-use Rattle.v8_meaning.specs.declared.operation.Extension.TheVariants.{Zero}
+use Rattle.v8_meaning.specs.declared.operation.Loading.TheVariants as loadings
 use Rattle.v8_meaning.specs.declared.operation.MemoryOperand.{MemoryOperand}
 use Rattle.v8_meaning.specs.declared.operation.Operation.{Operation}
 use Rattle.v8_meaning.specs.declared.operation.Operation.TheVariants.{SetHigh, JumpAndLink, ReturnFromTrap}
@@ -57,7 +57,7 @@ abbrev pub at_device : ℕ → MemoryOperand
 at_device offset = record { rd = 24; rs1 = 19; operand2 = Immediate offset; space = Normal }
 
 abbrev pub load_input : Operation
-load_input = load Word Zero (at_device 0)
+load_input = load loadings.Word (at_device 0)
 
 -- st %i0,[%l3+4] and st %i0,[%l3+8]
 abbrev pub store_word : ℕ → Operation
@@ -82,10 +82,10 @@ calm_return n c t regs pc npc f place free at whole = rw free (rw at (rw whole r
 
 -- what the device gives, and takes
 pub input_loaded : (n : ℕ) (g : Pages) (words ram : List ℕ) (mmu : MmuRegs) (d : Device) → AreFew g → IsLoaded n g words ram → root_of mmu ≡ 0x2000 →
-    moves board mmu 0xF0010000 (by_supervisor kinds.Load) (transfer.Load Word Zero) 0 (record { ram = ram; device = d }) ≡ (Done (gets d).0 0x100000000, record { ram = device_marked false ram; device = (gets d).1 })
+    moves board mmu 0xF0010000 (by_supervisor kinds.Load) (transfer.Load loadings.Word) 0 (record { ram = ram; device = d }) ≡ (Done (gets d).0 0x100000000, record { ram = device_marked false ram; device = (gets d).1 })
 unfolding moves board_load device_load
 input_loaded n g words ram mmu d few loaded root =
-    ap (λ r. move_through board (by_supervisor kinds.Load) (transfer.Load Word Zero) 0 (record { ram = ram; device = d }) r) (reaches_input n g words ram mmu few loaded root)
+    ap (λ r. move_through board (by_supervisor kinds.Load) (transfer.Load loadings.Word) 0 (record { ram = ram; device = d }) r) (reaches_input n g words ram mmu few loaded root)
 
 pub word_put : (n : ℕ) (g : Pages) (words ram : List ℕ) (mmu : MmuRegs) (d : Device) (v : ℕ) → AreFew g → IsLoaded n g words ram → root_of mmu ≡ 0x2000 →
     moves board mmu 0xF0010004 (by_supervisor kinds.Store) (transfer.Store Word) v (record { ram = ram; device = d }) ≡ (Done 0 0x100000004, record { ram = device_marked true ram; device = record d { output = d.output ++ (v % 2 ^ 8) ∷ [] } })
@@ -115,13 +115,13 @@ register_address_is n c t regs pc npc rs1 v reads small =
 -- ---- what the words of a vector do
 
 pub loads_input : (n : ℕ) (mmu : MmuRegs) (c : Cpu n) (t : ℕ) (regs : Windows) (a b : ℕ) (ram after : List ℕ) (d e : Device) (va pa v : ℕ) →
-    address_of n (in_vector n c t regs a b) 19 (Immediate 0) ≡ va → moves board mmu va (by_supervisor kinds.Load) (transfer.Load Word Zero) 0 (record { ram = ram; device = d }) ≡ (Done v pa, record { ram = after; device = e }) →
+    address_of n (in_vector n c t regs a b) 19 (Immediate 0) ≡ va → moves board mmu va (by_supervisor kinds.Load) (transfer.Load loadings.Word) 0 (record { ram = ram; device = d }) ≡ (Done v pa, record { ram = after; device = e }) →
     acts board n mmu load_input (world n (in_vector n c t regs a b) ram d) ≡ (moving va pa Word false, world n (in_vector n c t (with_reg n regs 24 v) b (following b)) after e)
 unfolding transfers taken advanced
 loads_input n mmu c t regs a b ram after d e va pa v at done =
     let cpu = in_vector n c t regs a b in
-    let F : ℕ → Moved × Memory Device → Outcome × World n Device = λ p l. transfer_ends n p (transfer.Load Word Zero) 24 cpu l.0 l.1 in
-    ap (λ p. F p (moves board mmu p (by_supervisor kinds.Load) (transfer.Load Word Zero) 0 (record { ram = ram; device = d }))) at ∙ ap (F va) done
+    let F : ℕ → Moved × Memory Device → Outcome × World n Device = λ p l. transfer_ends n p (transfer.Load loadings.Word) 24 cpu l.0 l.1 in
+    ap (λ p. F p (moves board mmu p (by_supervisor kinds.Load) (transfer.Load loadings.Word) 0 (record { ram = ram; device = d }))) at ∙ ap (F va) done
 
 pub stores_word : (n : ℕ) (mmu : MmuRegs) (c : Cpu n) (t : ℕ) (regs : Windows) (a b offset : ℕ) (ram after : List ℕ) (d e : Device) (va pa v : ℕ) →
     address_of n (in_vector n c t regs a b) 19 (Immediate offset) ≡ va → reg_of n regs 24 ≡ v → moves board mmu va (by_supervisor kinds.Store) (transfer.Store Word) v (record { ram = ram; device = d }) ≡ (Done 0 pa, record { ram = after; device = e }) →

@@ -1,29 +1,33 @@
-ghost use Rattle.std.specs.Prelude.{◌≡◌, ℕ, ◌+◌, ◌*◌, ◌/◌, ◌%◌, ◌^◌, ◌<◌, ◌≤◌, OnErr, OnOk, IsTrue, Some, None, false};
-ghost use Rattle.v8_state.specs.Traps.{entered, first_memory_trap, memory_applies};
+ghost use Rattle.std.specs.Prelude.{◌≡◌, ℕ, ◌+◌, ◌*◌, ◌/◌, ◌%◌, ◌^◌, ◌<◌, ◌≤◌, IfOk, OnErr, OnOk, IsTrue, Some, None, false};
+ghost use Rattle.v8_state.specs.Effects.{address_of};
+ghost use Rattle.v8_state.specs.Traps.{entered, first_memory_trap, memory_applies, trap_of};
 
 use crate::state::Cpu;
 use v8_meaning::{MemoryOperand, bytes_in, is_missing, is_normal, is_unknown, splits_pair};
 use v8_word::{Size, TrapType};
 
 impl<const N: usize> Cpu<N> {
-    /// The trap that a load or store of this size meets before memory is reached.
+    /// The address of a load or store of this size, or the trap that it meets before memory is reached.
     #[tactic(auto, unfolding(crate::specs::Traps::memory_applies))]
-    pub fn memory_trap(&self, size: Size, operand: &MemoryOperand) -> Option<TrapType>
-        ensures { result ≡ first_memory_trap N self.now size operand.now }
+    #[inline(always)]
+    pub fn reach(&self, size: Size, operand: &MemoryOperand) -> Result<u32, TrapType>
+        ensures trap { trap_of result ≡ first_memory_trap N self.now size operand.now }
+        ensures address { IfOk result (λ va. va ≡ address_of N self.now operand.now.rs1 operand.now.operand2) }
     {
         if !is_normal(operand.space) && !self.control.s {
-            return Some(TrapType::PRIVILEGED_INSTRUCTION);
+            return Err(TrapType::PRIVILEGED_INSTRUCTION);
         }
         if is_missing(operand.space) || splits_pair(size, operand.rd) {
-            return Some(TrapType::ILLEGAL_INSTRUCTION);
+            return Err(TrapType::ILLEGAL_INSTRUCTION);
         }
-        if self.address(operand.rs1, &operand.operand2) % bytes_in(size) != 0 {
-            return Some(TrapType::MEM_ADDRESS_NOT_ALIGNED);
+        let va = self.address(operand.rs1, &operand.operand2);
+        if va % bytes_in(size) != 0 {
+            return Err(TrapType::MEM_ADDRESS_NOT_ALIGNED);
         }
         if is_unknown(operand.space) {
-            return Some(TrapType::DATA_ACCESS_EXCEPTION);
+            return Err(TrapType::DATA_ACCESS_EXCEPTION);
         }
-        None
+        Ok(va)
     }
 
     /// Takes a trap, or enters error mode where traps are disabled.
