@@ -6,8 +6,6 @@ mod asked;
 mod moved;
 mod operation;
 mod spaces;
-#[cfg(test)]
-mod tests;
 mod transfer;
 
 pub use admitted::{is_admitted, is_ret, is_retl, is_service_call};
