@@ -4,8 +4,10 @@ ghost use Rattle.sbx_image.specs.declared.parts.Parts.{Parts};
 ghost use Rattle.v8_formats.specs.declared.instr.Operand.TheVariants.{Immediate};
 ghost use Rattle.v8_word.specs.declared.Cond.TheVariants.{Always};
 ghost use Rattle.v8_alu.specs.declared.Division.TheVariants.{Udiv};
-ghost use Rattle.v8_meaning.specs.declared.operation.Operation.TheVariants.{BranchOnCondition, Call, Divide, Load, ReadY, Restore, Save};
-ghost use Rattle.v8_meaning.specs.declared.operation.Loading.TheVariants.{UnsignedHalf};
+ghost use Rattle.v8_meaning.specs.declared.operation.Operation.TheVariants.{BranchOnCondition, Call, Divide, ReadY, Restore, Save};
+ghost use Rattle.v8_meaning.specs.Operations.{load};
+ghost use Rattle.v8_meaning.specs.declared.operation.Extension.TheVariants.{Zero};
+ghost use Rattle.v8_word.specs.declared.Size.TheVariants.{Half};
 ghost use Rattle.v8_meaning.specs.declared.operation.Space.TheVariants.{Normal};
 ghost use Rattle.sbx_flat.specs.Effects.{does};
 ghost use Rattle.sbx_flat.specs.Examples.{at_restore, at_save, save_and_restore};
@@ -67,7 +69,7 @@ pub fn steps_do_this()
 /// A load takes bytes in big-endian order, at a multiple of its size, and only where bytes are.
 #[tactic(auto, unfolding(crate::specs::States::reg))]
 pub fn halves_are_big_endian()
-    ensures half { (parts : Parts) (fresh : Fresh) (s : State) → does parts fresh (Load UnsignedHalf (record { rd = 8; rs1 = 0; operand2 = Immediate 4; space = Normal })) (record s { pc = 0x40000; npc = 0x40004; memory = λ a. Some a }) ≡ Goes (with_reg 8 0x0405 (record s { pc = 0x40004; npc = 0x40008; memory = λ a. Some a })) }
-    ensures misaligned { (parts : Parts) (fresh : Fresh) (s : State) → does parts fresh (Load UnsignedHalf (record { rd = 8; rs1 = 0; operand2 = Immediate 5; space = Normal })) s ≡ Fails Misaligned }
-    ensures outside { (parts : Parts) (fresh : Fresh) (s : State) → does parts fresh (Load UnsignedHalf (record { rd = 8; rs1 = 0; operand2 = Immediate 4; space = Normal })) (record s { memory = λ a. None }) ≡ Fails OutsideData }
+    ensures half { (parts : Parts) (fresh : Fresh) (s : State) → does parts fresh (load Half Zero (record { rd = 8; rs1 = 0; operand2 = Immediate 4; space = Normal })) (record s { pc = 0x40000; npc = 0x40004; memory = λ a. Some a }) ≡ Goes (with_reg 8 0x0405 (record s { pc = 0x40004; npc = 0x40008; memory = λ a. Some a })) }
+    ensures misaligned { (parts : Parts) (fresh : Fresh) (s : State) → does parts fresh (load Half Zero (record { rd = 8; rs1 = 0; operand2 = Immediate 5; space = Normal })) s ≡ Fails Misaligned }
+    ensures outside { (parts : Parts) (fresh : Fresh) (s : State) → does parts fresh (load Half Zero (record { rd = 8; rs1 = 0; operand2 = Immediate 4; space = Normal })) (record s { memory = λ a. None }) ≡ Fails OutsideData }
 {}

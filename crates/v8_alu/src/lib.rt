@@ -8,8 +8,6 @@ ghost use Rattle.v8_alu.specs.Results.{high_word, low_word};
 mod products;
 mod quotients;
 mod sums;
-#[cfg(test)]
-mod tests;
 
 use products::{
     high_word, low_word, shift_left, shift_right, shift_right_signed, signed_product, step_addend,

@@ -1,14 +1,7 @@
-/// How a load ends: the number in the bytes and their physical address, or the fault status.
+/// How an access to data ends: the number that came in, of a store 0, and the physical address; or the fault status.
 #[derive(Clone, Copy)]
-pub enum Loaded {
-    Value { value: u64, pa: u64 },
-    Fault(u32),
-}
-
-/// How a store ends: the physical address, or the fault status.
-#[derive(Clone, Copy)]
-pub enum Stored {
-    Done(u64),
+pub enum Moved {
+    Done { number: u64, pa: u64 },
     Fault(u32),
 }
 
@@ -22,4 +15,4 @@ pub enum Fetched {
 
 mod moves;
 
-pub use moves::{fetch, load, store, swap};
+pub use moves::{fetch, move_bytes};

@@ -9,9 +9,6 @@ ghost use Rattle.v8_formats.specs.Table.{meaning, table, IsCanonical, AreApart};
 mod encoding;
 mod fields;
 mod instr;
-#[cfg(test)]
-mod tests;
-
 pub use encoding::encode;
 use fields::{
     alternate_of, branch_of, displacement30, shift_of, three_of, trap_of, two_of, upper_of,

@@ -1,3 +1,5 @@
 pub mod Operations
 pub mod Operands
+pub mod Spaces
+pub mod Transfers
 pub mod Admitted

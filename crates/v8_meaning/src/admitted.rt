@@ -1,8 +1,10 @@
 // The operations that sandboxed code may ask for.
 ghost use Rattle.std.specs.Prelude.{◌≡◌};
-ghost use Rattle.v8_meaning.specs.Admitted.{is_admitted, is_immediate, is_immediate_of, is_normal, is_pair, is_ret, is_retl, is_service_call};
+ghost use Rattle.v8_meaning.specs.Admitted.{is_admitted, is_immediate, is_immediate_of, is_ret, is_retl, is_service_call};
 
-use crate::operation::{MemoryOperand, Operation, Space};
+use crate::moved::splits_pair;
+use crate::operation::Operation;
+use crate::spaces::is_normal;
 use crate::transfer::{is_always, is_never};
 use v8_formats::{Operand, Three, Trap};
 
@@ -42,20 +44,6 @@ pub fn is_service_call(trap: &Trap) -> bool
     is_always(trap.cond) && trap.rs1.number() == 0 && is_immediate(&trap.operand2)
 }
 
-/// Whether a load or a store uses the data space of the current mode.
-pub fn is_normal(space: Space) -> bool
-    ensures { result ≡ is_normal space }
-{
-    space == Space::Normal
-}
-
-/// Whether the register of a double-word access has an even number, as it has to (appendix B, "Load Integer Instructions").
-pub fn is_pair(operand: &MemoryOperand) -> bool
-    ensures { result ≡ is_pair operand.now }
-{
-    operand.rd.number() % 2 == 0
-}
-
 /// Whether sandboxed code may ask for the operation. Not admitted: privileged and alternate-space forms, FLUSH, STBAR, BN,
 /// conditional or computed traps, jumps other than `ret` and `retl`, double words of an odd register, and what only traps.
 #[tactic(auto, unfolding(crate::specs::Admitted::is_admitted))]
@@ -72,12 +60,8 @@ pub fn is_admitted(operation: &Operation) -> bool
         | Operation::Save(_)
         | Operation::Restore(_)
         | Operation::Call(_) => true,
-        Operation::Load(_, operand)
-        | Operation::Store(_, operand)
-        | Operation::LoadStoreByte(operand)
-        | Operation::Swap(operand) => is_normal(operand.space),
-        Operation::LoadDouble(operand) | Operation::StoreDouble(operand) => {
-            is_normal(operand.space) && is_pair(operand)
+        Operation::Transfer(transfer, operand) => {
+            is_normal(operand.space) && !splits_pair(transfer.size(), operand.rd)
         }
         Operation::BranchOnCondition(branch) => !is_never(branch.cond),
         Operation::JumpAndLink(fields) => is_ret(fields) || is_retl(fields),

@@ -1,10 +1,13 @@
 // What an instruction asks of a machine, whatever its opcode.
 ghost use Rattle.std.specs.Prelude.{◌≡◌};
-ghost use Rattle.v8_meaning.specs.Operations.{elsewhere, normal, operation_of, second_of, space_of};
+ghost use Rattle.v8_meaning.specs.Operations.{elsewhere, exchange, load, normal, operation_of, second_of, space_of, store};
 
-use crate::operation::{Loading, MemoryOperand, Operation, Space, StateRegister, Storing};
+use crate::operation::{
+    Extension, MemoryOperand, Operation, Source, Space, StateRegister, Transfer,
+};
 use v8_alu::{Division, Op, TaggedOp};
 use v8_formats::{Alternate, Instr, Operand, Place, Three};
+use v8_word::Size;
 
 fn normal(fields: Three) -> MemoryOperand
     ensures { result ≡ normal fields }
@@ -44,6 +47,24 @@ fn elsewhere(fields: Alternate) -> MemoryOperand
         operand2: second_of(&fields.place),
         space: space_of(&fields.place),
     }
+}
+
+fn load(size: Size, extension: Extension, operand: MemoryOperand) -> Operation
+    ensures { result ≡ load size extension operand }
+{
+    Operation::Transfer(Transfer::Load(size, extension), operand)
+}
+
+fn store(size: Size, operand: MemoryOperand) -> Operation
+    ensures { result ≡ store size operand }
+{
+    Operation::Transfer(Transfer::Store(size), operand)
+}
+
+fn exchange(size: Size, source: Source, operand: MemoryOperand) -> Operation
+    ensures { result ≡ exchange size source operand }
+{
+    Operation::Transfer(Transfer::Exchange(size, source), operand)
 }
 
 /// The operation of an instruction.
@@ -106,44 +127,58 @@ pub fn operation_of(instr: &Instr) -> Operation
         Instr::Save(fields) => Operation::Save(fields),
         Instr::Restore(fields) => Operation::Restore(fields),
         Instr::Ticc(fields) => Operation::TrapOnCondition(fields),
-        Instr::Load(fields) => Operation::Load(Loading::Word, normal(fields)),
-        Instr::LoadUnsignedByte(fields) => Operation::Load(Loading::UnsignedByte, normal(fields)),
-        Instr::LoadUnsignedHalf(fields) => Operation::Load(Loading::UnsignedHalf, normal(fields)),
-        Instr::LoadDouble(fields) => Operation::LoadDouble(normal(fields)),
-        Instr::Store(fields) => Operation::Store(Storing::Word, normal(fields)),
-        Instr::StoreByte(fields) => Operation::Store(Storing::Byte, normal(fields)),
-        Instr::StoreHalf(fields) => Operation::Store(Storing::Half, normal(fields)),
-        Instr::StoreDouble(fields) => Operation::StoreDouble(normal(fields)),
-        Instr::LoadSignedByte(fields) => Operation::Load(Loading::SignedByte, normal(fields)),
-        Instr::LoadSignedHalf(fields) => Operation::Load(Loading::SignedHalf, normal(fields)),
-        Instr::LoadStoreUnsignedByte(fields) => Operation::LoadStoreByte(normal(fields)),
-        Instr::Swap(fields) => Operation::Swap(normal(fields)),
-        Instr::LoadAlternate(fields) => Operation::Load(Loading::Word, elsewhere(fields)),
-        Instr::LoadUnsignedByteAlternate(fields) => Operation::Load(
-            Loading::UnsignedByte,
+        Instr::Load(fields) => load(Size::Word, Extension::Zero, normal(fields)),
+        Instr::LoadUnsignedByte(fields) => load(Size::Byte, Extension::Zero, normal(fields)),
+        Instr::LoadUnsignedHalf(fields) => load(Size::Half, Extension::Zero, normal(fields)),
+        Instr::LoadDouble(fields) => load(Size::Double, Extension::Zero, normal(fields)),
+        Instr::Store(fields) => store(Size::Word, normal(fields)),
+        Instr::StoreByte(fields) => store(Size::Byte, normal(fields)),
+        Instr::StoreHalf(fields) => store(Size::Half, normal(fields)),
+        Instr::StoreDouble(fields) => store(Size::Double, normal(fields)),
+        Instr::LoadSignedByte(fields) => load(Size::Byte, Extension::Sign, normal(fields)),
+        Instr::LoadSignedHalf(fields) => load(Size::Half, Extension::Sign, normal(fields)),
+        Instr::LoadStoreUnsignedByte(fields) => exchange(
+            Size::Byte,
+            Source::AllOnes,
+            normal(fields),
+        ),
+        Instr::Swap(fields) => exchange(Size::Word, Source::Register, normal(fields)),
+        Instr::LoadAlternate(fields) => load(Size::Word, Extension::Zero, elsewhere(fields)),
+        Instr::LoadUnsignedByteAlternate(fields) => load(
+            Size::Byte,
+            Extension::Zero,
             elsewhere(fields),
         ),
-        Instr::LoadUnsignedHalfAlternate(fields) => Operation::Load(
-            Loading::UnsignedHalf,
+        Instr::LoadUnsignedHalfAlternate(fields) => load(
+            Size::Half,
+            Extension::Zero,
             elsewhere(fields),
         ),
-        Instr::LoadDoubleAlternate(fields) => Operation::LoadDouble(elsewhere(fields)),
-        Instr::StoreAlternate(fields) => Operation::Store(Storing::Word, elsewhere(fields)),
-        Instr::StoreByteAlternate(fields) => Operation::Store(Storing::Byte, elsewhere(fields)),
-        Instr::StoreHalfAlternate(fields) => Operation::Store(Storing::Half, elsewhere(fields)),
-        Instr::StoreDoubleAlternate(fields) => Operation::StoreDouble(elsewhere(fields)),
-        Instr::LoadSignedByteAlternate(fields) => Operation::Load(
-            Loading::SignedByte,
+        Instr::LoadDoubleAlternate(fields) => load(
+            Size::Double,
+            Extension::Zero,
             elsewhere(fields),
         ),
-        Instr::LoadSignedHalfAlternate(fields) => Operation::Load(
-            Loading::SignedHalf,
+        Instr::StoreAlternate(fields) => store(Size::Word, elsewhere(fields)),
+        Instr::StoreByteAlternate(fields) => store(Size::Byte, elsewhere(fields)),
+        Instr::StoreHalfAlternate(fields) => store(Size::Half, elsewhere(fields)),
+        Instr::StoreDoubleAlternate(fields) => store(Size::Double, elsewhere(fields)),
+        Instr::LoadSignedByteAlternate(fields) => load(
+            Size::Byte,
+            Extension::Sign,
             elsewhere(fields),
         ),
-        Instr::LoadStoreUnsignedByteAlternate(fields) => Operation::LoadStoreByte(elsewhere(
-            fields,
-        )),
-        Instr::SwapAlternate(fields) => Operation::Swap(elsewhere(fields)),
+        Instr::LoadSignedHalfAlternate(fields) => load(
+            Size::Half,
+            Extension::Sign,
+            elsewhere(fields),
+        ),
+        Instr::LoadStoreUnsignedByteAlternate(fields) => exchange(
+            Size::Byte,
+            Source::AllOnes,
+            elsewhere(fields),
+        ),
+        Instr::SwapAlternate(fields) => exchange(Size::Word, Source::Register, elsewhere(fields)),
         Instr::FpMemory(_) => Operation::FloatingPoint,
         Instr::CpMemory(_) => Operation::Coprocessor,
         Instr::Call(displacement) => Operation::Call(displacement),

@@ -3,14 +3,18 @@
 
 mod admitted;
 mod asked;
+mod moved;
 mod operation;
+mod spaces;
 #[cfg(test)]
 mod tests;
 mod transfer;
 
-pub use admitted::{is_admitted, is_normal, is_pair, is_ret, is_retl, is_service_call};
+pub use admitted::{is_admitted, is_ret, is_retl, is_service_call};
 pub use asked::operation_of;
-pub use operation::{Loading, MemoryOperand, Operation, Space, StateRegister, Storing};
+pub use moved::{all_ones, bytes_in, odd_of, splits_pair};
+pub use operation::{Extension, MemoryOperand, Operation, Source, Space, StateRegister, Transfer};
+pub use spaces::{is_code_space, is_missing, is_normal, is_unknown, is_user_space};
 pub use transfer::{
     address, annuls, following, is_always, is_never, is_taken, software_trap, target,
 };

@@ -3,7 +3,7 @@ use v8_formats::{Branch, Operand, Three, Trap, Two, Upper};
 use v8_word::{Reg, Size};
 
 /// The address space of a load or a store (appendix B, "Load Integer Instructions").
-#[derive(Clone, Copy, PartialEq, Eq, Debug)]
+#[derive(Clone, Copy)]
 pub enum Space {
     /// The data space of the current mode.
     Normal,
@@ -14,7 +14,7 @@ pub enum Space {
 }
 
 /// The register that a load or a store moves, and its address: `r[rs1] + operand2` in a space.
-#[derive(Clone, Copy, PartialEq, Eq, Debug)]
+#[derive(Clone, Copy)]
 pub struct MemoryOperand {
     pub rd: Reg,
     pub rs1: Reg,
@@ -22,82 +22,79 @@ pub struct MemoryOperand {
     pub space: Space,
 }
 
-/// What a load of one register fetches, and how it fills the word.
-#[derive(Clone, Copy, PartialEq, Eq, Debug)]
-pub enum Loading {
-    UnsignedByte,
-    SignedByte,
-    UnsignedHalf,
-    SignedHalf,
-    Word,
+/// How a number of one or two bytes fills a word (appendix B, "Load Integer Instructions").
+#[derive(Clone, Copy)]
+pub enum Extension {
+    /// With zeros.
+    Zero,
+    /// With copies of its first bit.
+    Sign,
 }
 
-impl Loading {
+impl Extension {
     ghost use Rattle.std.specs.Prelude.{◌≡◌, ◌*◌, ◌^◌, ◌<◌};
-    ghost use Rattle.v8_meaning.specs.Operands.{bytes_in, loaded_size, loaded_word};
+    ghost use Rattle.v8_meaning.specs.Transfers.{bytes_in, filled};
 
-    /// How many bytes the load moves.
-    pub fn size(self) -> Size
-        ensures { result ≡ loaded_size self }
+    /// The word that a register gets from loaded bytes of this size, read as a number.
+    pub fn fill(self, size: Size, number: u32) -> u32
+        requires { number < 2 ^ (8 * bytes_in size) }
+        ensures { result ≡ filled size self number }
     {
-        match self {
-            Loading::UnsignedByte | Loading::SignedByte => Size::Byte,
-            Loading::UnsignedHalf | Loading::SignedHalf => Size::Half,
-            Loading::Word => Size::Word,
-        }
-    }
-
-    /// The word that a register gets from the loaded bytes, read as a number of that many bytes (appendix B, "Load Integer Instructions").
-    pub fn word(self, number: u32) -> u32
-        requires { number < 2 ^ (8 * bytes_in (loaded_size self)) }
-        ensures { result ≡ loaded_word self number }
-    {
-        match self {
-            Loading::SignedByte if number >= 0x80 => number + 0xffff_ff00,
-            Loading::SignedHalf if number >= 0x8000 => number + 0xffff_0000,
+        match (size, self) {
+            (Size::Byte, Extension::Sign) if number >= 0x80 => number + 0xffff_ff00,
+            (Size::Half, Extension::Sign) if number >= 0x8000 => number + 0xffff_0000,
             _ => number,
         }
     }
 }
 
-/// What a store of one register writes.
-#[derive(Clone, Copy, PartialEq, Eq, Debug)]
-pub enum Storing {
-    Byte,
-    Half,
-    Word,
+/// What an exchange leaves in memory.
+#[derive(Clone, Copy)]
+pub enum Source {
+    /// What a store of the register would.
+    Register,
+    /// Ones in each bit.
+    AllOnes,
 }
 
-impl Storing {
-    ghost use Rattle.std.specs.Prelude.{◌≡◌, ◌*◌, ◌^◌, ◌<◌};
-    ghost use Rattle.v8_meaning.specs.Operands.{bytes_in, stored_part, stored_size};
+/// What moves between memory and registers. Eight bytes are two words: that of an even register, then that of the odd one
+/// after it.
+#[derive(Clone, Copy)]
+pub enum Transfer {
+    /// Bytes come in, and their number fills a register.
+    Load(Size, Extension),
+    /// The low bytes of a register go out.
+    Store(Size),
+    /// What was there comes in, filled with zeros, and other bytes take its place: one access of the store kind.
+    Exchange(Size, Source),
+}
 
-    /// How many bytes the store moves.
+impl Transfer {
+    ghost use Rattle.std.specs.Prelude.{◌≡◌};
+    ghost use Rattle.v8_meaning.specs.Transfers.{size_of, writes_memory};
+
+    /// How many bytes move.
     pub fn size(self) -> Size
-        ensures { result ≡ stored_size self }
+        ensures { result ≡ size_of self }
     {
         match self {
-            Storing::Byte => Size::Byte,
-            Storing::Half => Size::Half,
-            Storing::Word => Size::Word,
+            Transfer::Load(size, _) | Transfer::Store(size) | Transfer::Exchange(size, _) => size,
         }
     }
 
-    /// The part of a register's word that is stored: its low bytes (appendix B, "Store Integer Instructions").
-    pub fn part(self, word: u32) -> u32
-        ensures value { result ≡ stored_part self word }
-        ensures bound { result < 2 ^ (8 * bytes_in (stored_size self)) }
+    /// Whether the access is of the store kind.
+    pub fn writes_memory(self) -> bool
+        ensures { result ≡ writes_memory self }
     {
         match self {
-            Storing::Byte => word % 0x100,
-            Storing::Half => word % 0x1_0000,
-            Storing::Word => word,
+            Transfer::Load(_, _) => false,
+            Transfer::Store(_) | Transfer::Exchange(_, _) => true,
         }
     }
 }
 
 /// A state register that only supervisor code reaches.
-#[derive(Clone, Copy, PartialEq, Eq, Debug)]
+#[derive(Clone, Copy)]
 pub enum StateRegister {
     Psr,
     Wim,
@@ -118,12 +115,8 @@ pub enum Operation {
     WriteY(Two),
     ReadState(StateRegister, Reg),
     WriteState(StateRegister, Two),
-    Load(Loading, MemoryOperand),
-    LoadDouble(MemoryOperand),
-    Store(Storing, MemoryOperand),
-    StoreDouble(MemoryOperand),
-    LoadStoreByte(MemoryOperand),
-    Swap(MemoryOperand),
+    /// A load, a store, or both at once.
+    Transfer(Transfer, MemoryOperand),
     Save(Three),
     Restore(Three),
     /// A call, by its displacement in words.

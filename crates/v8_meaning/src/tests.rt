@@ -2,7 +2,7 @@
 use super::*;
 use v8_alu::{Division, Op, TaggedOp};
 use v8_formats::{Branch, decode};
-use v8_word::{Cond, Icc, Size};
+use v8_word::{Cond, Icc, Reg, Size};
 
 #[test]
 fn addresses_and_targets(rt: HostRuntime) {
@@ -43,13 +43,18 @@ fn delay_slots(rt: HostRuntime) {
 
 #[test]
 fn moved_bytes(rt: HostRuntime) {
-    assert_eq!(rt; Loading::SignedByte.word(0x80), 0xffff_ff80);
-    assert_eq!(rt; Loading::UnsignedByte.word(0x80), 0x80);
-    assert_eq!(rt; Loading::SignedHalf.word(0x7fff), 0x7fff);
-    assert_eq!(rt; Loading::SignedHalf.size(), Size::Half);
-    assert_eq!(rt; Storing::Byte.part(0x1234_5678), 0x78);
-    assert_eq!(rt; Storing::Half.part(0x1234_5678), 0x5678);
-    assert_eq!(rt; Storing::Word.size(), Size::Word);
+    assert_eq!(rt; Extension::Sign.fill(Size::Byte, 0x80), 0xffff_ff80);
+    assert_eq!(rt; Extension::Zero.fill(Size::Byte, 0x80), 0x80);
+    assert_eq!(rt; Extension::Sign.fill(Size::Half, 0x7fff), 0x7fff);
+    assert_eq!(rt;
+        Transfer::Exchange(Size::Byte, Source::AllOnes).size(),
+        Size::Byte
+    );
+    assert_eq!(rt; all_ones(Size::Double), 0xffff_ffff_ffff_ffff);
+    assert_eq!(rt; bytes_in(Size::Double), 8);
+    assert_eq!(rt; odd_of(Reg::FP), Reg::I7);
+    assert!(rt; Transfer::Store(Size::Word).writes_memory());
+    assert!(rt; splits_pair(Size::Double, Reg::I7) && !splits_pair(Size::Word, Reg::I7));
 }
 
 #[test]
@@ -173,30 +178,30 @@ fn asks_for_states_and_transfers(rt: HostRuntime) {
 #[test]
 fn asks_for_data(rt: HostRuntime) {
     asks! { rt;
-        0xd207_0009 => Operation::Load(Loading::Word, MemoryOperand { space: Space::Normal, .. }), // ld [%i4+%o1],%o1
-        0xc20a_3801 => Operation::Load(Loading::UnsignedByte, MemoryOperand { space: Space::Normal, .. }), // ldub [%o0-2047],%g1
-        0xee11_e400 => Operation::Load(Loading::UnsignedHalf, MemoryOperand { space: Space::Normal, .. }), // lduh [%g7+1024],%l7
-        0xde48_2000 => Operation::Load(Loading::SignedByte, MemoryOperand { space: Space::Normal, .. }), // ldsb [0],%o7
-        0xc252_3ffb => Operation::Load(Loading::SignedHalf, MemoryOperand { space: Space::Normal, .. }), // ldsh [%o0-5],%g1
-        0xfc1f_c000 => Operation::LoadDouble(MemoryOperand { space: Space::Normal, .. }), // ldd [%i7],%fp
-        0xc224_0000 => Operation::Store(Storing::Word, MemoryOperand { space: Space::Normal, .. }), // st %g1,[%l0]
-        0xfc2e_2001 => Operation::Store(Storing::Byte, MemoryOperand { space: Space::Normal, .. }), // stb %fp,[%i0+1]
-        0xde33_801e => Operation::Store(Storing::Half, MemoryOperand { space: Space::Normal, .. }), // sth %o7,[%sp+%fp]
-        0xdc3f_fffc => Operation::StoreDouble(MemoryOperand { space: Space::Normal, .. }), // std %sp,[%i7-4]
-        0xe668_2400 => Operation::LoadStoreByte(MemoryOperand { space: Space::Normal, .. }), // ldstub [1024],%l3
-        0xdc7f_c00e => Operation::Swap(MemoryOperand { space: Space::Normal, .. }), // swap [%i7+%sp],%sp
+        0xd207_0009 => Operation::Transfer(Transfer::Load(Size::Word, Extension::Zero), MemoryOperand { space: Space::Normal, .. }), // ld [%i4+%o1],%o1
+        0xc20a_3801 => Operation::Transfer(Transfer::Load(Size::Byte, Extension::Zero), MemoryOperand { space: Space::Normal, .. }), // ldub [%o0-2047],%g1
+        0xee11_e400 => Operation::Transfer(Transfer::Load(Size::Half, Extension::Zero), MemoryOperand { space: Space::Normal, .. }), // lduh [%g7+1024],%l7
+        0xde48_2000 => Operation::Transfer(Transfer::Load(Size::Byte, Extension::Sign), MemoryOperand { space: Space::Normal, .. }), // ldsb [0],%o7
+        0xc252_3ffb => Operation::Transfer(Transfer::Load(Size::Half, Extension::Sign), MemoryOperand { space: Space::Normal, .. }), // ldsh [%o0-5],%g1
+        0xfc1f_c000 => Operation::Transfer(Transfer::Load(Size::Double, Extension::Zero), MemoryOperand { space: Space::Normal, .. }), // ldd [%i7],%fp
+        0xc224_0000 => Operation::Transfer(Transfer::Store(Size::Word), MemoryOperand { space: Space::Normal, .. }), // st %g1,[%l0]
+        0xfc2e_2001 => Operation::Transfer(Transfer::Store(Size::Byte), MemoryOperand { space: Space::Normal, .. }), // stb %fp,[%i0+1]
+        0xde33_801e => Operation::Transfer(Transfer::Store(Size::Half), MemoryOperand { space: Space::Normal, .. }), // sth %o7,[%sp+%fp]
+        0xdc3f_fffc => Operation::Transfer(Transfer::Store(Size::Double), MemoryOperand { space: Space::Normal, .. }), // std %sp,[%i7-4]
+        0xe668_2400 => Operation::Transfer(Transfer::Exchange(Size::Byte, Source::AllOnes), MemoryOperand { space: Space::Normal, .. }), // ldstub [1024],%l3
+        0xdc7f_c00e => Operation::Transfer(Transfer::Exchange(Size::Word, Source::Register), MemoryOperand { space: Space::Normal, .. }), // swap [%i7+%sp],%sp
     }
 }
 
 #[test]
 fn asks_for_alternate_spaces(rt: HostRuntime) {
     asks! { rt;
-        0xfe8b_dfff => Operation::Load(Loading::UnsignedByte, MemoryOperand { space: Space::Alternate(255), .. }), // lduba [%o7+%i7] 255,%i7
-        0xf0ca_4418 => Operation::Load(Loading::SignedByte, MemoryOperand { space: Space::Alternate(32), .. }), // ldsba [%o1+%i0] 32,%i0
-        0xe098_4130 => Operation::LoadDouble(MemoryOperand { space: Space::Alternate(9), .. }), // ldda [%g1+%l0] 9,%l0
-        0xdaff_816d => Operation::Swap(MemoryOperand { space: Space::Alternate(11), .. }), // swapa [%fp+%o5] 11,%o5
-        0xd0a9_c133 => Operation::Store(Storing::Byte, MemoryOperand { space: Space::Alternate(9), .. }), // stba %o0,[%g7+%l3] 9
-        0xc0bf_c16e => Operation::StoreDouble(MemoryOperand { space: Space::Alternate(11), .. }), // stda %g0,[%i7+%sp] 11
+        0xfe8b_dfff => Operation::Transfer(Transfer::Load(Size::Byte, Extension::Zero), MemoryOperand { space: Space::Alternate(255), .. }), // lduba [%o7+%i7] 255,%i7
+        0xf0ca_4418 => Operation::Transfer(Transfer::Load(Size::Byte, Extension::Sign), MemoryOperand { space: Space::Alternate(32), .. }), // ldsba [%o1+%i0] 32,%i0
+        0xe098_4130 => Operation::Transfer(Transfer::Load(Size::Double, Extension::Zero), MemoryOperand { space: Space::Alternate(9), .. }), // ldda [%g1+%l0] 9,%l0
+        0xdaff_816d => Operation::Transfer(Transfer::Exchange(Size::Word, Source::Register), MemoryOperand { space: Space::Alternate(11), .. }), // swapa [%fp+%o5] 11,%o5
+        0xd0a9_c133 => Operation::Transfer(Transfer::Store(Size::Byte), MemoryOperand { space: Space::Alternate(9), .. }), // stba %o0,[%g7+%l3] 9
+        0xc0bf_c16e => Operation::Transfer(Transfer::Store(Size::Double), MemoryOperand { space: Space::Alternate(11), .. }), // stda %g0,[%i7+%sp] 11
     }
 }
 
@@ -204,13 +209,13 @@ fn asks_for_alternate_spaces(rt: HostRuntime) {
 #[test]
 fn asks_for_what_appendix_f_has_beside(rt: HostRuntime) {
     asks! { rt;
-        0xd282_0140 => Operation::Load(Loading::Word, MemoryOperand { space: Space::Alternate(10), .. }), // lda [%o0] 10,%o1
-        0xd292_0140 => Operation::Load(Loading::UnsignedHalf, MemoryOperand { space: Space::Alternate(10), .. }), // lduha [%o0] 10,%o1
-        0xd2d2_0140 => Operation::Load(Loading::SignedHalf, MemoryOperand { space: Space::Alternate(10), .. }), // ldsha [%o0] 10,%o1
-        0xd2a2_0140 => Operation::Store(Storing::Word, MemoryOperand { space: Space::Alternate(10), .. }), // sta %o1,[%o0] 10
-        0xd2b2_0140 => Operation::Store(Storing::Half, MemoryOperand { space: Space::Alternate(10), .. }), // stha %o1,[%o0] 10
-        0xd2ea_0140 => Operation::LoadStoreByte(MemoryOperand { space: Space::Alternate(10), .. }), // ldstuba [%o0] 10,%o1
-        0xd282_2008 => Operation::Load(Loading::Word, MemoryOperand { space: Space::Missing, .. }), // the same as lda, with an immediate 8
+        0xd282_0140 => Operation::Transfer(Transfer::Load(Size::Word, Extension::Zero), MemoryOperand { space: Space::Alternate(10), .. }), // lda [%o0] 10,%o1
+        0xd292_0140 => Operation::Transfer(Transfer::Load(Size::Half, Extension::Zero), MemoryOperand { space: Space::Alternate(10), .. }), // lduha [%o0] 10,%o1
+        0xd2d2_0140 => Operation::Transfer(Transfer::Load(Size::Half, Extension::Sign), MemoryOperand { space: Space::Alternate(10), .. }), // ldsha [%o0] 10,%o1
+        0xd2a2_0140 => Operation::Transfer(Transfer::Store(Size::Word), MemoryOperand { space: Space::Alternate(10), .. }), // sta %o1,[%o0] 10
+        0xd2b2_0140 => Operation::Transfer(Transfer::Store(Size::Half), MemoryOperand { space: Space::Alternate(10), .. }), // stha %o1,[%o0] 10
+        0xd2ea_0140 => Operation::Transfer(Transfer::Exchange(Size::Byte, Source::AllOnes), MemoryOperand { space: Space::Alternate(10), .. }), // ldstuba [%o0] 10,%o1
+        0xd282_2008 => Operation::Transfer(Transfer::Load(Size::Word, Extension::Zero), MemoryOperand { space: Space::Missing, .. }), // the same as lda, with an immediate 8
         0x8192_0000 => Operation::WriteState(StateRegister::Wim, _), // wr %o0,%g0,%wim
         0x81a0_0000 => Operation::FloatingPoint, // FPop1
         0x81a8_0000 => Operation::FloatingPoint, // FPop2

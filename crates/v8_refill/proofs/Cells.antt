@@ -10,7 +10,7 @@ use Rattle.std.proofs.lemmas.Bool.Decides.{nat_tests}
 use Rattle.std.proofs.lemmas.List.{get_or-set_same, get_or-set_other, length-set}
 use Rattle.v8_windows.specs.Windows.{AreRows}
 use Rattle.v8_windows.proofs.Shape.{rows_written}
-use Rattle.v8_stages.proofs.Stages.{with_cell}
+use Rattle.v8_loaded.proofs.Stages.{with_cell}
 
 -- the window and the place that word k goes to: first the locals of window m, then its ins, which are the outs of window a
 abbrev pub home : ℕ → ℕ → ℕ → ℕ

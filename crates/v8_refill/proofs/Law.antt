@@ -1,29 +1,38 @@
--- The law of the underflow handler, from the attempt on.
-use Rattle.std.proofs.Common.{◌≡◌, ◌≢◌, ℕ, ◌+◌, ◌-◌, ◌*◌, ◌%◌, ◌^◌, ◌<◌, ◌≤◌, ◌⊎◌, inl, inr, Bool, true, false, List, [], length, get_or, Some, refl, sym, ap, ◌∙◌, subst, arith}
-use Rattle.std.specs.Prelude.{◌==◌, slice_index, slice_set, if◌then◌else◌}
+-- The law of the underflow handler.
+use Rattle.std.proofs.Common.{◌≡◌, ◌≢◌, ℕ, ◌+◌, ◌*◌, ◌^◌, ◌<◌, ◌≤◌, ◌⊎◌, inl, inr, Bool, true, false, List, [], length, get_or, Some, refl, sym, ap, ◌∙◌, subst, arith}
+use Rattle.std.specs.Prelude.{◌==◌, slice_index, slice_set}
 use Rattle.std.proofs.lemmas.Bool.Decides.{nat_tests}
 use Rattle.std.proofs.lemmas.List.{get_or-set_same, get_or-set_other}
+use Rattle.v8_formats.specs.declared.instr.Three.{Three}
+use Rattle.v8_meaning.specs.declared.operation.Operation.{Operation}
+use Rattle.v8_meaning.specs.declared.operation.Operation.TheVariants.{Restore}
 use Rattle.v8_mmu.specs.Ram.{entry_of}
 use Rattle.v8_mmu.specs.declared.translation.MmuRegs.{MmuRegs}
-use Rattle.v8_windows.specs.Windows.{above, below}
+use Rattle.v8_windows.specs.Windows.{above, can_enter, is_masked}
 use Rattle.v8_state.specs.declared.state.Cpu.{Cpu}
-use Rattle.v8_core.specs.declared.turn.Event.TheVariants.{ErrorMode, Trapped}
+use Rattle.v8_state.specs.Traps.{applies, first_trap}
 use Rattle.v8_core.specs.Accesses.{World, world}
 use Rattle.v8_layout.specs.Layout.{Pages}
-use Rattle.v8_layout.proofs.Marks.{mark_keeps}
-use Rattle.v8_memory.specs.Board.{Device, board}
-use Rattle.v8_stages.specs.Runs.{after, event_at}
-use Rattle.v8_stages.specs.Places.{entered_window, code_entry_place}
-use Rattle.v8_stages.proofs.Windows.{above_below, below_within, above_within, mask_within, mask_word}
-use Rattle.v8_stages.proofs.Stages.{stage, finished}
-use Rattle.v8_stages.proofs.Entered.{caught, first_row, first_row_pcs, first_row_kept, finished_control}
-use Rattle.v8_stages.proofs.Turns.{area, Comes, shifted, later_event}
-use Rattle.v8_refill.specs.Laws.{Underflows, HasFrame, Loads, Refills, SameRam, Refilled, refilled_window, next_window, stack_pointer, save_place, UnderflowLaw}
+use Rattle.v8_layout.proofs.Marks.{kept_elsewhere}
+use Rattle.v8_memory.specs.Board.{Device}
+use Rattle.v8_loaded.specs.Areas.{HasFrame, IsFrame, area_of}
+use Rattle.v8_loaded.specs.Places.{code_entry_place, code_marked, entered_window}
+use Rattle.v8_loaded.proofs.Fetches.{code_entry_word}
+use Rattle.v8_loaded.proofs.Windows.{above_below, below_within, above_within, mask_within, mask_word, masked}
+use Rattle.v8_loaded.proofs.Stages.{finished}
+use Rattle.v8_loaded.proofs.Entered.{caught, first_row, first_row_pcs, first_row_kept, first_row_fits, finished_control}
+use Rattle.v8_loaded.proofs.Turns.{Comes, filling}
+use Rattle.v8_loaded.proofs.Stack.{word_in, word_there}
+use Rattle.v8_loaded.proofs.Users.{pc_word, user_kept, user_page}
+use Rattle.v8_loaded.proofs.Handled.{begun, ends, handled, same_but, setting}
+use Rattle.v8_refill.specs.Laws.{Underflows, Refills, Refilled, Handled, refilled_window, next_window, stack_pointer, UnderflowLaw}
 use Rattle.v8_refill.proofs.Cells.{Loading, refilled, home, spot, home_low, home_high, spot_low, spot_high, are_rows, loaded_word, kept_word, with_row}
-use Rattle.v8_stages.proofs.Doubles.{board_doubles, word_in, word_there, word_fits}
 use Rattle.v8_refill.proofs.Rows.{row_5, low_kept, long, fit}
 use Rattle.v8_refill.proofs.Handler.{Frame, loads_of, underflow as handled_by, window_apart, next_apart}
-use Rattle.v8_refill.proofs.Attempt.{pc_entry, pc_spot, fetched_ram, traps, trapped_to, fetched_same}
+
+restore_traps : (n : ℕ) (cpu : Cpu n) (f : Three) → is_masked cpu.regs.mask (above n cpu.regs.current) ≡ true → first_trap n cpu (Restore f) ≡ Some 6
+unfolding applies can_enter
+restore_traps n cpu f forbidden = rw forbidden refl
 
 -- a word of another window than the one with a row of its own
 beside_row : (rows : List (List ℕ)) (w : ℕ) (row : List ℕ) (u j : ℕ) → u ≢ w → slice_index (get_or (slice_set rows w row) u []) j ≡ slice_index (get_or rows u []) j
@@ -75,179 +84,159 @@ kept n rows m a w v row u j l less outs first second third = by_window (u == w) 
         let other : u ≢ w = grind (arith, nat_tests) in
         beside_row (refilled rows m a v 16) w row u j other ∙ kept_word n rows m a v 16 u j l (omega arith) (λ i small. not_loaded m a u j i first second small)
 
--- the words of the save area
-abbrev saved : (n : ℕ) → World n Device → ℕ → ℕ
-saved n old i = word_in old.memory.ram (save_place n old.cpu + 4 * i)
+module _ (n : ℕ) (g : Pages) (words : List ℕ) (mmu : MmuRegs) (x : World n Device) (i : ℕ) (o : Underflows n g words mmu x i) (area : HasFrame g x.memory.ram (stack_pointer n x.cpu)) where
+  abbrev op : Operation
+  op = Restore o.restores.0
 
--- the rows and the trap's window in the end
-abbrev last_rows : (n : ℕ) → World n Device → List (List ℕ)
-last_rows n old = refilled old.cpu.regs.words (refilled_window n old.cpu) (next_window n old.cpu) (saved n old) 16
+  abbrev cur : ℕ
+  cur = x.cpu.regs.current
 
-abbrev last_row : (n : ℕ) → World n Device → List ℕ
-last_row n old = row_5 n (first_row n old.cpu) (2 ^ refilled_window n old.cpu)
+  abbrev w : ℕ
+  w = entered_window n x.cpu
 
-abbrev last_cpu : (n : ℕ) → World n Device → Cpu n
-last_cpu n old = finished n (caught old.cpu.control 6) (last_rows n old) (entered_window n old.cpu) old.cpu.regs.globals (last_row n old) (2 ^ next_window n old.cpu) old.cpu.control.pc old.cpu.control.npc
+  abbrev u : ℕ
+  u = refilled_window n x.cpu
 
--- before and after the fetch the save area is the same
-frame_in : (n : ℕ) (g : Pages) (code : List ℕ) (mmu : MmuRegs) (old : World n Device) (ram : List ℕ) → Underflows n g code mmu old → HasFrame g old.memory.ram (stack_pointer n old.cpu) →
-    ((p : ℕ) → 0x2E00 ≤ p → entry_of ram p ≡ entry_of old.memory.ram p) → Frame n g ram old.cpu.regs.words old.cpu.regs.current (saved n old)
-frame_in n g code mmu old ram o room same =
-    let sp = stack_pointer n old.cpu in
-    let size = o.loaded.tables.size in
-    let aligned = room.aligned in
-    let low = room.low in
-    let high = room.high in
-    let most = o.few.stack in
-    record {
-      within = o.file.current;
-      shape = o.file.rows;
-      aligned = aligned;
-      low = low;
-      high = high;
-      words = λ i small. same (sp - 0x60000 + 4 * i) (omega arith) ∙ word_there old.memory.ram (sp - 0x60000 + 4 * i) size (omega arith) (omega arith);
-      fit = λ i small. word_fits old.memory.ram (sp - 0x60000 + 4 * i) (λ j less.
-          let place : sp - 0x60000 + 4 * i + j ≡ sp - 0x60000 + (4 * i + j) = omega arith in
-          subst (λ p. slice_index old.memory.ram p < 256) (sym place) (room.bytes (4 * i + j) (omega arith)));
-    }
+  abbrev b : ℕ
+  b = next_window n x.cpu
 
-first_fits : (n : ℕ) (g : Pages) (code : List ℕ) (mmu : MmuRegs) (old : World n Device) → Underflows n g code mmu old → (i : ℕ) → slice_index (first_row n old.cpu) i < 2 ^ 32
-first_fits n g code mmu old o i = by_place (i == 9) refl (i == 10) refl
-  where
-    by_place : (s : Bool) → (i == 9) ≡ s → (t : Bool) → (i == 10) ≡ t → slice_index (first_row n old.cpu) i < 2 ^ 32
-    by_place true e t g =
-        let nine : i ≡ 9 = grind (arith, nat_tests) in
-        let high = o.pc_high in
-        let few = o.few.code in
-        let parts = first_row_pcs n old.cpu (o.file.rows.each (below n old.cpu.regs.current) (below_within n old.cpu.regs.current o.file.few o.file.many o.file.current)) in
-        subst (λ x. x < 2 ^ 32) (sym (ap (λ k. slice_index (first_row n old.cpu) k) nine ∙ parts.0)) (omega arith)
-    by_place false e true g =
-        let ten : i ≡ 10 = grind (arith, nat_tests) in
-        let parts = first_row_pcs n old.cpu (o.file.rows.each (below n old.cpu.regs.current) (below_within n old.cpu.regs.current o.file.few o.file.many o.file.current)) in
-        subst (λ x. x < 2 ^ 32) (sym (ap (λ k. slice_index (first_row n old.cpu) k) ten ∙ parts.1)) o.npc_word
-    by_place false e false g =
-        let not_nine : i ≢ 9 = grind (arith, nat_tests) in
-        let not_ten : i ≢ 10 = grind (arith, nat_tests) in
-        subst (λ x. x < 2 ^ 32) (sym (first_row_kept n old.cpu i not_nine not_ten)) (o.file.rows.fit (below n old.cpu.regs.current) i)
+  abbrev rows : List (List ℕ)
+  rows = x.cpu.regs.words
 
--- what the handler leaves of the registers
-refills : (n : ℕ) (g : Pages) (code : List ℕ) (mmu : MmuRegs) (old : World n Device) → Underflows n g code mmu old → Frame n g old.memory.ram old.cpu.regs.words old.cpu.regs.current (saved n old) →
-    Refills n old.cpu (last_cpu n old)
-refills n g code mmu old o frame =
-    let cpu = old.cpu in
-    let cur = cpu.regs.current in
-    let rows = cpu.regs.words in
-    let w = below n cur in
-    let u = above n cur in
-    let b = above n u in
-    let file = o.file in
-    let four = file.few in
-    let many = file.many in
-    let within = file.current in
-    let w_within = below_within n cur four many within in
-    let u_within = above_within n cur four many within in
-    let b_within = above_within n u four many u_within in
-    let l = loads_of n g old.memory.ram rows cur (saved n old) four many frame in
-    let row = first_row n cpu in
-    let sixteen = (first_row_pcs n cpu (file.rows.each w w_within)).2 in
-    let back = above_below n cur four many within in
-    record {
-      mask = refl;
-      current = back;
-      globals = refl;
-      kept = λ v j first second third. kept n rows u b w (saved n old) (last_row n old) v j l w_within
-          (λ i small. low_kept n row (2 ^ u) i (omega arith) ∙ first_row_kept n cpu i (omega arith) (omega arith)) first second third;
-      file = record {
-        few = four;
-        many = many;
-        current = subst (λ x. x < n) (sym back) within;
-        mask = mask_within n b four many b_within;
-        globals = file.globals;
-        rows = with_row n (last_rows n old) w (last_row n old) (are_rows n rows u b (saved n old) 16 l (omega arith)) w_within (long n row (2 ^ u) sixteen)
-            (λ j. fit n row (2 ^ u) j sixteen (mask_word u (omega arith)) (first_fits n g code mmu old o));
-      };
-      control = finished_control cpu.control 6 cpu.control.pc cpu.control.npc refl refl o.straight o.sane o.traps;
-    }
+  abbrev at : ℕ
+  at = area_of (stack_pointer n x.cpu)
 
--- and the window that it loaded
-window_loaded : (n : ℕ) (g : Pages) (code : List ℕ) (mmu : MmuRegs) (old : World n Device) → Underflows n g code mmu old → Frame n g old.memory.ram old.cpu.regs.words old.cpu.regs.current (saved n old) →
-    Loads (last_cpu n old).regs (refilled_window n old.cpu) (next_window n old.cpu) (save_place n old.cpu) old.memory.ram
-window_loaded n g code mmu old o frame =
-    let cur = old.cpu.regs.current in
-    let rows = old.cpu.regs.words in
-    let w = below n cur in
-    let u = above n cur in
-    let b = above n u in
-    let at = save_place n old.cpu in
-    let four = o.file.few in
-    let many = o.file.many in
-    let within = o.file.current in
-    let l = loads_of n g old.memory.ram rows cur (saved n old) four many frame in
-    record {
-      locals = λ j small. frame.words j (omega arith)
-          ∙ ap Some (sym (beside_row (last_rows n old) w (last_row n old) u (8 + j) (window_apart n cur four many within) ∙ local_loaded n rows u b (saved n old) j l small));
-      ins = λ j small.
-          let place : at + 32 + 4 * j ≡ at + 4 * (8 + j) = omega arith in
-          ap (entry_of old.memory.ram) place ∙ frame.words (8 + j) (omega arith)
-          ∙ ap Some (sym (beside_row (last_rows n old) w (last_row n old) b j (next_apart n cur four many within) ∙ in_loaded n rows u b (saved n old) j l small));
-    }
+  -- the words of the save area
+  abbrev saved : ℕ → ℕ
+  saved k = word_in x.memory.ram (at + 4 * k)
 
--- the state after the trap
-abbrev trap_world : (n : ℕ) → World n Device → World n Device
-trap_world n old = world n (stage n (caught old.cpu.control 6) old.cpu.regs.words (below n old.cpu.regs.current) old.cpu.regs.globals (first_row n old.cpu) (below n old.cpu.regs.current) (2 ^ above n old.cpu.regs.current) 0xF0000060 0xF0000064) (fetched_ram n old) old.memory.device
+  -- the rows and the trap's window in the end
+  abbrev last_rows : List (List ℕ)
+  last_rows = refilled rows u b saved 16
 
--- the 23 turns
-later_turns : (n : ℕ) (g : Pages) (code : List ℕ) (mmu : MmuRegs) (old : World n Device) → Underflows n g code mmu old → HasFrame g old.memory.ram (stack_pointer n old.cpu) →
-    Comes board n g code mmu old.memory.device (area (save_place n old.cpu) (saved n old) 0 16) 23 (trap_world n old) (last_cpu n old)
-later_turns n g code mmu old o room =
-    let cpu = old.cpu in
-    let file = o.file in
-    let cur = cpu.regs.current in
-    let few = o.few.code in
-    let high = o.pc_high in
-    let spot = pc_spot n g code mmu old o in
-    let same = fetched_same old.memory.ram (code_entry_place cpu.control.pc) (pc_entry n old) false spot in
-    let parts = first_row_pcs n cpu (file.rows.each (below n cur) (below_within n cur file.few file.many file.current)) in
-    handled_by board n g code mmu old.memory.device
-    (record { root = o.root; running = o.running; few = file.few; many = file.many; pages = o.few }) (board_doubles old.memory.device)
-    (caught cpu.control 6) cpu.regs.words cur cpu.regs.globals (first_row n cpu) (saved n old) cpu.control.pc cpu.control.npc (fetched_ram n old)
-    (mark_keeps n g code old.memory.ram (code_entry_place cpu.control.pc) (pc_entry n old) false o.loaded spot)
-    (frame_in n g code mmu old (fetched_ram n old) o room same.words)
-    parts.2 parts.0 parts.1 (omega arith) o.npc_word o.pc_whole o.npc_whole
+  abbrev last_row : List ℕ
+  last_row = row_5 n (first_row n x.cpu) (2 ^ u)
 
--- RAM after all turns
-same_ram : (n : ℕ) (g : Pages) (code : List ℕ) (mmu : MmuRegs) (old : World n Device) → Underflows n g code mmu old → HasFrame g old.memory.ram (stack_pointer n old.cpu) →
-    (t : Comes board n g code mmu old.memory.device (area (save_place n old.cpu) (saved n old) 0 16) 23 (trap_world n old) (last_cpu n old)) →
-    SameRam old.cpu.control.pc (save_place n old.cpu) old.memory.ram t.ram
-same_ram n g code mmu old o room t =
-    let sp = stack_pointer n old.cpu in
-    let at = sp - 0x60000 in
-    let aligned = room.aligned in
-    let low = room.low in
-    let most = o.few.stack in
-    let whole_area : at % 4 ≡ 0 = omega arith in
-    let same = fetched_same old.memory.ram (code_entry_place old.cpu.control.pc) (pc_entry n old) false (pc_spot n g code mmu old o) in
-    record {
-      bytes = λ p high.
-          let side : (p < at) ⊎ (at + 4 * 0 ≤ p) = search arith in
-          t.keeps.bytes p high side ∙ same.bytes p high;
-      words = λ p high whole.
-          let side : (p < at) ⊎ (at ≤ p) = search arith in
-          t.keeps.words p high (elim side [ inl before ↦ inl (omega arith) | inr past ↦ inr (omega arith) ]) ∙ same.words p high;
-      entries = λ p low_place whole code_page save_pages. t.keeps.entries p low_place whole save_pages ∙ same.entries p whole code_page;
-    }
+  abbrev last_cpu : Cpu n
+  last_cpu = finished n (caught x.cpu.control 6) w (record {
+    rows = last_rows;
+    globals = x.cpu.regs.globals;
+    row = last_row;
+    mask = 2 ^ b;
+    pc = x.cpu.control.pc;
+    npc = x.cpu.control.npc;
+  })
 
-pub underflow : UnderflowLaw
-underflow n g code mmu old o room =
-    let t = later_turns n g code mmu old o room in
-    let frame = frame_in n g code mmu old old.memory.ram o room (λ p high. refl) in
-    let there = trapped_to n g code mmu old o in
-    let end : after board n mmu 24 old ≡ world n (last_cpu n old) t.ram old.memory.device =
-    shifted board n mmu 23 old ∙ ap (λ x. after board n mmu 23 x) there ∙ t.turns in
-    let result : Refilled n g code old (world n (last_cpu n old) t.ram old.memory.device) =
-    record { cpu = refills n g code mmu old o frame; window = window_loaded n g code mmu old o frame; ram = same_ram n g code mmu old o room t; loaded = t.loaded; device = refl } in
-    record {
-      trap = ap (λ p. p.0.event) (traps n g code mmu old o) ∙ ap (λ (b : Bool). if b then Trapped 6 else ErrorMode 6) o.traps;
-      turns = λ k less. later_event board n mmu k old ∙ ap (λ x. event_at board n mmu k x) there ∙ t.ran k less;
-      refilled = subst (λ x. Refilled n g code old x) (sym end) result;
-    }
+  w_within : w < n
+  w_within = below_within n cur o.user.file.few o.user.file.many o.user.file.current
+
+  u_within : u < n
+  u_within = above_within n cur o.user.file.few o.user.file.many o.user.file.current
+
+  old_sixteen : length (get_or rows w []) ≡ 16
+  old_sixteen = o.user.file.rows.each w w_within
+
+  meets : first_trap n x.cpu op ≡ Some 6
+  meets =
+      let many = o.user.file.many in
+      let less = u_within in
+      restore_traps n x.cpu o.restores.0 (ap (λ k. is_masked k u) o.mask ∙ masked u (omega arith))
+
+  pc_fits : x.cpu.control.pc < 2 ^ 32
+  pc_fits = pc_word n g words mmu x i o.user
+
+  word_of_area : (k : ℕ) → k < 16 → entry_of x.memory.ram (at + 4 * k) ≡ Some (saved k)
+  word_of_area k small =
+      let size = o.user.loaded.tables.size in
+      let aligned = area.room.aligned in
+      let low = area.room.low in
+      let high = area.room.high in
+      let most = o.user.few.stack in
+      word_there x.memory.ram (at + 4 * k) size (omega arith) (omega arith)
+
+  -- before and after the fetch the save area is the same
+  frame_in : (ram : List ℕ) → ((p : ℕ) → 0x2E00 ≤ p → entry_of ram p ≡ entry_of x.memory.ram p) → Frame n g ram rows cur saved
+  frame_in ram same =
+      let low = area.room.low in
+      let most = o.user.few.stack in
+      record {
+        within = o.user.file.current;
+        shape = o.user.file.rows;
+        room = area.room;
+        words = λ k small. same (at + 4 * k) (omega arith) ∙ word_of_area k small;
+        fit = λ k small. area.words k (saved k) small (word_of_area k small);
+      }
+
+  loads : Loading n rows u b saved
+  loads = loads_of n g x.memory.ram rows cur saved o.user.file.few o.user.file.many (frame_in x.memory.ram (λ p high. refl))
+
+  -- what the handler leaves of the registers
+  refills : Refills n x.cpu last_cpu
+  refills =
+      let file = o.user.file in
+      let row = first_row n x.cpu in
+      let sixteen = (first_row_pcs n x.cpu old_sixteen).2 in
+      let back = above_below n cur file.few file.many file.current in
+      record {
+        mask = refl;
+        current = back;
+        globals = refl;
+        kept = λ q j first second third. kept n rows u b w saved last_row q j loads w_within
+            (λ k small. low_kept n row (2 ^ u) k (omega arith) ∙ first_row_kept n x.cpu k (omega arith) (omega arith)) first second third;
+        file = record {
+          few = file.few;
+          many = file.many;
+          current = subst (λ q. q < n) (sym back) file.current;
+          mask = mask_within n b file.few file.many (above_within n u file.few file.many u_within);
+          globals = file.globals;
+          rows = with_row n last_rows w last_row (are_rows n rows u b saved 16 loads (omega arith)) w_within (long n row (2 ^ u) sixteen)
+              (λ j. let many = file.many in let less = u_within in fit n row (2 ^ u) j sixteen (mask_word u (omega arith)) (first_row_fits n x.cpu old_sixteen pc_fits o.user.npc_word (file.rows.fit w)));
+        };
+        control = finished_control x.cpu.control 6 x.cpu.control.pc x.cpu.control.npc refl refl o.user.straight o.user.sane o.user.traps;
+      }
+
+  -- and the window that it loaded
+  window : IsFrame last_cpu.regs u b at x.memory.ram
+  window =
+      let file = o.user.file in
+      record {
+        locals = λ j small. word_of_area j (omega arith)
+            ∙ ap Some (sym (beside_row last_rows w last_row u (8 + j) (window_apart n cur file.few file.many file.current) ∙ local_loaded n rows u b saved j loads small));
+        ins = λ j small.
+            let place : at + 32 + 4 * j ≡ at + 4 * (8 + j) = omega arith in
+            ap (entry_of x.memory.ram) place ∙ word_of_area (8 + j) (omega arith)
+            ∙ ap Some (sym (beside_row last_rows w last_row b j (next_apart n cur file.few file.many file.current) ∙ in_loaded n rows u b saved j loads small));
+      }
+
+  -- the 23 turns
+  comes : Comes n g words mmu x.memory.device (filling at 16) 23 (begun n x i 6 (2 ^ u)) last_cpu
+  comes =
+      let pcs = first_row_pcs n x.cpu old_sixteen in
+      let page = user_page n g words mmu x i o.user in
+      let high = page.high in
+      let whole = o.user.place in
+      handled_by n g words mmu x.memory.device (setting n g words mmu x i o.user) (caught x.cpu.control 6) rows cur x.cpu.regs.globals (first_row n x.cpu) (code_marked i x.memory.ram) saved
+      (user_kept n g words mmu x i o.user)
+      (frame_in (code_marked i x.memory.ram) (λ p above. kept_elsewhere x.memory.ram (code_entry_place i) (code_entry_word i) false page p (inr (omega arith))))
+      pcs.2 x.cpu.control.pc x.cpu.control.npc pcs.0 pcs.1 pc_fits o.user.npc_word (omega arith) o.user.npc_whole
+
+  refilled_so : Refilled n g words x (world n last_cpu comes.ram x.memory.device) i
+  refilled_so = record {
+    cpu = refills;
+    window = window;
+    ram = same_but n g words mmu x i o.user op 6 (2 ^ u) o.restores.1 meets o.mask (filling at 16) last_cpu comes refl;
+    loaded = comes.loaded;
+    device = refl;
+  }
+
+  whole : Handled n g words mmu x i
+  whole =
+      let most = o.user.few.stack in
+      let from = area.room.low in
+      record {
+        turns = handled n g words mmu x i o.user op 6 (2 ^ u) o.restores.1 meets o.mask (filling at 16) last_cpu comes refl (stack_pointer n x.cpu) (omega arith);
+        refilled = subst (λ y. Refilled n g words x y i) (sym (ends n g words mmu x i o.user op 6 (2 ^ u) o.restores.1 meets o.mask (filling at 16) last_cpu comes refl)) refilled_so;
+      }
+
+pub underflow_law : UnderflowLaw
+underflow_law n g words mmu x i o area = whole n g words mmu x i o area

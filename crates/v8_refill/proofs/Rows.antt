@@ -9,8 +9,8 @@ use Rattle.std.proofs.lemmas.List.{get_or-set_same, get_or-set_other, length-set
 use Rattle.std.proofs.lemmas.Nat.{or_lt}
 use Rattle.v8_alu.specs.Results.{shifted_left, shifted_right}
 use Rattle.v8_windows.specs.Windows.{above}
-use Rattle.v8_stages.proofs.Windows.{left_bit}
-use Rattle.v8_stages.proofs.Stages.{fit_written}
+use Rattle.v8_loaded.proofs.Windows.{left_bit}
+use Rattle.v8_loaded.proofs.Stages.{fit_written}
 
 abbrev pub row_1 : List ℕ → ℕ → List ℕ
 row_1 row mask = slice_set row 11 mask

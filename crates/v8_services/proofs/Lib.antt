@@ -1,4 +1,3 @@
-pub mod Places
 pub mod Frames
 pub mod Vector
 pub mod Served

@@ -1,5 +1,5 @@
 -- A call of a service, turn by turn.
-use Rattle.std.proofs.Common.{◌≡◌, ℕ, ◌+◌, ◌*◌, ◌%◌, ◌^◌, ◌<◌, Bool, true, false, List, [], ◌∷◌, ◌++◌, Some, None, refl, sym, ap, ◌∙◌, arith}
+use Rattle.std.proofs.Common.{◌≡◌, ℕ, ◌+◌, ◌*◌, ◌%◌, ◌^◌, ◌<◌, Bool, true, false, List, [], ◌∷◌, ◌++◌, Some, None, refl, sym, ap, ◌∙◌, subst, arith}
 use Rattle.std.specs.Prelude.{◌==◌, if◌then◌else◌}
 use Rattle.std.proofs.lemmas.Bool.Decides.{nat_tests}
 use Rattle.v8_word.specs.declared.Size.TheVariants.{Word}
@@ -21,10 +21,16 @@ use Rattle.v8_core.specs.Steps.{ran_event}
 use Rattle.v8_layout.specs.Layout.{Pages, IsLoaded}
 use Rattle.v8_memory.specs.Board.{Device, gets, got_from}
 use Rattle.v8_memory.specs.Input.{next_byte}
-use Rattle.v8_services.specs.Services.{Calls, ExitLaw, GetLaw, Leads, PutLaw, RunsUser, TurnsTo, calls, code_marked, exit_events, exited, got, in_vector, put, returned_from, scratched, served_events, table_marked, vector_marked, vector_registers}
+use Rattle.v8_loaded.specs.Places.{code_marked, table_marked}
+use Rattle.v8_loaded.specs.Turns.{Leads, TurnsTo}
+use Rattle.v8_loaded.specs.Users.{RunsUser, in_vector}
+use Rattle.v8_loaded.proofs.Fetches.{device_kept, table_kept}
+use Rattle.v8_loaded.proofs.Leading.{leads_more, leads_one}
+use Rattle.v8_loaded.proofs.Users.{pc_word as pc_fits, trap_turn, user_kept}
+use Rattle.v8_loaded.proofs.Vectors.{vector_turn}
+use Rattle.v8_services.specs.Services.{Calls, ExitLaw, GetLaw, MayReturn, PutLaw, calls, exit_events, exited, got, put, returned_from, scratched, served_events, vector_marked, vector_registers}
 use Rattle.v8_services.proofs.Frames.{answered, answered_is, back, back_with, may_return, may_return_with, reads_address, reads_npc, reads_npc_after, reads_word}
-use Rattle.v8_services.proofs.Places.{code_kept, device_kept, table_kept}
-use Rattle.v8_services.proofs.Vector.{Setting, address_is, calm_jump, calm_load, calm_return, calm_store, input_loaded, jump_back, jumps_back, load_input, loads_input, register_address_is, resumed, return_back, returns_back, set_device, sets_device, store_word, stores_word, trap_turn, vector_turn, word_put, word_stopped}
+use Rattle.v8_services.proofs.Vector.{address_is, calm_jump, calm_load, calm_return, calm_store, input_loaded, jump_back, jumps_back, load_input, loads_input, register_address_is, resumed, return_back, returns_back, set_device, sets_device, store_word, stores_word, word_put, word_stopped}
 
 -- ---- the words
 
@@ -140,22 +146,22 @@ module _ (n : ℕ) (g : Pages) (words : List ℕ) (mmu : MmuRegs) (x : World n D
   ram4 store = table_marked (ram3 store)
 
   pc_word : pc < 2 ^ 32
-  pc_word = let few = u.few in let code = few.code in let less = u.within in let at = u.place in omega arith
+  pc_word = pc_fits n g words mmu x i u
 
   loaded1 : IsLoaded n g words ram1
-  loaded1 = code_kept n g words x.memory.ram i u.few u.loaded u.within
+  loaded1 = user_kept n g words mmu x i u
 
   loaded2 : IsLoaded n g words ram2
-  loaded2 = table_kept n g words ram1 loaded1
+  loaded2 = table_kept n g words ram1 u.few loaded1
+
+  loaded_before : IsLoaded n g words (table_marked ram2)
+  loaded_before = table_kept n g words ram2 u.few loaded2
 
   loaded3 : (store : Bool) → IsLoaded n g words (ram3 store)
-  loaded3 store = device_kept n g words (table_marked ram2) store (table_kept n g words ram2 loaded2)
+  loaded3 store = device_kept n g words (table_marked ram2) u.few loaded_before store
 
   loaded4 : (store : Bool) → IsLoaded n g words (ram4 store)
-  loaded4 store = table_kept n g words (ram3 store) (loaded3 store)
-
-  setting : Setting n g words mmu c
-  setting = record { sane = u.sane; few = u.few; root = u.root }
+  loaded4 store = table_kept n g words (ram3 store) u.few (loaded3 store)
 
   abbrev vector : Windows
   vector = vector_registers n v pc npc
@@ -164,7 +170,7 @@ module _ (n : ℕ) (g : Pages) (words : List ℕ) (mmu : MmuRegs) (x : World n D
   set_turn : (t k a : ℕ) → k < 1024 → a ≡ 0xF0000000 + 4 * k → operation_of (meaning (trap_word k)) ≡ set_device →
       TurnsTo n g mmu (world n (in_vector n c t (trapped n v pc npc) a (following a)) ram1 d) Ran (world n (in_vector n c t vector (following a) (following (following a))) ram2 d)
   set_turn t k a small at is =
-      vector_turn n g words mmu c t (trapped n v pc npc) a (following a) k ram1 d set_device None (world n (in_vector n c t vector (following a) (following (following a))) ram2 d) Ran setting loaded1 u.running small at is
+      vector_turn n g words mmu x i u t (trapped n v pc npc) a (following a) k ram1 d set_device None (world n (in_vector n c t vector (following a) (following (following a))) ram2 d) Ran loaded1 u.running small at is
       (calm_set n (in_vector n c t (trapped n v pc npc) a (following a))) (sets_device n mmu c t v pc npc a (following a) ram2 d) (ap ran_event u.running) tt
 
   device_at : (t a b offset va : ℕ) → (0xF0010000 + offset) % 2 ^ 32 ≡ va → address_of n (in_vector n c t vector a b) 19 (Immediate offset) ≡ va
@@ -175,14 +181,14 @@ module _ (n : ℕ) (g : Pages) (words : List ℕ) (mmu : MmuRegs) (x : World n D
       TurnsTo n g mmu (world n (in_vector n c t regs a (following a)) ram e) Ran (world n (in_vector n c t regs (following a) npc) (table_marked ram) e)
   jump_turn t k a regs ram e loaded running reads small at is =
       let to = register_address_is n c t regs a (following a) 18 npc reads u.npc_word in
-      vector_turn n g words mmu c t regs a (following a) k ram e jump_back None (world n (in_vector n c t regs (following a) npc) (table_marked ram) e) Ran setting loaded running small at is
+      vector_turn n g words mmu x i u t regs a (following a) k ram e jump_back None (world n (in_vector n c t regs (following a) npc) (table_marked ram) e) Ran loaded running small at is
       (calm_jump n (in_vector n c t regs a (following a)) (record { rd = 0; rs1 = 18; operand2 = Register 0 }) npc to (whole_test npc u.npc_whole)) (jumps_back n mmu c t regs a (following a) npc (table_marked ram) e to) (ap ran_event running) tt
 
   return_turn : (t k a : ℕ) (regs : Windows) (ram : List ℕ) (e : Device) → IsLoaded n g words ram → e.stopped ≡ None → reg_of n regs 18 ≡ npc → can_enter regs (above n regs.current) ≡ true → k < 1024 → a ≡ 0xF0000000 + 4 * k → operation_of (meaning (trap_word k)) ≡ return_back →
       TurnsTo n g mmu (world n (in_vector n c t regs a npc) ram e) Ran (world n (resumed n c t (moved regs (above n regs.current)) npc (following npc)) (table_marked ram) e)
   return_turn t k a regs ram e loaded running reads free small at is =
       let to = address_is n c t regs a npc 18 npc 4 reads in
-      vector_turn n g words mmu c t regs a npc k ram e return_back None (world n (resumed n c t (moved regs (above n regs.current)) npc (following npc)) (table_marked ram) e) Ran setting loaded running small at is
+      vector_turn n g words mmu x i u t regs a npc k ram e return_back None (world n (resumed n c t (moved regs (above n regs.current)) npc (following npc)) (table_marked ram) e) Ran loaded running small at is
       (calm_return n c t regs a npc (record { rs1 = 18; operand2 = Immediate 4 }) (following npc) free to (next_whole npc u.npc_whole)) (returns_back n mmu c t regs a npc (following npc) (table_marked ram) e to) (ap ran_event running) tt
 
   -- the end, with these registers
@@ -197,26 +203,21 @@ module _ (n : ℕ) (g : Pages) (words : List ℕ) (mmu : MmuRegs) (x : World n D
   reads : reg_of n vector 24 ≡ word
   reads = reads_word n v pc npc u.file pc_word u.npc_word
 
-  loaded_before : IsLoaded n g words (table_marked ram2)
-  loaded_before = table_kept n g words ram2 loaded2
-
   -- st %i0,[%l3+8]
   stop_turn : TurnsTo n g mmu (world n (in_vector n c 0x80 vector 0xF0000804 0xF0000808) ram2 d) (Stopped (Exit word)) (exited n x i)
   stop_turn =
       let e : Device = record d { stopped = Some (Exit word) } in
       let at = device_at 0x80 0xF0000804 0xF0000808 8 0xF0010008 refl in
-      vector_turn n g words mmu c 0x80 vector 0xF0000804 0xF0000808 513 ram2 d (store_word 8) (Some (record { va = 0xF0010008; pa = 0x100000008; size = Word; store = true })) (exited n x i) (Stopped (Exit word))
-      setting loaded2 u.running (omega arith) refl exit_1
+      vector_turn n g words mmu x i u 0x80 vector 0xF0000804 0xF0000808 513 ram2 d (store_word 8) (Some (record { va = 0xF0010008; pa = 0x100000008; size = Word; store = true })) (exited n x i) (Stopped (Exit word))
+      loaded2 u.running (omega arith) refl exit_1
       (calm_store n (in_vector n c 0x80 vector 0xF0000804 0xF0000808) 8 0xF0010008 at refl)
-      (stores_word n mmu c 0x80 vector 0xF0000804 0xF0000808 8 (table_marked ram2) (ram3 true) d e 0xF0010008 0x100000008 word at reads (word_stopped n g words mmu c (table_marked ram2) d word setting loaded_before))
+      (stores_word n mmu c 0x80 vector 0xF0000804 0xF0000808 8 (table_marked ram2) (ram3 true) d e 0xF0010008 0x100000008 word at reads (word_stopped n g words (table_marked ram2) mmu d word u.few loaded_before u.root))
       refl refl
 
   pub exits_so : Calls words i 0 → Leads n g mmu x (exit_events word) (exited n x i)
-  exits_so asks = (
-    world n (in_vector n c 0x80 (trapped n v pc npc) 0xF0000800 0xF0000804) ram1 d,
-    trap_turn n g words mmu x i (calls 0) 0x80 u asks (exit_traps n c),
-    (world n (in_vector n c 0x80 vector 0xF0000804 0xF0000808) ram2 d, set_turn 0x80 512 0xF0000800 (omega arith) refl exit_0, (exited n x i, stop_turn, refl)),
-  )
+  exits_so asks =
+      leads_more (trap_turn n g words mmu x i u (calls 0) 0x80 asks (exit_traps n c))
+      (leads_more (set_turn 0x80 512 0xF0000800 (omega arith) refl exit_0) (leads_one stop_turn))
 
   -- ld [%l3],%i0
   abbrev after_get : Device
@@ -228,38 +229,25 @@ module _ (n : ℕ) (g : Pages) (words : List ℕ) (mmu : MmuRegs) (x : World n D
   get_turn : TurnsTo n g mmu (world n (in_vector n c 0x81 vector 0xF0000814 0xF0000818) ram2 d) Ran (world n (in_vector n c 0x81 given 0xF0000818 0xF000081C) (ram3 false) after_get)
   get_turn =
       let at = device_at 0x81 0xF0000814 0xF0000818 0 0xF0010000 refl in
-      vector_turn n g words mmu c 0x81 vector 0xF0000814 0xF0000818 517 ram2 d load_input (Some (record { va = 0xF0010000; pa = 0x100000000; size = Word; store = false })) (world n (in_vector n c 0x81 given 0xF0000818 0xF000081C) (ram3 false) after_get) Ran
-      setting loaded2 u.running (omega arith) refl get_1
+      vector_turn n g words mmu x i u 0x81 vector 0xF0000814 0xF0000818 517 ram2 d load_input (Some (record { va = 0xF0010000; pa = 0x100000000; size = Word; store = false })) (world n (in_vector n c 0x81 given 0xF0000818 0xF000081C) (ram3 false) after_get) Ran
+      loaded2 u.running (omega arith) refl get_1
       (calm_load n (in_vector n c 0x81 vector 0xF0000814 0xF0000818) 0xF0010000 at refl)
-      (loads_input n mmu c 0x81 vector 0xF0000814 0xF0000818 (table_marked ram2) (ram3 false) d after_get 0xF0010000 0x100000000 (gets d).0 at (input_loaded n g words mmu c (table_marked ram2) d setting loaded_before)
+      (loads_input n mmu c 0x81 vector 0xF0000814 0xF0000818 (table_marked ram2) (ram3 false) d after_get 0xF0010000 0x100000000 (gets d).0 at (input_loaded n g words (table_marked ram2) mmu d u.few loaded_before u.root)
       ∙ ap (λ (r : Windows). (moving 0xF0010000 0x100000000 Word false, world n (in_vector n c 0x81 r 0xF0000818 0xF000081C) (ram3 false) after_get)) (answered_is n v pc npc (gets d).0))
       (ap ran_event (gets_running d u.running)) refl
 
-  pub gets_so : Calls words i 1 → Leads n g mmu x (served_events 0x81) (got n x i)
-  gets_so asks =
+  pub gets_so : MayReturn n x → Calls words i 1 → Leads n g mmu x (served_events 0x81) (got n x i)
+  gets_so may asks =
       let running = gets_running d u.running in
       let here = reads_npc_after n v pc npc u.file pc_word u.npc_word (gets d).0 in
-      let free = may_return_with n v pc npc u.file pc_word u.npc_word (gets d).0 u.free in (
-        world n (in_vector n c 0x81 (trapped n v pc npc) 0xF0000810 0xF0000814) ram1 d,
-        trap_turn n g words mmu x i (calls 1) 0x81 u asks (get_traps n c),
-        (
-          world n (in_vector n c 0x81 vector 0xF0000814 0xF0000818) ram2 d,
-          set_turn 0x81 516 0xF0000810 (omega arith) refl get_0,
-          (
-            world n (in_vector n c 0x81 given 0xF0000818 0xF000081C) (ram3 false) after_get,
-            get_turn,
-            (
-              world n (in_vector n c 0x81 given 0xF000081C npc) (ram4 false) after_get,
-              jump_turn 0x81 518 0xF0000818 given (ram3 false) after_get (loaded3 false) running here (omega arith) refl get_2,
-              (
-                world n (resumed n c 0x81 (moved given (above n given.current)) npc (following npc)) (table_marked (ram4 false)) after_get,
-                return_turn 0x81 519 0xF000081C given (ram4 false) after_get (loaded4 false) running here free (omega arith) refl get_3,
-                ends_with 0x81 (with_reg n (scratched n v pc npc) 8 (gets d).0) (moved given (above n given.current)) (table_marked (ram4 false)) after_get (back_with n v pc npc u.file pc_word u.npc_word (gets d).0),
-              ),
-            ),
-          ),
-        ),
-      )
+      let free = may_return_with n v pc npc u.file pc_word u.npc_word (gets d).0 may in
+      let same = ends_with 0x81 (with_reg n (scratched n v pc npc) 8 (gets d).0) (moved given (above n given.current)) (table_marked (ram4 false)) after_get (back_with n v pc npc u.file pc_word u.npc_word (gets d).0) in
+      let last = return_turn 0x81 519 0xF000081C given (ram4 false) after_get (loaded4 false) running here free (omega arith) refl get_3 in
+      leads_more (trap_turn n g words mmu x i u (calls 1) 0x81 asks (get_traps n c))
+      (leads_more (set_turn 0x81 516 0xF0000810 (omega arith) refl get_0)
+      (leads_more get_turn
+      (leads_more (jump_turn 0x81 518 0xF0000818 given (ram3 false) after_get (loaded3 false) running here (omega arith) refl get_2)
+      (leads_one (subst (TurnsTo n g mmu (world n (in_vector n c 0x81 given 0xF000081C npc) (ram4 false) after_get) Ran) same last)))))
 
   -- st %i0,[%l3+4]
   abbrev after_put : Device
@@ -268,46 +256,33 @@ module _ (n : ℕ) (g : Pages) (words : List ℕ) (mmu : MmuRegs) (x : World n D
   put_turn : TurnsTo n g mmu (world n (in_vector n c 0x82 vector 0xF0000824 0xF0000828) ram2 d) Ran (world n (in_vector n c 0x82 vector 0xF0000828 0xF000082C) (ram3 true) after_put)
   put_turn =
       let at = device_at 0x82 0xF0000824 0xF0000828 4 0xF0010004 refl in
-      vector_turn n g words mmu c 0x82 vector 0xF0000824 0xF0000828 521 ram2 d (store_word 4) (Some (record { va = 0xF0010004; pa = 0x100000004; size = Word; store = true })) (world n (in_vector n c 0x82 vector 0xF0000828 0xF000082C) (ram3 true) after_put) Ran
-      setting loaded2 u.running (omega arith) refl put_1
+      vector_turn n g words mmu x i u 0x82 vector 0xF0000824 0xF0000828 521 ram2 d (store_word 4) (Some (record { va = 0xF0010004; pa = 0x100000004; size = Word; store = true })) (world n (in_vector n c 0x82 vector 0xF0000828 0xF000082C) (ram3 true) after_put) Ran
+      loaded2 u.running (omega arith) refl put_1
       (calm_store n (in_vector n c 0x82 vector 0xF0000824 0xF0000828) 4 0xF0010004 at refl)
-      (stores_word n mmu c 0x82 vector 0xF0000824 0xF0000828 4 (table_marked ram2) (ram3 true) d after_put 0xF0010004 0x100000004 word at reads (word_put n g words mmu c (table_marked ram2) d word setting loaded_before))
+      (stores_word n mmu c 0x82 vector 0xF0000824 0xF0000828 4 (table_marked ram2) (ram3 true) d after_put 0xF0010004 0x100000004 word at reads (word_put n g words (table_marked ram2) mmu d word u.few loaded_before u.root))
       (ap ran_event u.running) refl
 
-  pub puts_so : Calls words i 2 → Leads n g mmu x (served_events 0x82) (put n x i)
-  puts_so asks =
+  pub puts_so : MayReturn n x → Calls words i 2 → Leads n g mmu x (served_events 0x82) (put n x i)
+  puts_so may asks =
       let here = reads_npc n v pc npc u.file pc_word u.npc_word in
-      let free = may_return n v pc npc u.file pc_word u.npc_word u.free in (
-        world n (in_vector n c 0x82 (trapped n v pc npc) 0xF0000820 0xF0000824) ram1 d,
-        trap_turn n g words mmu x i (calls 2) 0x82 u asks (put_traps n c),
-        (
-          world n (in_vector n c 0x82 vector 0xF0000824 0xF0000828) ram2 d,
-          set_turn 0x82 520 0xF0000820 (omega arith) refl put_0,
-          (
-            world n (in_vector n c 0x82 vector 0xF0000828 0xF000082C) (ram3 true) after_put,
-            put_turn,
-            (
-              world n (in_vector n c 0x82 vector 0xF000082C npc) (ram4 true) after_put,
-              jump_turn 0x82 522 0xF0000828 vector (ram3 true) after_put (loaded3 true) u.running here (omega arith) refl put_2,
-              (
-                world n (resumed n c 0x82 (moved vector (above n vector.current)) npc (following npc)) (table_marked (ram4 true)) after_put,
-                return_turn 0x82 523 0xF000082C vector (ram4 true) after_put (loaded4 true) u.running here free (omega arith) refl put_3,
-                ends_with 0x82 (scratched n v pc npc) (moved vector (above n vector.current)) (table_marked (ram4 true)) after_put (back n v pc npc u.file pc_word u.npc_word),
-              ),
-            ),
-          ),
-        ),
-      )
+      let free = may_return n v pc npc u.file pc_word u.npc_word may in
+      let same = ends_with 0x82 (scratched n v pc npc) (moved vector (above n vector.current)) (table_marked (ram4 true)) after_put (back n v pc npc u.file pc_word u.npc_word) in
+      let last = return_turn 0x82 523 0xF000082C vector (ram4 true) after_put (loaded4 true) u.running here free (omega arith) refl put_3 in
+      leads_more (trap_turn n g words mmu x i u (calls 2) 0x82 asks (put_traps n c))
+      (leads_more (set_turn 0x82 520 0xF0000820 (omega arith) refl put_0)
+      (leads_more put_turn
+      (leads_more (jump_turn 0x82 522 0xF0000828 vector (ram3 true) after_put (loaded3 true) u.running here (omega arith) refl put_2)
+      (leads_one (subst (TurnsTo n g mmu (world n (in_vector n c 0x82 vector 0xF000082C npc) (ram4 true) after_put) Ran) same last)))))
 
 pub exit_law : ExitLaw
 exit_law n g words mmu x i u asks = exits_so n g words mmu x i u asks
 
 pub get_law : GetLaw
-get_law n g words mmu x i u asks = gets_so n g words mmu x i u asks
+get_law n g words mmu x i u may asks = gets_so n g words mmu x i u may asks
 
 pub put_law : PutLaw
-put_law n g words mmu x i u asks = puts_so n g words mmu x i u asks
+put_law n g words mmu x i u may asks = puts_so n g words mmu x i u may asks
 
 -- what was loaded is loaded after a call too
 pub loaded_after : (n : ℕ) (g : Pages) (words : List ℕ) (mmu : MmuRegs) (x : World n Device) (i : ℕ) (store : Bool) → RunsUser n g words mmu x i → IsLoaded n g words (table_marked (table_marked (vector_marked i store x.memory.ram)))
-loaded_after n g words mmu x i store u = table_kept n g words (table_marked (vector_marked i store x.memory.ram)) (loaded4 n g words mmu x i u store)
+loaded_after n g words mmu x i store u = table_kept n g words (table_marked (vector_marked i store x.memory.ram)) u.few (loaded4 n g words mmu x i u store)

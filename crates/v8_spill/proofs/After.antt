@@ -5,11 +5,11 @@ use Rattle.std.proofs.lemmas.Bool.Decides.{nat_tests}
 use Rattle.std.proofs.lemmas.List.{get_or-set_same, get_or-set_other, length-set}
 use Rattle.v8_windows.specs.Windows.{IsFile, AreGlobals, below}
 use Rattle.v8_state.specs.declared.state.Cpu.{Cpu}
-use Rattle.v8_stages.proofs.Windows.{above_below, below_within, mask_within, mask_word}
-use Rattle.v8_stages.proofs.Stages.{finished}
-use Rattle.v8_stages.proofs.Entered.{caught, first_row, first_row_pcs, first_row_kept, finished_control}
+use Rattle.v8_loaded.proofs.Windows.{above_below, below_within, mask_within, mask_word}
+use Rattle.v8_loaded.proofs.Stages.{finished}
+use Rattle.v8_loaded.proofs.Entered.{caught, first_row, first_row_pcs, first_row_kept, first_row_fits, finished_control}
 use Rattle.v8_spill.specs.Laws.{Spills}
-use Rattle.v8_spill.proofs.Rows.{row_5, globals_7, row_5_long, row_5_low, row_5_fits, first_row_fits, globals_back}
+use Rattle.v8_spill.proofs.Rows.{row_5, globals_7, row_5_long, row_5_low, row_5_fits, globals_back}
 
 -- a fact about each window's words, where one window's are new
 row_by : (rows : List (List ℕ)) (w : ℕ) (row : List ℕ) (v : ℕ) (P : List ℕ → Type 0) → w < length rows → P row → P (get_or rows v []) → P (get_or (slice_set rows w row) v [])
@@ -42,6 +42,19 @@ kept_word rows w row v j there low same = by_window (v == w) refl
 abbrev pub last_row : (n : ℕ) → Cpu n → List ℕ
 last_row n cpu = row_5 n cpu.regs.globals (first_row n cpu) (2 ^ below n cpu.regs.current)
 
+-- the processor then
+abbrev pub last_cpu : (n : ℕ) → Cpu n → Cpu n
+last_cpu n cpu =
+    let w = below n cpu.regs.current in
+    finished n (caught cpu.control 5) w (record {
+      rows = cpu.regs.words;
+      globals = globals_7 n cpu.regs.globals (first_row n cpu) (2 ^ w);
+      row = last_row n cpu;
+      mask = 2 ^ below n w;
+      pc = cpu.control.pc;
+      npc = cpu.control.npc;
+    })
+
 pub last_row_low : (n : ℕ) (cpu : Cpu n) (j : ℕ) → j < 8 → slice_index (last_row n cpu) j ≡ slice_index (get_or cpu.regs.words (below n cpu.regs.current) []) j
 last_row_low n cpu j low = row_5_low n cpu.regs.globals (first_row n cpu) (2 ^ below n cpu.regs.current) j (omega arith) ∙ first_row_kept n cpu j (λ e. omega arith) (λ e. omega arith)
 
@@ -51,14 +64,12 @@ last_row_fits n cpu file a b i =
     let many = file.many in
     let w = below n cpu.regs.current in
     let within : w < n = below_within n cpu.regs.current few many file.current in
-    let old_row = get_or cpu.regs.words w [] in
     let sixteen = file.rows.each w within in
     row_5_fits n cpu.regs.globals (first_row n cpu) (2 ^ w) (first_row_pcs n cpu sixteen).2 (mask_word w (omega arith)) (file.globals.fit 1)
-    (first_row_fits old_row cpu.control.pc cpu.control.npc sixteen a b (file.rows.fit w)) i
+    (first_row_fits n cpu sixteen a b (file.rows.fit w)) i
 
 pub spills : (n : ℕ) (cpu : Cpu n) → IsFile n cpu.regs → cpu.control.pc < 2 ^ 32 → cpu.control.npc < 2 ^ 32 → cpu.control.annul ≡ false → cpu.control.error ≡ None → cpu.control.et ≡ true →
-    Spills n cpu (finished n (caught cpu.control 5) cpu.regs.words (below n cpu.regs.current) (globals_7 n cpu.regs.globals (first_row n cpu) (2 ^ below n cpu.regs.current)) (last_row n cpu)
-    (2 ^ below n (below n cpu.regs.current)) cpu.control.pc cpu.control.npc)
+    Spills n cpu (last_cpu n cpu)
 spills n cpu file pc_word npc_word straight sane enabled =
     let few = file.few in
     let many = file.many in

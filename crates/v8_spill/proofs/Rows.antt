@@ -4,8 +4,8 @@ use Rattle.std.specs.Prelude.{slice_index, slice_set, bit_or, bit_xor}
 use Rattle.std.proofs.lemmas.List.{get_or-set_same, get_or-set_other, length-set, set-set, set-get_or}
 use Rattle.v8_alu.specs.Results.{shifted_left, shifted_right}
 use Rattle.v8_windows.specs.Windows.{below}
-use Rattle.v8_stages.proofs.Windows.{right_bit}
-use Rattle.v8_stages.proofs.Stages.{fit_written}
+use Rattle.v8_loaded.proofs.Windows.{right_bit}
+use Rattle.v8_loaded.proofs.Stages.{fit_written}
 
 -- after rd %wim,%l3 and or %g0,%g1,%l4
 abbrev pub row_3 : List ℕ → List ℕ → ℕ → List ℕ
@@ -83,8 +83,3 @@ row_5_fits n globals row mask sixteen small global fit i =
     let two = fit_written (slice_set row 11 mask) 12 (slice_index globals 1) one (omega arith) global in
     let long_3 = row_3_long globals row mask sixteen in
     fit_written (row_3 globals row mask) 13 (shifted_left (slice_index (row_3 globals row mask) 11) (n - 1)) two (omega arith) (omega arith) i
-
-pub first_row_fits : (row : List ℕ) (pc npc : ℕ) → length row ≡ 16 → pc < 2 ^ 32 → npc < 2 ^ 32 → ((j : ℕ) → slice_index row j < 2 ^ 32) → (i : ℕ) → slice_index (slice_set (slice_set row 9 pc) 10 npc) i < 2 ^ 32
-first_row_fits row pc npc sixteen a b fit i =
-    let long : length (slice_set row 9 pc) ≡ 16 = length-set row 9 pc ∙ sixteen in
-    fit_written (slice_set row 9 pc) 10 npc (fit_written row 9 pc fit (omega arith) a) (omega arith) b i

@@ -5,6 +5,7 @@ mod effects;
 pub mod laws;
 mod registers;
 mod state;
+mod transfers;
 mod traps;
 
 pub use state::{Control, Cpu};

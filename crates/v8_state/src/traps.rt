@@ -1,63 +1,9 @@
 ghost use Rattle.std.specs.Prelude.{◌≡◌, ℕ, ◌+◌, ◌*◌, ◌/◌, ◌%◌, ◌^◌, ◌<◌, ◌≤◌, OnErr, OnOk, IsTrue, Some, None, false};
-ghost use Rattle.v8_meaning.specs.Operands.{bytes_in};
-ghost use Rattle.v8_state.specs.Traps.{entered, first_memory_trap, is_alternate, is_missing, is_pair, is_unknown, memory_applies};
+ghost use Rattle.v8_state.specs.Traps.{entered, first_memory_trap, memory_applies};
 
 use crate::state::Cpu;
-use v8_meaning::{MemoryOperand, Space};
+use v8_meaning::{MemoryOperand, bytes_in, is_missing, is_normal, is_unknown, splits_pair};
 use v8_word::{Size, TrapType};
-
-fn is_alternate(space: &Space) -> bool
-    ensures { result ≡ is_alternate space.now }
-{
-    match space {
-        Space::Normal => false,
-        Space::Alternate(_) => true,
-        Space::Missing => true,
-    }
-}
-
-fn is_missing(space: &Space) -> bool
-    ensures { result ≡ is_missing space.now }
-{
-    match space {
-        Space::Normal => false,
-        Space::Alternate(_) => false,
-        Space::Missing => true,
-    }
-}
-
-fn is_unknown(space: &Space) -> bool
-    ensures { result ≡ is_unknown space.now }
-{
-    match space {
-        Space::Normal => false,
-        Space::Alternate(asi) => !(8 <= *asi && *asi <= 11),
-        Space::Missing => false,
-    }
-}
-
-fn is_pair(size: Size) -> bool
-    ensures { result ≡ is_pair size }
-{
-    match size {
-        Size::Double => true,
-        Size::Byte => false,
-        Size::Half => false,
-        Size::Word => false,
-    }
-}
-
-fn bytes_in(size: Size) -> u32
-    ensures value { result ≡ bytes_in size }
-    ensures some { 0 < result }
-{
-    match size {
-        Size::Byte => 1,
-        Size::Half => 2,
-        Size::Word => 4,
-        Size::Double => 8,
-    }
-}
 
 impl<const N: usize> Cpu<N> {
     /// The trap that a load or store of this size meets before memory is reached.
@@ -65,16 +11,16 @@ impl<const N: usize> Cpu<N> {
     pub fn memory_trap(&self, size: Size, operand: &MemoryOperand) -> Option<TrapType>
         ensures { result ≡ first_memory_trap N self.now size operand.now }
     {
-        if is_alternate(&operand.space) && !self.control.s {
+        if !is_normal(operand.space) && !self.control.s {
             return Some(TrapType::PRIVILEGED_INSTRUCTION);
         }
-        if is_missing(&operand.space) || is_pair(size) && operand.rd.number() % 2 != 0 {
+        if is_missing(operand.space) || splits_pair(size, operand.rd) {
             return Some(TrapType::ILLEGAL_INSTRUCTION);
         }
         if self.address(operand.rs1, &operand.operand2) % bytes_in(size) != 0 {
             return Some(TrapType::MEM_ADDRESS_NOT_ALIGNED);
         }
-        if is_unknown(&operand.space) {
+        if is_unknown(operand.space) {
             return Some(TrapType::DATA_ACCESS_EXCEPTION);
         }
         None

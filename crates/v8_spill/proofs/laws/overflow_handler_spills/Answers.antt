@@ -1,5 +1,5 @@
-use Rattle.v8_spill.proofs.Law.{whole}
+use Rattle.v8_spill.proofs.Law.{overflow_law}
 use Rattle.v8_spill.proofs.laws.overflow_handler_spills.Goals as goal
 
 pub returns : goal.returns
-returns c = whole
+returns c = overflow_law

@@ -1,0 +1,5 @@
+pub mod Places
+pub mod Turns
+pub mod Users
+pub mod Areas
+pub mod Laws

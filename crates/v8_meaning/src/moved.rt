@@ -1,0 +1,47 @@
+// Sizes and registers of what moves between memory and registers.
+ghost use Rattle.std.specs.Prelude.{◌≡◌, ◌<◌};
+ghost use Rattle.v8_meaning.specs.Transfers.{all_ones, bytes_in, odd_of, splits_pair};
+
+use v8_word::{Reg, Size};
+
+/// How many bytes a number of this size has.
+pub fn bytes_in(size: Size) -> u32
+    ensures value { result ≡ bytes_in size }
+    ensures some { 0 < result }
+{
+    match size {
+        Size::Byte => 1,
+        Size::Half => 2,
+        Size::Word => 4,
+        Size::Double => 8,
+    }
+}
+
+/// The odd register of a register's pair.
+pub fn odd_of(rd: Reg) -> Reg
+    ensures { result ≡ odd_of rd }
+{
+    Reg::new(rd.number() / 2 * 2 + 1).unwrap()
+}
+
+/// Whether eight bytes move and the register's number is odd, as it may not be (appendix B, "Load Integer Instructions").
+pub fn splits_pair(size: Size, rd: Reg) -> bool
+    ensures { result ≡ splits_pair size rd }
+{
+    match size {
+        Size::Double => rd.number() % 2 != 0,
+        Size::Byte | Size::Half | Size::Word => false,
+    }
+}
+
+/// The greatest number of this size, which LDSTUB leaves in memory (appendix B, "Atomic Load-Store Unsigned Byte").
+pub fn all_ones(size: Size) -> u64
+    ensures { result ≡ all_ones size }
+{
+    match size {
+        Size::Byte => 0xff,
+        Size::Half => 0xffff,
+        Size::Word => 0xffff_ffff,
+        Size::Double => 0xffff_ffff_ffff_ffff,
+    }
+}

@@ -1,0 +1,111 @@
+# What the scripts of this folder know of the repository: its crates, what stands on what, and what changed since a commit.
+import os
+import re
+import subprocess
+
+TOP = os.path.dirname(os.path.dirname(os.path.abspath(__file__)))
+
+
+def crates():
+    """Returns, for each crate of crates.txt, the crates of the repository that its line lists."""
+    listed = {}
+    with open(f"{TOP}/crates.txt", encoding="utf-8") as lines:
+        for line in lines:
+            name, colon, below = line.partition("#")[0].partition(":")
+            if colon:
+                listed[name.split()[0]] = below.split()
+    return {name: [it for it in below if it in listed] for name, below in listed.items()}
+
+
+def git(*words):
+    """Returns what git prints, or stops with what it says."""
+    ran = subprocess.run(["git", "-C", TOP, *words], stdout=subprocess.PIPE, text=True)
+    if ran.returncode:
+        raise SystemExit(3)
+    return ran.stdout
+
+
+def changed_files(commit):
+    """Returns the files that differ from the commit's, those that git doesn't track yet too."""
+    tracked = git("diff", "--name-only", commit, "--")
+    return (tracked + git("ls-files", "--others", "--exclude-standard")).split("\n")[:-1]
+
+
+def changed_crates(commit):
+    """Returns the crates with a file that differs from the commit's, their further edits counted as theirs."""
+    files = changed_files(commit)
+    return [name for name in crates() if any(it.startswith((f"crates/{name}/", f"tests/edits/{name}/")) for it in files)]
+
+
+def outline(text):
+    """Returns a source without its comments and the bodies of its functions, in the layout that rt fmt makes."""
+    kept, end, is_function = [], None, False
+    for line in text.split("\n"):
+        if end is not None:
+            end = None if line == end else end
+            continue
+        if not line.strip() or line.lstrip().startswith("//"):
+            continue
+        indent = line[: len(line) - len(line.lstrip())]
+        is_function = bool(re.match(r"\s*(pub(\(\w+\))? )?(const )?(unsafe )?fn ", line)) or is_function
+        if is_function and line.endswith("{") and line.strip() != "ensures {":
+            kept.append(line.rstrip("{ "))
+            end, is_function = indent + "}", False
+            continue
+        kept.append(line)
+    return "\n".join(kept)
+
+
+def text_at(commit, path):
+    ran = subprocess.run(["git", "-C", TOP, "show", f"{commit}:{path}"], stdout=subprocess.PIPE, stderr=subprocess.DEVNULL, text=True)
+    return ran.stdout if not ran.returncode else ""
+
+
+def text_now(path):
+    try:
+        with open(f"{TOP}/{path}", encoding="utf-8") as it:
+            return it.read()
+    except FileNotFoundError:
+        return ""
+
+
+def changes_contracts(commit, name, files):
+    """Returns whether what crates above see of this one may differ from the commit's: a definition, a lemma that they can cite, or
+    its code beside the bodies of its functions. Where in doubt it says so."""
+    for path in files:
+        inside = path.removeprefix(f"crates/{name}/")
+        if inside == path:
+            continue
+        if inside.startswith("specs/") or re.fullmatch(r"proofs/[^/]*\.antt", inside):
+            return True
+        if inside.startswith("src/") and outline(text_at(commit, path)) != outline(text_now(path)):
+            return True
+    return False
+
+
+def to_check(commit):
+    """Returns the crates that changed since the commit, and those above one whose contracts changed, lowest first."""
+    files, changed, below = changed_files(commit), changed_crates(commit), crates()
+    moved = {name for name in changed if changes_contracts(commit, name, files)}
+    found = []
+    for name in lowest_first(below):
+        if any(it in moved for it in below[name]):
+            moved.add(name)
+        if name in moved or name in changed:
+            found.append(name)
+    return found
+
+
+def lowest_first(below):
+    """Returns the crates, each after those that it stands on."""
+    order = []
+
+    def visit(name):
+        if name not in order:
+            for it in below[name]:
+                visit(it)
+            order.append(name)
+
+    for name in below:
+        visit(name)
+    return order
