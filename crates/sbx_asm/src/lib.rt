@@ -17,6 +17,3 @@ mod table;
 
 pub use assembling::assemble;
 pub use fault::{AsmFault, Cause};
-
-#[cfg(test)]
-mod tests;

@@ -8,7 +8,7 @@ use sbx_image::{Block, Cell, Function, Kind, Range, Term};
 use std::alloc::Global;
 
 /// What a function's line says, and the address of its first word.
-#[derive(Clone, Copy, Debug, PartialEq, Eq)]
+#[derive(Clone, Copy)]
 pub struct Head {
     pub kind: Kind,
     pub frame: u32,

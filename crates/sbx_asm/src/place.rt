@@ -8,14 +8,14 @@ use sbx_text::Token;
 use v8_syntax::length_of;
 
 /// What an ordinary line adds to.
-#[derive(Clone, Copy, Debug, PartialEq, Eq)]
+#[derive(Clone, Copy)]
 pub enum Section {
     Code,
     Data,
 }
 
 /// The current section, and the addresses of what comes next in the code and in the data.
-#[derive(Clone, Copy, Debug, PartialEq, Eq)]
+#[derive(Clone, Copy)]
 pub struct Place {
     pub section: Section,
     pub next_word: u32,

@@ -15,7 +15,7 @@ use Rattle.sbx_run.specs.declared.runner.Finished.{Finished}
 use Rattle.sbx_run.specs.Answer.{IsAnswer}
 use Rattle.v8_board.specs.declared.outcome.Outcome.{Outcome}
 use Rattle.sbx_raw.specs.Traces.{IsTrace, Wrote}
-use Rattle.sbx_command.specs.Verdicts.{Ran, Traced, status_of_word, Deserves, IsAccepted, IsImage, IsTold}
+use Rattle.sbx_command.specs.Verdicts.{Answered, Ran, Traced, status_of_word, Deserves, IsAccepted, IsImage, IsTold}
 
 pub faulty_is_no_image : (bytes : List ℕ) (fault : ImageFault) → reading bytes ≡ Err fault → IsImage bytes → ⊥
 faulty_is_no_image bytes fault faulty image =
@@ -68,14 +68,21 @@ appends_kept (Some x) (Some y) None bs p q = absurd q
 appends_kept (Some x) (Some y) (Some z) bs p q = q ∙ p
 
 -- a run of the known bytes of a file on the known bytes of an input
-pub ran_on : (file input old new : Option (List ℕ)) (parts : Parts) (taken : List ℕ) (finished : Finished) (status : ℕ)
+pub answered_on : (file input : Option (List ℕ)) (parts : Parts) (taken : List ℕ) (finished : Finished)
     → IfSome file (λ bytes. (reading bytes ≡ Ok parts) × Checked parts) → IfSome input (λ all. taken ≡ all)
-    → IsAnswer parts 8 taken finished → Appends old new finished.output.items → status ≡ status_of_word finished.status
-    → Ran file input old new status
-ran_on None input old new parts taken finished status read same answer grown told = tt
-ran_on (Some bytes) None old new parts taken finished status read same answer grown told = tt
-ran_on (Some bytes) (Some all) old new parts taken finished status read same answer grown told =
-    (parts, finished, read.0, subst (λ (input : List ℕ). IsAnswer parts 8 input finished) same answer, grown, told)
+    → IsAnswer parts 8 taken finished → Answered file input finished
+answered_on None input parts taken finished read same answer = tt
+answered_on (Some bytes) None parts taken finished read same answer = tt
+answered_on (Some bytes) (Some all) parts taken finished read same answer =
+    (parts, read.0, subst (λ (input : List ℕ). IsAnswer parts 8 input finished) same answer)
+
+-- and what is put out of it
+pub ran_on : (file input old new : Option (List ℕ)) (finished : Finished) (status : ℕ) → Answered file input finished
+    → Appends old new finished.output.items → status ≡ status_of_word finished.status → Ran file input old new status
+ran_on None input old new finished status answered grown told = tt
+ran_on (Some bytes) None old new finished status answered grown told = tt
+ran_on (Some bytes) (Some all) old new finished status answered grown told =
+    (answered.0, finished, answered.1, answered.2, grown, told)
 
 -- a trace of the known bytes of a file on the known bytes of an input
 pub traced_on : (limit : ℕ) (file input old new : Option (List ℕ)) (parts : Parts) (taken : List ℕ) (outcome : Outcome)

@@ -47,6 +47,11 @@ IsTold (Trace image limit) stop bytes = IsTrueOfImage stop bytes
 abbrev pub status_of_word : ℕ → ℕ
 status_of_word word = if word == 0 then 0 else 1
 
+-- what the image of the bytes gives on the input, on 8 windows, where the bytes of the file and of the input are known
+abbrev pub Answered : Option (List ℕ) → Option (List ℕ) → Finished → Type 0
+Answered file input finished = IfSome file (λ bytes. IfSome input (λ all.
+    (parts : Parts) × (reading bytes ≡ Ok parts) × IsAnswer parts 8 all finished))
+
 -- The output grew by what the image of the bytes puts out on the input, on 8 windows, and the status is that of its exit word.
 abbrev pub RanOn : List ℕ → List ℕ → Option (List ℕ) → Option (List ℕ) → ℕ → Type 0
 RanOn bytes input old new status =

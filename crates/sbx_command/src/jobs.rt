@@ -1,5 +1,5 @@
 //! What a command line may ask for.
-ghost use Rattle.std.specs.Prelude.{◌≤◌};
+ghost use Rattle.std.specs.Prelude.{◌≡◌, ◌≤◌, IfSome, None, Some};
 ghost use Rattle.std.specs.Option.{SomeIff};
 ghost use Rattle.std.specs.Str.Parse.{IsNumeral, digits_value};
 
@@ -32,5 +32,21 @@ pub fn decimal(text: &str, most: u64) -> Option<u64>
     match u64::from_str_radix(text, 10) {
         Ok(number) if number <= most => Some(number),
         _ => None,
+    }
+}
+
+/// The limit of turns of a trace where no other is given.
+const TURNS: u64 = 100_000;
+
+/// The limit of turns that a text gives: decimal digits alone, up to the most. Without a text it is 100,000.
+pub fn turns(text: Option<&str>) -> Option<u64>
+    ensures given { IfSome text.entry (λ text. SomeIff result (IsNumeral 10 text.now × (digits_value 10 text.now ≤ 9999999999))
+        (digits_value 10 text.now)) }
+    ensures left_out { text.entry ≡ None → result ≡ Some 100000 }
+    ensures range { IfSome result (λ limit. limit ≤ 9999999999) }
+{
+    match text {
+        Some(text) => decimal(text, MOST_TURNS),
+        None => Some(TURNS),
     }
 }

@@ -13,9 +13,6 @@ mod tracing;
 mod verifying;
 
 pub use commands::command;
-pub use jobs::{Job, MOST_TURNS, decimal};
+pub use jobs::{Job, MOST_TURNS, decimal, turns};
 pub use reading::{ReadFault, read_whole};
 pub use stops::Stop;
-
-#[cfg(test)]
-mod tests;

@@ -1,12 +1,12 @@
 //! The command `run`.
-ghost use Rattle.std.specs.Prelude.{◌≡◌, ◌≢◌, ◌<◌, IfErr, IfOk, IfSome};
+ghost use Rattle.std.specs.Prelude.{◌≡◌, ◌≢◌, ◌<◌, IfErr, IfOk, IfSome, OnOk};
 ghost use Rattle.sbx_command.specs.Stops.{IsTrueOf, status_of};
-ghost use Rattle.sbx_command.specs.Verdicts.{IsAccepted, Ran, status_of_word};
+ghost use Rattle.sbx_command.specs.Verdicts.{Answered, IsAccepted, Ran, status_of_word};
 
 use crate::reading::{MOST, ReadFault, read_whole};
 use crate::stops::Stop;
 use crate::verifying::{accepted_in, write_through};
-use sbx_run::run_accepted;
+use sbx_run::{Finished, run_accepted};
 use std::alloc::Global;
 use std::io::{Read, Write};
 
@@ -29,6 +29,19 @@ fn status_of_word(word: u32) -> u8
     if word == 0 { 0 } else { 1 }
 }
 
+/// Verifies the image of a file and runs it on the input, on 8 windows.
+#[tactic(auto, using(crate::proofs::Verdicts::answered_on))]
+fn answer_of<F: Read, I: Read>(alloc: Global, file: &mut F, input: &mut I) -> Result<Finished, Stop>
+    ensures accepted { OnOk result (IfSome (F.remaining file.old) IsAccepted) }
+    ensures answer { IfOk result (Answered (F.remaining file.old) (I.remaining input.old)) }
+    ensures stop { IfErr result (λ stop. IfSome (F.remaining file.old) (IsTrueOf stop)) }
+    ensures untouched { IfErr result (λ stop. status_of stop ≡ 2 → input.new ≡ input.old) }
+{
+    let accepted = accepted_in(alloc, file)?;
+    let bytes = input_of(alloc, input)?;
+    Ok(run_accepted::<8>(alloc, &accepted, bytes.as_slice())?)
+}
+
 /// Verifies the image of a file and runs it on the input, on 8 windows. The status is 0, or 1 where the exit word is
 /// another.
 #[tactic(auto, using(crate::proofs::Verdicts::ran_on))]
@@ -46,9 +59,7 @@ pub fn run_file<F: Read, I: Read, O: Write>(
     ensures untouched { IfErr result (λ stop. status_of stop ≡ 2
         → (input.new ≡ input.old) × (out.new ≡ out.old)) }
 {
-    let accepted = accepted_in(alloc, file)?;
-    let bytes = input_of(alloc, input)?;
-    let finished = run_accepted::<8>(alloc, &accepted, bytes.as_slice())?;
+    let finished = answer_of(alloc, file, input)?;
     write_through(out, finished.output.as_slice())?;
     Ok(status_of_word(finished.status))
 }

@@ -2,14 +2,14 @@
 use sbx_image::{Cell, Kind, Range, Services, Term};
 
 /// A name in a line: the bytes from `start` up to `stop`.
-#[derive(Clone, Copy, PartialEq, Eq, Debug)]
+#[derive(Clone, Copy)]
 pub struct Name {
     pub start: usize,
     pub stop: usize,
 }
 
 /// How many bytes each value of a data directive takes: 1, 2 or 4.
-#[derive(Clone, Copy, PartialEq, Eq, Debug)]
+#[derive(Clone, Copy)]
 pub enum Width {
     Byte,
     Half,
@@ -17,7 +17,7 @@ pub enum Width {
 }
 
 /// The name that a directive or an annotation begins with: its own in lower case behind a dot.
-#[derive(Clone, Copy, PartialEq, Eq, Debug)]
+#[derive(Clone, Copy)]
 pub enum Keyword {
     Text,
     Data,
@@ -38,7 +38,7 @@ pub enum Keyword {
 }
 
 /// A directive or an annotation, its numbers within their bounds.
-#[derive(Clone, Copy, PartialEq, Eq, Debug)]
+#[derive(Clone, Copy)]
 pub enum Directive {
     /// What follows goes to the code.
     Text,
@@ -78,7 +78,7 @@ pub enum Directive {
 }
 
 /// What stands behind the labels of a line.
-#[derive(Clone, Copy, PartialEq, Eq, Debug)]
+#[derive(Clone, Copy)]
 pub enum Statement {
     /// No token.
     Nothing,

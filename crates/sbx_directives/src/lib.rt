@@ -8,8 +8,6 @@ mod label;
 mod number;
 mod operand;
 mod statement;
-#[cfg(test)]
-mod tests;
 mod values;
 mod word;
 

@@ -1,5 +1,5 @@
 -- What keeps the rules is read from its spelling: a law for each part of an image.
-use Rattle.std.proofs.Common.{◌≡◌, ℕ, suc, ◌+◌, ◌-◌, ◌*◌, ◌^◌, ◌<◌, List, [], ◌∷◌, ◌++◌, length, Result, Ok, refl, sym, ap, ◌∙◌, append_assoc, lit<, arith}
+use Rattle.std.proofs.Common.{◌≡◌, ℕ, suc, ◌+◌, ◌-◌, ◌*◌, ◌^◌, ◌<◌, List, [], ◌∷◌, ◌++◌, length, Result, Ok, refl, sym, ap, ◌∙◌, append_assoc, lit<, arith, true}
 use Rattle.std.specs.Int.{w8, w16, w32, w64, to_be_bytes}
 use Rattle.std.specs.List.{flat_map, AllByRecursion}
 use Rattle.std.proofs.lemmas.Bool.{leb-true}
@@ -10,6 +10,8 @@ use Rattle.sbx_image.specs.declared.fault.ImageFault.TheVariants as fault
 use Rattle.sbx_image.specs.declared.order.Next.{Next}
 use Rattle.sbx_image.specs.declared.order.Next.TheVariants.{Exactly}
 use Rattle.sbx_image.specs.declared.heads.Header.{Header}
+use Rattle.sbx_image.specs.declared.heads.Counts.{Counts}
+use Rattle.sbx_image.specs.declared.heads.Bounds.{Bounds}
 use Rattle.sbx_image.specs.declared.heads.FunctionHead.{FunctionHead}
 use Rattle.sbx_image.specs.declared.parts.Kind.{Kind}
 use Rattle.sbx_image.specs.declared.parts.Kind.TheVariants.{Leaf, Framed}
@@ -19,8 +21,9 @@ use Rattle.sbx_image.specs.declared.parts.Term.{Term}
 use Rattle.sbx_image.specs.declared.parts.Block.{Block}
 use Rattle.sbx_image.specs.declared.parts.Function.{Function}
 use Rattle.sbx_image.specs.declared.parts.Parts.{Parts}
-use Rattle.sbx_image.specs.Rules.{◌>>=◌, each, Place, code_start, range_keeps, location_keeps, cell_keeps, term_keeps, block_keeps, function_keeps, parts_keep}
-use Rattle.sbx_image.specs.Reading.{number_at, items_at, range_at, location_at, cell_at, term_at, block_head_at, block_at, kind_at, function_head_at, function_at, header_at, parts_at, reading}
+use Rattle.sbx_image.specs.declared.services.Services.{Services}
+use Rattle.sbx_image.specs.Rules.{◌>>=◌, between, is_known, is_data_length, each, Place, code_start, range_keeps, location_keeps, cell_keeps, term_keeps, block_keeps, function_keeps, parts_keep}
+use Rattle.sbx_image.specs.Reading.{number_at, items_at, range_at, location_at, cell_at, term_at, block_head_at, block_at, kind_at, counts_at, bounds_at, function_head_at, function_at, services_at, data_length_at, header_at, parts_at, reading}
 use Rattle.sbx_image.specs.Spelling.{IsTyped, IsTypedRange, IsTypedCell, IsTypedTerm, IsTypedBlock, IsTypedFunction, signed, kind_code, range_text, cell_text, term_text, block_text, function_head_text, function_text, header_text, spelling}
 use Rattle.sbx_image.proofs.Fields.{bind_ok, both_true, ok_is, wants_true, number_reads, number_in_reads, signed_reads, bytes_again, wide8, wide16, wide32, wide64, signed32, signed64}
 use Rattle.sbx_image.proofs.TakesLaws.{head_text, HeadKeeps, counts_text, HeaderKeeps}
@@ -117,27 +120,41 @@ unfolding kind_at
 kind_reads Leaf bytes rest b = then_is _ _ _ _ (number_in_reads w8 (2 ^ 8) wide8 0 1 fault.Limit 0 bytes rest b (lit< tt) refl) refl
 kind_reads Framed bytes rest b = then_is _ _ _ _ (number_in_reads w8 (2 ^ 8) wide8 0 1 fault.Limit 1 bytes rest b (lit< tt) refl) refl
 
+counts_read : (c : Counts) (bytes rest : List ℕ) → bytes ≡ to_be_bytes w8 (kind_code c.kind) ++ (to_be_bytes w8 c.params ++ (to_be_bytes w8 c.results ++ (to_be_bytes w8 0 ++ rest)))
+    → between 0 6 c.params ≡ true → between 0 6 c.results ≡ true → counts_at bytes ≡ Ok (c, rest)
+unfolding counts_at
+counts_read c bytes rest b params results =
+    let r3 = to_be_bytes w8 0 ++ rest in
+    let r2 = to_be_bytes w8 c.results ++ r3 in
+    let r1 = to_be_bytes w8 c.params ++ r2 in
+    then_is _ _ _ _ (kind_reads c.kind bytes r1 b)
+    (then_is _ _ _ _ (number_in_reads w8 (2 ^ 8) wide8 0 6 fault.Limit c.params r1 r2 refl (lit< tt) params)
+    (then_is _ _ _ _ (number_in_reads w8 (2 ^ 8) wide8 0 6 fault.Limit c.results r2 r3 refl (lit< tt) results)
+    (then_is _ _ _ _ (number_in_reads w8 (2 ^ 8) wide8 0 0 fault.Limit 0 r3 rest refl (lit< tt) refl) refl)))
+
+bounds_read : (h : Bounds) (rest : List ℕ) → between 0 4096 h.frame ≡ true → between 0 65536 h.stack_room ≡ true → between 0 1099511627775 h.budget ≡ true
+    → bounds_at (to_be_bytes w32 h.frame ++ (to_be_bytes w32 h.stack_room ++ (to_be_bytes w64 h.budget ++ rest))) ≡ Ok (h, rest)
+unfolding bounds_at
+bounds_read h rest frame stack_room budget =
+    let r2 = to_be_bytes w64 h.budget ++ rest in
+    let r1 = to_be_bytes w32 h.stack_room ++ r2 in
+    then_is _ _ _ _ (number_in_reads w32 (2 ^ 32) wide32 0 4096 fault.Limit h.frame (to_be_bytes w32 h.frame ++ r1) r1 refl (lit< tt) frame)
+    (then_is _ _ _ _ (number_in_reads w32 (2 ^ 32) wide32 0 65536 fault.Limit h.stack_room r1 r2 refl (lit< tt) stack_room)
+    (then_is _ _ _ _ (number_in_reads w64 (2 ^ 64) wide64 0 1099511627775 fault.Limit h.budget r2 rest refl (lit< tt) budget) refl))
+
 function_head_reads : (end : ℕ) (place : Place) (h : FunctionHead) (bytes rest : List ℕ) → bytes ≡ head_text h ++ rest → h.entry < 2 ^ 32 → HeadKeeps end place h → function_head_at end place bytes ≡ Ok (h, rest)
 unfolding function_head_at
 function_head_reads end place h bytes rest b entry k =
-    let r8 = to_be_bytes w16 h.blocks ++ rest in
-    let r7 = to_be_bytes w64 h.budget ++ r8 in
-    let r6 = to_be_bytes w32 h.stack_room ++ r7 in
-    let r5 = to_be_bytes w32 h.frame ++ r6 in
-    let r4 = to_be_bytes w32 h.entry ++ r5 in
-    let r3 = to_be_bytes w8 0 ++ r4 in
-    let r2 = to_be_bytes w8 h.results ++ r3 in
-    let r1 = to_be_bytes w8 h.params ++ r2 in
-    then_is _ _ _ _ (kind_reads h.kind bytes r1 b)
-    (then_is _ _ _ _ (number_in_reads w8 (2 ^ 8) wide8 0 6 fault.Limit h.params r1 r2 refl (lit< tt) k.params)
-    (then_is _ _ _ _ (number_in_reads w8 (2 ^ 8) wide8 0 6 fault.Limit h.results r2 r3 refl (lit< tt) k.results)
-    (then_is _ _ _ _ (number_in_reads w8 (2 ^ 8) wide8 0 0 fault.Limit 0 r3 r4 refl (lit< tt) refl)
-    (then_is _ _ _ _ (number_reads w32 (2 ^ 32) wide32 h.entry r4 r5 refl entry)
+    let counts : Counts = record { kind = h.kind; params = h.params; results = h.results } in
+    let bounds : Bounds = record { frame = h.frame; stack_room = h.stack_room; budget = h.budget } in
+    let r3 = to_be_bytes w16 h.blocks ++ rest in
+    let r2 = to_be_bytes w32 h.frame ++ (to_be_bytes w32 h.stack_room ++ (to_be_bytes w64 h.budget ++ r3)) in
+    let r1 = to_be_bytes w32 h.entry ++ r2 in
+    then_is _ _ _ _ (counts_read counts bytes r1 b k.params k.results)
+    (then_is _ _ _ _ (number_reads w32 (2 ^ 32) wide32 h.entry r1 r2 refl entry)
     (then_is _ _ _ _ (wants_true _ fault.Order k.entry)
-    (then_is _ _ _ _ (number_in_reads w32 (2 ^ 32) wide32 0 4096 fault.Limit h.frame r5 r6 refl (lit< tt) k.frame)
-    (then_is _ _ _ _ (number_in_reads w32 (2 ^ 32) wide32 0 65536 fault.Limit h.stack_room r6 r7 refl (lit< tt) k.stack_room)
-    (then_is _ _ _ _ (number_in_reads w64 (2 ^ 64) wide64 0 1099511627775 fault.Limit h.budget r7 r8 refl (lit< tt) k.budget)
-    (then_is _ _ _ _ (number_in_reads w16 (2 ^ 16) wide16 1 (4096 - place.1) fault.Limit h.blocks r8 rest refl (omega arith) k.blocks) refl)))))))))
+    (then_is _ _ _ _ (bounds_read bounds r3 k.frame k.stack_room k.budget)
+    (then_is _ _ _ _ (number_in_reads w16 (2 ^ 16) wide16 1 (4096 - place.1) fault.Limit h.blocks r3 rest refl (omega arith) k.blocks) refl))))
 
 function_reads : (end : ℕ) (place : Place) (f : Function) (state : Place) (rest : List ℕ) → IsTypedFunction f → function_keeps end place f ≡ Ok state → function_at end (place, function_text f ++ rest) ≡ Ok (f, (state, rest))
 unfolding function_at function_head_text function_text
@@ -158,25 +175,36 @@ function_reads end place f state rest typed e =
 
 -- ---- the whole
 
+services_read : (s : Services) (bytes rest : List ℕ) → bytes ≡ to_be_bytes w32 0x53425838 ++ (to_be_bytes w16 1 ++ (to_be_bytes w16 s.0 ++ rest)) → s.0 < 2 ^ 16
+    → is_known s.0 ≡ true → services_at bytes ≡ Ok (s, rest)
+unfolding services_at
+services_read s bytes rest b short known =
+    let r2 = to_be_bytes w16 s.0 ++ rest in
+    let r1 = to_be_bytes w16 1 ++ r2 in
+    then_is _ _ _ _ (number_in_reads w32 (2 ^ 32) wide32 0x53425838 0x53425838 fault.Magic 0x53425838 bytes r1 b (lit< tt) refl)
+    (then_is _ _ _ _ (number_in_reads w16 (2 ^ 16) wide16 1 1 fault.Version 1 r1 r2 refl (lit< tt) refl)
+    (then_is _ _ _ _ (number_reads w16 (2 ^ 16) wide16 s.0 r2 rest refl short)
+    (then_is _ _ _ _ (wants_true _ fault.Service known) refl)))
+
+data_length_reads : (n : ℕ) (rest : List ℕ) → is_data_length n ≡ true → data_length_at (to_be_bytes w32 n ++ rest) ≡ Ok (n, rest)
+unfolding data_length_at
+data_length_reads n rest whole =
+    let few : n < 2 ^ 32 = omega (arith, leb-true n 262144 (both_true _ _ whole).0) in
+    then_is _ _ _ _ (number_reads w32 (2 ^ 32) wide32 n (to_be_bytes w32 n ++ rest) rest refl few)
+    (then_is _ _ _ _ (wants_true _ fault.Limit whole) refl)
+
 header_reads : (h : Header) (bytes rest : List ℕ) → bytes ≡ counts_text h ++ rest → HeaderKeeps h → h.services.0 < 2 ^ 16 → header_at bytes ≡ Ok (h, rest)
 unfolding header_at
 header_reads h bytes rest b k services =
-    let r6 = to_be_bytes w16 h.functions ++ rest in
-    let r5 = to_be_bytes w16 h.stack_pages ++ r6 in
-    let r4 = to_be_bytes w32 h.bytes ++ r5 in
-    let r3 = to_be_bytes w32 h.words ++ r4 in
-    let r2 = to_be_bytes w16 h.services.0 ++ r3 in
-    let r1 = to_be_bytes w16 1 ++ r2 in
-    let few : h.bytes < 2 ^ 32 = omega (arith, leb-true h.bytes 262144 (both_true _ _ k.bytes).0) in
-    then_is _ _ _ _ (number_in_reads w32 (2 ^ 32) wide32 0x53425838 0x53425838 fault.Magic 0x53425838 bytes r1 b (lit< tt) refl)
-    (then_is _ _ _ _ (number_in_reads w16 (2 ^ 16) wide16 1 1 fault.Version 1 r1 r2 refl (lit< tt) refl)
-    (then_is _ _ _ _ (number_reads w16 (2 ^ 16) wide16 h.services.0 r2 r3 refl services)
-    (then_is _ _ _ _ (wants_true _ fault.Service k.services)
-    (then_is _ _ _ _ (number_in_reads w32 (2 ^ 32) wide32 1 65536 fault.Limit h.words r3 r4 refl (lit< tt) k.words)
-    (then_is _ _ _ _ (number_reads w32 (2 ^ 32) wide32 h.bytes r4 r5 refl few)
-    (then_is _ _ _ _ (wants_true _ fault.Limit k.bytes)
-    (then_is _ _ _ _ (number_in_reads w16 (2 ^ 16) wide16 1 16 fault.Limit h.stack_pages r5 r6 refl (lit< tt) k.stack_pages)
-    (then_is _ _ _ _ (number_in_reads w16 (2 ^ 16) wide16 1 256 fault.Limit h.functions r6 rest refl (lit< tt) k.functions) refl))))))))
+    let r4 = to_be_bytes w16 h.functions ++ rest in
+    let r3 = to_be_bytes w16 h.stack_pages ++ r4 in
+    let r2 = to_be_bytes w32 h.bytes ++ r3 in
+    let r1 = to_be_bytes w32 h.words ++ r2 in
+    then_is _ _ _ _ (services_read h.services bytes r1 b services k.services)
+    (then_is _ _ _ _ (number_in_reads w32 (2 ^ 32) wide32 1 65536 fault.Limit h.words r1 r2 refl (lit< tt) k.words)
+    (then_is _ _ _ _ (data_length_reads h.bytes r3 k.bytes)
+    (then_is _ _ _ _ (number_in_reads w16 (2 ^ 16) wide16 1 16 fault.Limit h.stack_pages r3 r4 refl (lit< tt) k.stack_pages)
+    (then_is _ _ _ _ (number_in_reads w16 (2 ^ 16) wide16 1 256 fault.Limit h.functions r4 rest refl (lit< tt) k.functions) refl))))
 
 word_reads : (w : ℕ) (rest : List ℕ) → w < 2 ^ 32 → number_at w32 (to_be_bytes w32 w ++ rest) ≡ Ok (w, rest)
 word_reads w rest lt = number_reads w32 (2 ^ 32) wide32 w (to_be_bytes w32 w ++ rest) rest refl lt

@@ -10,6 +10,8 @@ use Rattle.sbx_image.specs.declared.fault.ImageFault.TheVariants as fault
 use Rattle.sbx_image.specs.declared.order.Next.{Next}
 use Rattle.sbx_image.specs.declared.order.Next.TheVariants.{Exactly, Above}
 use Rattle.sbx_image.specs.declared.heads.Header.{Header}
+use Rattle.sbx_image.specs.declared.heads.Counts.{Counts}
+use Rattle.sbx_image.specs.declared.heads.Bounds.{Bounds}
 use Rattle.sbx_image.specs.declared.heads.FunctionHead.{FunctionHead}
 use Rattle.sbx_image.specs.declared.heads.BlockHead.{BlockHead}
 use Rattle.sbx_image.specs.declared.parts.Kind.{Kind}
@@ -20,8 +22,9 @@ use Rattle.sbx_image.specs.declared.parts.Term.{Term}
 use Rattle.sbx_image.specs.declared.parts.Block.{Block}
 use Rattle.sbx_image.specs.declared.parts.Function.{Function}
 use Rattle.sbx_image.specs.declared.parts.Parts.{Parts}
+use Rattle.sbx_image.specs.declared.services.Services.{Services}
 use Rattle.sbx_image.specs.Rules.{between, each, Place, code_start, admits, is_fuel, is_coefficient, is_known, is_data_length, in_order, range_keeps, location_keeps, cell_keeps, term_keeps, block_keeps, function_keeps, parts_keep}
-use Rattle.sbx_image.specs.Reading.{number_at, items_at, range_at, location_at, cell_at, term_at, block_head_at, block_at, kind_at, function_head_at, function_at, header_at, parts_at, reading}
+use Rattle.sbx_image.specs.Reading.{number_at, items_at, range_at, location_at, cell_at, term_at, block_head_at, block_at, kind_at, counts_at, bounds_at, function_head_at, function_at, services_at, data_length_at, header_at, parts_at, reading}
 use Rattle.sbx_image.specs.Spelling.{IsBytes, signed, kind_code, range_text, cell_text, term_text, block_text, function_head_text, function_text, header_text, spelling}
 use Rattle.sbx_image.proofs.Fields.{bind_ok, wanted, is_between, ok_is, Takes, Takes-then, wide8, wide16, wide32, wide64, signed32, signed64, number_takes, number_in_takes, signed_takes, bytes_take}
 
@@ -166,36 +169,64 @@ kind_takes bytes x fits e =
     let code : kind_code (cond (eqb kind.0.0 0) Leaf Framed) ≡ kind.0.0 = code_again kind.0.0 t.1 in
     subst (λ (y : Kind × List ℕ). Takes bytes (to_be_bytes w8 (kind_code y.0)) y.1) (ok_is (cond (eqb kind.0.0 0) Leaf Framed, kind.0.1) x kind.2) (rw code t.0)
 
-function_head_takes : (end : ℕ) (place : Place) (bytes : List ℕ) (x : FunctionHead × List ℕ) → IsBytes bytes → function_head_at end place bytes ≡ Ok x
-    → Takes bytes (head_text x.0) x.1 × HeadKeeps end place x.0
-unfolding function_head_at
-function_head_takes end place bytes x fits e =
+-- what the counts of a function spell
+abbrev counted_text : Counts → List ℕ
+counted_text c = to_be_bytes w8 (kind_code c.kind) ++ to_be_bytes w8 c.params ++ to_be_bytes w8 c.results ++ to_be_bytes w8 0
+
+counts_takes : (bytes : List ℕ) (x : Counts × List ℕ) → IsBytes bytes → counts_at bytes ≡ Ok x
+    → Takes bytes (counted_text x.0) x.1 × (between 0 6 x.0.params ≡ true) × (between 0 6 x.0.results ≡ true)
+unfolding counts_at
+counts_takes bytes x fits e =
     let kind = bind_ok _ _ _ e in
     let params = bind_ok _ _ _ kind.2 in
     let results = bind_ok _ _ _ params.2 in
     let unused = bind_ok _ _ _ results.2 in
-    let entry = bind_ok _ _ _ unused.2 in
-    let admitted = wanted (admits end place.0 entry.0.0) fault.Order _ _ entry.2 in
-    let frame = bind_ok _ _ _ admitted.1 in
-    let stack_room = bind_ok _ _ _ frame.2 in
-    let budget = bind_ok _ _ _ stack_room.2 in
-    let blocks = bind_ok _ _ _ budget.2 in
     let t0 = kind_takes bytes kind.0 fits kind.1 in
     let t1 = number_in_takes w8 (2 ^ 8) wide8 0 6 fault.Limit kind.0.1 params.0 t0.rest_fits params.1 in
     let t2 = number_in_takes w8 (2 ^ 8) wide8 0 6 fault.Limit params.0.1 results.0 t1.0.rest_fits results.1 in
     let t3 = number_in_takes w8 (2 ^ 8) wide8 0 0 fault.Limit results.0.1 unused.0 t2.0.rest_fits unused.1 in
-    let t4 = number_takes w32 (2 ^ 32) wide32 unused.0.1 entry.0 t3.0.rest_fits entry.1 in
-    let t5 = number_in_takes w32 (2 ^ 32) wide32 0 4096 fault.Limit entry.0.1 frame.0 t4.0.rest_fits frame.1 in
-    let t6 = number_in_takes w32 (2 ^ 32) wide32 0 65536 fault.Limit frame.0.1 stack_room.0 t5.0.rest_fits stack_room.1 in
-    let t7 = number_in_takes w64 (2 ^ 64) wide64 0 1099511627775 fault.Limit stack_room.0.1 budget.0 t6.0.rest_fits budget.1 in
-    let t8 = number_in_takes w16 (2 ^ 16) wide16 1 (4096 - place.1) fault.Limit budget.0.1 blocks.0 t7.0.rest_fits blocks.1 in
     let blank : unused.0.0 ≡ 0 = only_zero unused.0.0 t3.1 in
     let none : Takes results.0.1 (to_be_bytes w8 0) unused.0.1 = subst (λ (n : ℕ). Takes results.0.1 (to_be_bytes w8 n) unused.0.1) blank t3.0 in
-    let a = Takes-then _ _ _ _ _ (Takes-then _ _ _ _ _ (Takes-then _ _ _ _ _ t0 t1.0) t2.0) none in
-    let b = Takes-then _ _ _ _ _ (Takes-then _ _ _ _ _ (Takes-then _ _ _ _ _ (Takes-then _ _ _ _ _ (Takes-then _ _ _ _ _ a t4.0) t5.0) t6.0) t7.0) t8.0 in
-    let made : FunctionHead × List ℕ = (record { kind = kind.0.0; params = params.0.0; results = results.0.0; entry = entry.0.0; frame = frame.0.0; stack_room = stack_room.0.0; budget = budget.0.0; blocks = blocks.0.0 }, blocks.0.1) in
+    let whole = Takes-then _ _ _ _ _ (Takes-then _ _ _ _ _ (Takes-then _ _ _ _ _ t0 t1.0) t2.0) none in
+    let made : Counts × List ℕ = (record { kind = kind.0.0; params = params.0.0; results = results.0.0 }, unused.0.1) in
+    subst (λ (y : Counts × List ℕ). Takes bytes (counted_text y.0) y.1 × (between 0 6 y.0.params ≡ true) × (between 0 6 y.0.results ≡ true)) (ok_is made x unused.2)
+    (whole, t1.1, t2.1)
+
+-- what its bounds spell, behind what was taken before them
+bounds_take : (bytes before left : List ℕ) (x : Bounds × List ℕ) → Takes bytes before left → bounds_at left ≡ Ok x
+    → Takes bytes (before ++ to_be_bytes w32 x.0.frame ++ to_be_bytes w32 x.0.stack_room ++ to_be_bytes w64 x.0.budget) x.1
+    × (between 0 4096 x.0.frame ≡ true) × (between 0 65536 x.0.stack_room ≡ true) × (between 0 1099511627775 x.0.budget ≡ true)
+unfolding bounds_at
+bounds_take bytes before left x t e =
+    let frame = bind_ok _ _ _ e in
+    let stack_room = bind_ok _ _ _ frame.2 in
+    let budget = bind_ok _ _ _ stack_room.2 in
+    let t0 = number_in_takes w32 (2 ^ 32) wide32 0 4096 fault.Limit left frame.0 t.rest_fits frame.1 in
+    let t1 = number_in_takes w32 (2 ^ 32) wide32 0 65536 fault.Limit frame.0.1 stack_room.0 t0.0.rest_fits stack_room.1 in
+    let t2 = number_in_takes w64 (2 ^ 64) wide64 0 1099511627775 fault.Limit stack_room.0.1 budget.0 t1.0.rest_fits budget.1 in
+    let whole = Takes-then _ _ _ _ _ (Takes-then _ _ _ _ _ (Takes-then _ _ _ _ _ t t0.0) t1.0) t2.0 in
+    let made : Bounds × List ℕ = (record { frame = frame.0.0; stack_room = stack_room.0.0; budget = budget.0.0 }, budget.0.1) in
+    subst (λ (y : Bounds × List ℕ). Takes bytes (before ++ to_be_bytes w32 y.0.frame ++ to_be_bytes w32 y.0.stack_room ++ to_be_bytes w64 y.0.budget) y.1
+    × (between 0 4096 y.0.frame ≡ true) × (between 0 65536 y.0.stack_room ≡ true) × (between 0 1099511627775 y.0.budget ≡ true)) (ok_is made x budget.2)
+    (whole, t0.1, t1.1, t2.1)
+
+function_head_takes : (end : ℕ) (place : Place) (bytes : List ℕ) (x : FunctionHead × List ℕ) → IsBytes bytes → function_head_at end place bytes ≡ Ok x
+    → Takes bytes (head_text x.0) x.1 × HeadKeeps end place x.0
+unfolding function_head_at
+function_head_takes end place bytes x fits e =
+    let counts = bind_ok _ _ _ e in
+    let entry = bind_ok _ _ _ counts.2 in
+    let admitted = wanted (admits end place.0 entry.0.0) fault.Order _ _ entry.2 in
+    let bounds = bind_ok _ _ _ admitted.1 in
+    let blocks = bind_ok _ _ _ bounds.2 in
+    let t0 = counts_takes bytes counts.0 fits counts.1 in
+    let t1 = number_takes w32 (2 ^ 32) wide32 counts.0.1 entry.0 t0.0.rest_fits entry.1 in
+    let t2 = bounds_take bytes _ entry.0.1 bounds.0 (Takes-then _ _ _ _ _ t0.0 t1.0) bounds.1 in
+    let t3 = number_in_takes w16 (2 ^ 16) wide16 1 (4096 - place.1) fault.Limit bounds.0.1 blocks.0 t2.0.rest_fits blocks.1 in
+    let whole = Takes-then _ _ _ _ _ t2.0 t3.0 in
+    let made : FunctionHead × List ℕ = (record { kind = counts.0.0.kind; params = counts.0.0.params; results = counts.0.0.results; entry = entry.0.0; frame = bounds.0.0.frame; stack_room = bounds.0.0.stack_room; budget = bounds.0.0.budget; blocks = blocks.0.0 }, blocks.0.1) in
     subst (λ (y : FunctionHead × List ℕ). Takes bytes (head_text y.0) y.1 × HeadKeeps end place y.0) (ok_is made x blocks.2)
-    (b, record { params = t1.1; results = t2.1; entry = admitted.0; frame = t5.1; stack_room = t6.1; budget = t7.1; blocks = t8.1 })
+    (whole, record { params = t0.1; results = t0.2; entry = admitted.0; frame = t2.1; stack_room = t2.2; budget = t2.3; blocks = t3.1 })
 
 function_takes : (end : ℕ) (place : Place) (bytes : List ℕ) (x : Function × (Place × List ℕ)) → IsBytes bytes → function_at end (place, bytes) ≡ Ok x → Takes bytes (function_text x.0) x.1.1 × (function_keeps end place x.0 ≡ Ok x.1.0)
 unfolding function_at function_head_text function_text function_keeps
@@ -232,32 +263,49 @@ pub record HeaderKeeps (h : Header) : Type 0 where
 only : (k n : ℕ) → between k k n ≡ true → n ≡ k
 only k n h = let b = is_between k k n h in omega (arith, b.0, b.1)
 
-header_takes : (bytes : List ℕ) (x : Header × List ℕ) → IsBytes bytes → header_at bytes ≡ Ok x → Takes bytes (counts_text x.0) x.1 × HeaderKeeps x.0
-unfolding header_at
-header_takes bytes x fits e =
+services_take : (bytes : List ℕ) (x : Services × List ℕ) → IsBytes bytes → services_at bytes ≡ Ok x
+    → Takes bytes (to_be_bytes w32 0x53425838 ++ to_be_bytes w16 1 ++ to_be_bytes w16 x.0.0) x.1 × (is_known x.0.0 ≡ true)
+unfolding services_at
+services_take bytes x fits e =
     let magic = bind_ok _ _ _ e in
     let version = bind_ok _ _ _ magic.2 in
     let services = bind_ok _ _ _ version.2 in
     let known = wanted (is_known services.0.0) fault.Service _ _ services.2 in
-    let words = bind_ok _ _ _ known.1 in
-    let data_bytes = bind_ok _ _ _ words.2 in
-    let whole_slots = wanted (is_data_length data_bytes.0.0) fault.Limit _ _ data_bytes.2 in
-    let stack_pages = bind_ok _ _ _ whole_slots.1 in
-    let functions = bind_ok _ _ _ stack_pages.2 in
     let t0 = number_in_takes w32 (2 ^ 32) wide32 0x53425838 0x53425838 fault.Magic bytes magic.0 fits magic.1 in
     let t1 = number_in_takes w16 (2 ^ 16) wide16 1 1 fault.Version magic.0.1 version.0 t0.0.rest_fits version.1 in
     let t2 = number_takes w16 (2 ^ 16) wide16 version.0.1 services.0 t1.0.rest_fits services.1 in
-    let t3 = number_in_takes w32 (2 ^ 32) wide32 1 65536 fault.Limit services.0.1 words.0 t2.0.rest_fits words.1 in
-    let t4 = number_takes w32 (2 ^ 32) wide32 words.0.1 data_bytes.0 t3.0.rest_fits data_bytes.1 in
-    let t5 = number_in_takes w16 (2 ^ 16) wide16 1 16 fault.Limit data_bytes.0.1 stack_pages.0 t4.0.rest_fits stack_pages.1 in
-    let t6 = number_in_takes w16 (2 ^ 16) wide16 1 256 fault.Limit stack_pages.0.1 functions.0 t5.0.rest_fits functions.1 in
     let m0 : Takes bytes (to_be_bytes w32 0x53425838) magic.0.1 = subst (λ (n : ℕ). Takes bytes (to_be_bytes w32 n) magic.0.1) (only 0x53425838 magic.0.0 t0.1) t0.0 in
     let m1 : Takes magic.0.1 (to_be_bytes w16 1) version.0.1 = subst (λ (n : ℕ). Takes magic.0.1 (to_be_bytes w16 n) version.0.1) (only 1 version.0.0 t1.1) t1.0 in
-    let a = Takes-then _ _ _ _ _ (Takes-then _ _ _ _ _ m0 m1) t2.0 in
-    let b = Takes-then _ _ _ _ _ (Takes-then _ _ _ _ _ (Takes-then _ _ _ _ _ (Takes-then _ _ _ _ _ a t3.0) t4.0) t5.0) t6.0 in
-    let made : Header × List ℕ = (record { services = record { 0 = services.0.0 }; words = words.0.0; bytes = data_bytes.0.0; stack_pages = stack_pages.0.0; functions = functions.0.0 }, functions.0.1) in
+    let whole = Takes-then _ _ _ _ _ (Takes-then _ _ _ _ _ m0 m1) t2.0 in
+    let made : Services × List ℕ = (record { 0 = services.0.0 }, services.0.1) in
+    subst (λ (y : Services × List ℕ). Takes bytes (to_be_bytes w32 0x53425838 ++ to_be_bytes w16 1 ++ to_be_bytes w16 y.0.0) y.1 × (is_known y.0.0 ≡ true)) (ok_is made x known.1)
+    (whole, known.0)
+
+data_length_takes : (bytes : List ℕ) (x : ℕ × List ℕ) → IsBytes bytes → data_length_at bytes ≡ Ok x → Takes bytes (to_be_bytes w32 x.0) x.1 × (is_data_length x.0 ≡ true)
+unfolding data_length_at
+data_length_takes bytes x fits e =
+    let data_bytes = bind_ok _ _ _ e in
+    let whole_slots = wanted (is_data_length data_bytes.0.0) fault.Limit _ _ data_bytes.2 in
+    let t = number_takes w32 (2 ^ 32) wide32 bytes data_bytes.0 fits data_bytes.1 in
+    subst (λ (y : ℕ × List ℕ). Takes bytes (to_be_bytes w32 y.0) y.1 × (is_data_length y.0 ≡ true)) (ok_is data_bytes.0 x whole_slots.1) (t.0, whole_slots.0)
+
+header_takes : (bytes : List ℕ) (x : Header × List ℕ) → IsBytes bytes → header_at bytes ≡ Ok x → Takes bytes (counts_text x.0) x.1 × HeaderKeeps x.0
+unfolding header_at
+header_takes bytes x fits e =
+    let services = bind_ok _ _ _ e in
+    let words = bind_ok _ _ _ services.2 in
+    let data_bytes = bind_ok _ _ _ words.2 in
+    let stack_pages = bind_ok _ _ _ data_bytes.2 in
+    let functions = bind_ok _ _ _ stack_pages.2 in
+    let t0 = services_take bytes services.0 fits services.1 in
+    let t1 = number_in_takes w32 (2 ^ 32) wide32 1 65536 fault.Limit services.0.1 words.0 t0.0.rest_fits words.1 in
+    let t2 = data_length_takes words.0.1 data_bytes.0 t1.0.rest_fits data_bytes.1 in
+    let t3 = number_in_takes w16 (2 ^ 16) wide16 1 16 fault.Limit data_bytes.0.1 stack_pages.0 t2.0.rest_fits stack_pages.1 in
+    let t4 = number_in_takes w16 (2 ^ 16) wide16 1 256 fault.Limit stack_pages.0.1 functions.0 t3.0.rest_fits functions.1 in
+    let whole = Takes-then _ _ _ _ _ (Takes-then _ _ _ _ _ (Takes-then _ _ _ _ _ (Takes-then _ _ _ _ _ t0.0 t1.0) t2.0) t3.0) t4.0 in
+    let made : Header × List ℕ = (record { services = services.0.0; words = words.0.0; bytes = data_bytes.0.0; stack_pages = stack_pages.0.0; functions = functions.0.0 }, functions.0.1) in
     subst (λ (y : Header × List ℕ). Takes bytes (counts_text y.0) y.1 × HeaderKeeps y.0) (ok_is made x functions.2)
-    (b, record { services = known.0; words = t3.1; bytes = whole_slots.0; stack_pages = t5.1; functions = t6.1 })
+    (whole, record { services = t0.1; words = t1.1; bytes = t2.1; stack_pages = t3.1; functions = t4.1 })
 
 abbrev done_with : ℕ → Result (Unit {0}) ImageFault
 done_with _ = Ok tt

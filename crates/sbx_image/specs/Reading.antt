@@ -6,6 +6,8 @@ use Rattle.sbx_image.specs.declared.fault.ImageFault.TheVariants as fault
 use Rattle.sbx_image.specs.declared.order.Next.{Next}
 use Rattle.sbx_image.specs.declared.order.Next.TheVariants.{Exactly, Above}
 use Rattle.sbx_image.specs.declared.heads.Header.{Header}
+use Rattle.sbx_image.specs.declared.heads.Counts.{Counts}
+use Rattle.sbx_image.specs.declared.heads.Bounds.{Bounds}
 use Rattle.sbx_image.specs.declared.heads.FunctionHead.{FunctionHead}
 use Rattle.sbx_image.specs.declared.heads.BlockHead.{BlockHead}
 use Rattle.sbx_image.specs.declared.parts.Kind.{Kind}
@@ -16,6 +18,7 @@ use Rattle.sbx_image.specs.declared.parts.Term.{Term}
 use Rattle.sbx_image.specs.declared.parts.Block.{Block}
 use Rattle.sbx_image.specs.declared.parts.Function.{Function}
 use Rattle.sbx_image.specs.declared.parts.Parts.{Parts}
+use Rattle.sbx_image.specs.declared.services.Services.{Services}
 use Rattle.sbx_image.specs.Rules.{◌>>=◌, wants, between, code_start, admits, is_fuel, is_coefficient, is_known, is_data_length, in_order, Place}
 
 -- What a function returned, seen by view, is what reading gives, unless memory ran out.
@@ -103,20 +106,30 @@ kind_at bytes = do
   kind ← number_in w8 0 1 fault.Limit bytes
   Ok (if kind.0 == 0 then Leaf else Framed, kind.1)
 
--- The functions before it have so many blocks.
-unfoldable pub function_head_at : ℕ → Place → List ℕ → Result (FunctionHead × List ℕ) ImageFault
-function_head_at end place bytes = do
+unfoldable pub counts_at : List ℕ → Result (Counts × List ℕ) ImageFault
+counts_at bytes = do
   kind ← kind_at bytes
   params ← number_in w8 0 6 fault.Limit kind.1
   results ← number_in w8 0 6 fault.Limit params.1
   unused ← number_in w8 0 0 fault.Limit results.1
-  entry ← number_at w32 unused.1
-  _ ← wants (admits end place.0 entry.0) fault.Order
-  frame ← number_in w32 0 4096 fault.Limit entry.1
+  Ok (record { kind = kind.0; params = params.0; results = results.0 }, unused.1)
+
+unfoldable pub bounds_at : List ℕ → Result (Bounds × List ℕ) ImageFault
+bounds_at bytes = do
+  frame ← number_in w32 0 4096 fault.Limit bytes
   stack_room ← number_in w32 0 65536 fault.Limit frame.1
   budget ← number_in w64 0 1099511627775 fault.Limit stack_room.1
-  blocks ← number_in w16 1 (4096 - place.1) fault.Limit budget.1
-  Ok (record { kind = kind.0; params = params.0; results = results.0; entry = entry.0; frame = frame.0; stack_room = stack_room.0; budget = budget.0; blocks = blocks.0 }, blocks.1)
+  Ok (record { frame = frame.0; stack_room = stack_room.0; budget = budget.0 }, budget.1)
+
+-- The functions before it have so many blocks.
+unfoldable pub function_head_at : ℕ → Place → List ℕ → Result (FunctionHead × List ℕ) ImageFault
+function_head_at end place bytes = do
+  counts ← counts_at bytes
+  entry ← number_at w32 counts.1
+  _ ← wants (admits end place.0 entry.0) fault.Order
+  bounds ← bounds_at entry.1
+  blocks ← number_in w16 1 (4096 - place.1) fault.Limit bounds.1
+  Ok (record { kind = counts.0.kind; params = counts.0.params; results = counts.0.results; entry = entry.0; frame = bounds.0.frame; stack_room = bounds.0.stack_room; budget = bounds.0.budget; blocks = blocks.0 }, blocks.1)
 
 unfoldable pub function_at : ℕ → Place × List ℕ → Result (Function × (Place × List ℕ)) ImageFault
 function_at end cursor = do
@@ -126,18 +139,29 @@ function_at end cursor = do
   blocks ← items_at (block_at end) head.0.blocks (Exactly head.0.entry, results.1)
   Ok (record { kind = head.0.kind; params = params.0; results = results.0; entry = head.0.entry; frame = head.0.frame; stack_room = head.0.stack_room; budget = head.0.budget; blocks = blocks.0 }, ((blocks.1.0, cursor.0.1 + head.0.blocks), blocks.1.1))
 
-unfoldable pub header_at : List ℕ → Result (Header × List ℕ) ImageFault
-header_at bytes = do
+-- the services, behind what tells an image of this version
+unfoldable pub services_at : List ℕ → Result (Services × List ℕ) ImageFault
+services_at bytes = do
   magic ← number_in w32 0x53425838 0x53425838 fault.Magic bytes
   version ← number_in w16 1 1 fault.Version magic.1
   services ← number_at w16 version.1
   _ ← wants (is_known services.0) fault.Service
-  words ← number_in w32 1 65536 fault.Limit services.1
-  data_bytes ← number_at w32 words.1
+  Ok (record { 0 = services.0 }, services.1)
+
+unfoldable pub data_length_at : List ℕ → Result (ℕ × List ℕ) ImageFault
+data_length_at bytes = do
+  data_bytes ← number_at w32 bytes
   _ ← wants (is_data_length data_bytes.0) fault.Limit
+  Ok data_bytes
+
+unfoldable pub header_at : List ℕ → Result (Header × List ℕ) ImageFault
+header_at bytes = do
+  services ← services_at bytes
+  words ← number_in w32 1 65536 fault.Limit services.1
+  data_bytes ← data_length_at words.1
   stack_pages ← number_in w16 1 16 fault.Limit data_bytes.1
   functions ← number_in w16 1 256 fault.Limit stack_pages.1
-  Ok (record { services = record { 0 = services.0 }; words = words.0; bytes = data_bytes.0; stack_pages = stack_pages.0; functions = functions.0 }, functions.1)
+  Ok (record { services = services.0; words = words.0; bytes = data_bytes.0; stack_pages = stack_pages.0; functions = functions.0 }, functions.1)
 
 unfoldable pub parts_at : List ℕ → Result (Parts × List ℕ) ImageFault
 parts_at bytes = do

@@ -3,7 +3,7 @@ use crate::parts::Kind;
 use crate::services::Services;
 
 /// What stands before the words.
-#[derive(Clone, Copy, Debug)]
+#[derive(Clone, Copy)]
 pub struct Header {
     pub services: Services,
     pub words: u32,
@@ -12,8 +12,24 @@ pub struct Header {
     pub functions: u16,
 }
 
+/// What a function begins with: its kind, and how many ranges follow its head.
+#[derive(Clone, Copy)]
+pub struct Counts {
+    pub kind: Kind,
+    pub params: u8,
+    pub results: u8,
+}
+
+/// What a call of a function takes at most: bytes of frame, bytes of stack, turns.
+#[derive(Clone, Copy)]
+pub struct Bounds {
+    pub frame: u32,
+    pub stack_room: u32,
+    pub budget: u64,
+}
+
 /// What stands before a function's ranges and blocks.
-#[derive(Clone, Copy, Debug)]
+#[derive(Clone, Copy)]
 pub struct FunctionHead {
     pub kind: Kind,
     pub params: u8,
@@ -26,7 +42,7 @@ pub struct FunctionHead {
 }
 
 /// What stands before a block's cells and terms.
-#[derive(Clone, Copy, Debug)]
+#[derive(Clone, Copy)]
 pub struct BlockHead {
     pub address: u32,
     pub cells: u16,

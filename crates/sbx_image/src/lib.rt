@@ -21,6 +21,3 @@ pub use parts::{Block, Cell, Function, Kind, Parts, Range, Term};
 pub use reading::parse;
 pub use services::Services;
 pub use writing::write;
-
-#[cfg(test)]
-mod tests;

@@ -8,7 +8,7 @@ pub const CODE_START: u32 = 0x0004_0000;
 const FUEL: i64 = 1 << 40;
 
 /// Where the next address may lie.
-#[derive(Clone, Copy, Debug)]
+#[derive(Clone, Copy)]
 pub enum Next {
     /// At this address alone.
     Exactly(u32),

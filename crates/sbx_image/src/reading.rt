@@ -2,11 +2,11 @@
 ghost use Rattle.std.specs.Prelude.{◌≡◌, ◌+◌, ◌≤◌, IfOk};
 ghost use Rattle.std.specs.Int.{w8, w16, w32, w64};
 ghost use Rattle.sbx_image.specs.Rules.{is_known, is_data_length, is_fuel, is_coefficient};
-ghost use Rattle.sbx_image.specs.Reading.{Gives, number_at, bytes_at, items_at, range_at, location_at, cell_at, term_at, block_head_at, block_at, kind_at, function_head_at, function_at, header_at, parts_at, reading};
+ghost use Rattle.sbx_image.specs.Reading.{Gives, number_at, bytes_at, items_at, range_at, location_at, cell_at, term_at, block_head_at, block_at, kind_at, counts_at, bounds_at, function_head_at, function_at, services_at, data_length_at, header_at, parts_at, reading};
 ghost use Rattle.sbx_image.specs.Spelling.{spelling};
 
 use crate::fault::ImageFault;
-use crate::heads::{BlockHead, FunctionHead, Header};
+use crate::heads::{BlockHead, Bounds, Counts, FunctionHead, Header};
 use crate::image::Image;
 use crate::items::Items;
 use crate::numbers::{i32_at, i64_at, u8_in, u16_at, u16_in, u32_at, u32_in, u64_in};
@@ -120,6 +120,37 @@ fn kind_of(bytes: &[u8]) -> Result<(Kind, &[u8]), ImageFault>
     }
 }
 
+#[tactic(auto, unfolding(crate::specs::Reading::counts_at))]
+fn counts_of(bytes: &[u8]) -> Result<(Counts, &[u8]), ImageFault>
+    ensures { Gives (λ x. (x.0, x.1.now)) result (counts_at bytes.now) }
+{
+    let (kind, rest) = kind_of(bytes)?;
+    let (params, rest) = u8_in(rest, 0, 6, ImageFault::Limit)?;
+    let (results, rest) = u8_in(rest, 0, 6, ImageFault::Limit)?;
+    let (_, rest) = u8_in(rest, 0, 0, ImageFault::Limit)?;
+    let counts = Counts {
+        kind,
+        params,
+        results,
+    };
+    Ok((counts, rest))
+}
+
+#[tactic(auto, unfolding(crate::specs::Reading::bounds_at))]
+fn bounds_of(bytes: &[u8]) -> Result<(Bounds, &[u8]), ImageFault>
+    ensures { Gives (λ x. (x.0, x.1.now)) result (bounds_at bytes.now) }
+{
+    let (frame, rest) = u32_in(bytes, 0, 4096, ImageFault::Limit)?;
+    let (stack_room, rest) = u32_in(rest, 0, 65536, ImageFault::Limit)?;
+    let (budget, rest) = u64_in(rest, 0, 0xFF_FFFF_FFFF, ImageFault::Limit)?;
+    let bounds = Bounds {
+        frame,
+        stack_room,
+        budget,
+    };
+    Ok((bounds, rest))
+}
+
 #[tactic(auto, unfolding(crate::specs::Reading::function_head_at))]
 fn function_head_of(
     end: u32,
@@ -129,27 +160,22 @@ fn function_head_of(
     ensures reads { Gives (λ x. (x.0, x.1.now)) result (function_head_at end place bytes.now) }
     ensures bound { IfOk result (λ x. place.1 + x.0.blocks ≤ 4096) }
 {
-    let (kind, rest) = kind_of(bytes)?;
-    let (params, rest) = u8_in(rest, 0, 6, ImageFault::Limit)?;
-    let (results, rest) = u8_in(rest, 0, 6, ImageFault::Limit)?;
-    let (_, rest) = u8_in(rest, 0, 0, ImageFault::Limit)?;
+    let (counts, rest) = counts_of(bytes)?;
     let (entry, rest) = u32_at(rest)?;
     if !admits(end, place.0, entry) {
         return Err(ImageFault::Order);
     }
-    let (frame, rest) = u32_in(rest, 0, 4096, ImageFault::Limit)?;
-    let (stack_room, rest) = u32_in(rest, 0, 65536, ImageFault::Limit)?;
-    let (budget, rest) = u64_in(rest, 0, 0xFF_FFFF_FFFF, ImageFault::Limit)?;
+    let (bounds, rest) = bounds_of(rest)?;
     let room = 4096u16.saturating_sub(place.1);
     let (blocks, rest) = u16_in(rest, 1, room, ImageFault::Limit)?;
     let head = FunctionHead {
-        kind,
-        params,
-        results,
+        kind: counts.kind,
+        params: counts.params,
+        results: counts.results,
         entry,
-        frame,
-        stack_room,
-        budget,
+        frame: bounds.frame,
+        stack_room: bounds.stack_room,
+        budget: bounds.budget,
         blocks,
     };
     Ok((head, rest))
@@ -302,22 +328,39 @@ fn functions_of(
     Ok((functions, (at, rest)))
 }
 
+/// The services, behind what tells an image of this version.
+#[tactic(auto, unfolding(crate::specs::Reading::services_at))]
+fn services_in(bytes: &[u8]) -> Result<(Services, &[u8]), ImageFault>
+    ensures { Gives (λ x. (x.0, x.1.now)) result (services_at bytes.now) }
+{
+    let (_, rest) = u32_in(bytes, 0x5342_5838, 0x5342_5838, ImageFault::Magic)?;
+    let (_, rest) = u16_in(rest, 1, 1, ImageFault::Version)?;
+    let (bits, rest) = u16_at(rest)?;
+    match services_of(bits) {
+        Some(services) => Ok((services, rest)),
+        None => Err(ImageFault::Service),
+    }
+}
+
+#[tactic(auto, unfolding(crate::specs::Reading::data_length_at))]
+fn data_length_of(bytes: &[u8]) -> Result<(u32, &[u8]), ImageFault>
+    ensures { Gives (λ x. (x.0, x.1.now)) result (data_length_at bytes.now) }
+{
+    let (data_bytes, rest) = u32_at(bytes)?;
+    if !(data_bytes <= 262144 && data_bytes % 8 == 0) {
+        return Err(ImageFault::Limit);
+    }
+    Ok((data_bytes, rest))
+}
+
 #[tactic(auto, unfolding(crate::specs::Reading::header_at))]
 fn header_of(bytes: &[u8]) -> Result<(Header, &[u8]), ImageFault>
     ensures reads { Gives (λ x. (x.0, x.1.now)) result (header_at bytes.now) }
     ensures bound { IfOk result (λ x. x.0.words ≤ 65536) }
 {
-    let (_, rest) = u32_in(bytes, 0x5342_5838, 0x5342_5838, ImageFault::Magic)?;
-    let (_, rest) = u16_in(rest, 1, 1, ImageFault::Version)?;
-    let (services, rest) = u16_at(rest)?;
-    let Some(services) = services_of(services) else {
-        return Err(ImageFault::Service);
-    };
+    let (services, rest) = services_in(bytes)?;
     let (words, rest) = u32_in(rest, 1, 65536, ImageFault::Limit)?;
-    let (data_bytes, rest) = u32_at(rest)?;
-    if !(data_bytes <= 262144 && data_bytes % 8 == 0) {
-        return Err(ImageFault::Limit);
-    }
+    let (data_bytes, rest) = data_length_of(rest)?;
     let (stack_pages, rest) = u16_in(rest, 1, 16, ImageFault::Limit)?;
     let (functions, rest) = u16_in(rest, 1, 256, ImageFault::Limit)?;
     let header = Header {

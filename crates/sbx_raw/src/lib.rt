@@ -8,10 +8,8 @@ mod raw;
 mod tracing;
 
 pub use fault::RunFault;
+pub use line::{Line, make_line};
 pub use port::SlicePort;
 pub use raw::{Raw, begun, run_raw};
 pub use tracing::trace;
 pub use v8_board::{Ending, Outcome, PageUse};
-
-#[cfg(test)]
-mod tests;

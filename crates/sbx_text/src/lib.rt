@@ -7,15 +7,13 @@ ghost use Rattle.sbx_text.specs.Slices.{AreSlices};
 
 mod fault;
 mod scanning;
-#[cfg(test)]
-mod tests;
 
 pub use fault::TextFault;
 use scanning::{Step, front};
 use std::alloc::Global;
 
 /// What a token is. A number is below 2^40; a sign is one of `,` `:` `[` `]` `+` `-`.
-#[derive(Clone, Copy, PartialEq, Eq, Debug)]
+#[derive(Clone, Copy)]
 pub enum Kind {
     Name,
     Percent,
@@ -24,7 +22,7 @@ pub enum Kind {
 }
 
 /// The bytes of a line from `start` up to `stop`.
-#[derive(Clone, Copy, PartialEq, Eq, Debug)]
+#[derive(Clone, Copy)]
 pub struct Token {
     pub kind: Kind,
     pub start: usize,

@@ -1,10 +1,10 @@
 //! What the words of a command line ask for.
-ghost use Rattle.std.specs.Prelude.{◌≤◌, IfOk, IfSome};
+ghost use Rattle.std.specs.Prelude.{IfOk, IfSome};
 ghost use Rattle.sbx_command.specs.Jobs.{IsInRange};
 
 use clap::error::ErrorKind;
 use clap::{Arg, ArgAction, ArgMatches, Command, Error};
-use sbx_command::{Job, MOST_TURNS, decimal};
+use sbx_command::{Job, MOST_TURNS, turns};
 use std::alloc::{AllocError, Global};
 use std::convert::AsStr;
 
@@ -47,9 +47,6 @@ fn path<'a>(alloc: Global, name: &'a str) -> Arg<'a> {
     Arg::new(alloc, name).required(true).action(ArgAction::Set)
 }
 
-/// The limit of turns of a trace where no other is given.
-const TURNS: u64 = 100_000;
-
 /// A limit of turns that may be there.
 fn limit<'a>(alloc: Global) -> Arg<'a> {
     Arg::new(alloc, "limit")
@@ -58,43 +55,72 @@ fn limit<'a>(alloc: Global) -> Arg<'a> {
         .action(ArgAction::Set)
 }
 
-fn sandbox<'a>(alloc: Global) -> Result<Command<'a>, AllocError> {
-    let asm = Command::new(alloc, "asm")
+/// The command that assembles a source.
+fn asm<'a>(alloc: Global) -> Result<Command<'a>, AllocError> {
+    Command::new(alloc, "asm")
         .about("Assembles a source to an image")
         .arg(path(alloc, "SRC"))?
-        .arg(path(alloc, "OUT"))?;
-    let verify = Command::new(alloc, "verify")
-        .about("Verifies an image")
-        .arg(path(alloc, "IMG"))?;
-    let run = Command::new(alloc, "run")
-        .about("Verifies an image and runs it")
-        .arg(path(alloc, "IMG"))?;
-    let list = Command::new(alloc, "list")
-        .about("Prints the code of an image")
-        .arg(path(alloc, "IMG"))?;
-    let trace = Command::new(alloc, "trace")
-        .about("Prints a line for each turn of an image's run, up to T turns")
-        .arg(limit(alloc))?
-        .arg(path(alloc, "IMG"))?;
-    Command::new(alloc, "sandbox")
-        .about("Assembles, verifies and runs sandboxed SPARC V8 programs")
-        .bin_name("sandbox")?
-        .no_binary_name(true)
-        .subcommand_required(true)
-        .subcommand(asm)?
-        .subcommand(verify)?
-        .subcommand(run)?
-        .subcommand(list)?
-        .subcommand(trace)
+        .arg(path(alloc, "OUT"))
 }
 
-/// The limit of turns that the words give: decimal digits alone, up to the most.
-fn limit_of(found: &ArgMatches<'_>) -> Option<u64>
-    ensures { IfSome result (λ limit. limit ≤ 9999999999) }
+/// A command on an image alone.
+fn on_image<'a>(
+    alloc: Global,
+    name: &'a str,
+    about: &'a str,
+) -> Result<Command<'a>, AllocError> {
+    Command::new(alloc, name)
+        .about(about)
+        .arg(path(alloc, "IMG"))
+}
+
+/// The command that traces an image.
+fn trace<'a>(alloc: Global) -> Result<Command<'a>, AllocError> {
+    Command::new(alloc, "trace")
+        .about("Prints a line for each turn of an image's run, up to T turns")
+        .arg(limit(alloc))?
+        .arg(path(alloc, "IMG"))
+}
+
+/// The sandbox without its commands.
+fn bare<'a>(alloc: Global) -> Result<Command<'a>, AllocError> {
+    Command::new(alloc, "sandbox")
+        .about("Assembles, verifies and runs sandboxed SPARC V8 programs")
+        .no_binary_name(true)
+        .subcommand_required(true)
+        .bin_name("sandbox")
+}
+
+/// A command with one more below it.
+fn with<'a>(
+    command: Command<'a>,
+    below: Result<Command<'a>, AllocError>,
+) -> Result<Command<'a>, AllocError> {
+    command.subcommand(below?)
+}
+
+/// The whole command line.
+fn sandbox<'a>(alloc: Global) -> Result<Command<'a>, AllocError> {
+    let command = with(bare(alloc)?, asm(alloc))?;
+    let command = with(command, on_image(alloc, "verify", "Verifies an image"))?;
+    let command = with(command, on_image(alloc, "run", "Verifies an image and runs it"))?;
+    let command = with(command, on_image(alloc, "list", "Prints the code of an image"))?;
+    with(command, trace(alloc))
+}
+
+/// The job of a subcommand on an image.
+fn image_job<'a>(name: &str, image: &'a str, found: &ArgMatches<'a>) -> Option<Job<'a>>
+    ensures { IfSome result IsInRange }
 {
-    match found.get_str("limit") {
-        Some(text) => decimal(text, MOST_TURNS),
-        None => Some(TURNS),
+    match name {
+        "verify" => Some(Job::Verify { image }),
+        "run" => Some(Job::Run { image }),
+        "list" => Some(Job::List { image }),
+        "trace" => Some(Job::Trace {
+            image,
+            limit: turns(found.get_str("limit"))?,
+        }),
+        _ => None,
     }
 }
 
@@ -102,26 +128,13 @@ fn limit_of(found: &ArgMatches<'_>) -> Option<u64>
 fn job_of<'a>(name: &str, found: &ArgMatches<'a>) -> Option<Job<'a>>
     ensures { IfSome result IsInRange }
 {
-    match name {
-        "asm" => Some(Job::Asm {
+    if name == "asm" {
+        return Some(Job::Asm {
             source: found.get_str("SRC")?,
             object: found.get_str("OUT")?,
-        }),
-        "verify" => Some(Job::Verify {
-            image: found.get_str("IMG")?,
-        }),
-        "run" => Some(Job::Run {
-            image: found.get_str("IMG")?,
-        }),
-        "list" => Some(Job::List {
-            image: found.get_str("IMG")?,
-        }),
-        "trace" => Some(Job::Trace {
-            image: found.get_str("IMG")?,
-            limit: limit_of(found)?,
-        }),
-        _ => None,
+        });
     }
+    image_job(name, found.get_str("IMG")?, found)
 }
 
 /// What the words, without the program's name, ask for.

@@ -8,8 +8,6 @@ ghost use Rattle.v8_alu.specs.Results.{high_word, low_word};
 mod products;
 mod quotients;
 mod sums;
-#[cfg(test)]
-mod tests;
 
 use products::{
     high_word, low_word, shift_left, shift_right, shift_right_signed, signed_product, step_addend,
@@ -55,7 +53,7 @@ pub enum Op {
 }
 
 /// A result: the word for the destination, and the condition codes and Y after the operation.
-#[derive(Clone, Copy, PartialEq, Eq, Debug)]
+#[derive(Clone, Copy, PartialEq, Eq)]
 pub struct AluOut {
     pub value: u32,
     pub icc: Icc,
@@ -153,7 +151,7 @@ pub fn alu(op: Op, a: u32, b: u32, icc: Icc, y: u32) -> AluOut
 }
 
 /// A division, unsigned or signed. `Cc` sets the condition codes.
-#[derive(Clone, Copy, PartialEq, Eq, Debug)]
+#[derive(Clone, Copy)]
 pub enum Division {
     Udiv,
     UdivCc,
@@ -162,7 +160,7 @@ pub enum Division {
 }
 
 /// A tagged operation that traps on overflow, TADDccTV or TSUBccTV.
-#[derive(Clone, Copy, PartialEq, Eq, Debug)]
+#[derive(Clone, Copy)]
 pub enum TaggedOp {
     TaggedAdd,
     TaggedSub,

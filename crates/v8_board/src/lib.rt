@@ -11,6 +11,3 @@ pub use board::Board;
 pub use outcome::{Counts, Ending, Outcome};
 pub use page_use::PageUse;
 pub use v8_memory::Port;
-
-#[cfg(test)]
-mod tests;

@@ -869,19 +869,31 @@ const ADMITTED: [(u32, u32); 6] = [
     (7, 0xC0A00160),
 ];
 
+/// Whether so many turns are made.
+fn makes(machine: &mut Tested, turns: u32) -> bool {
+    for _ in 0..turns {
+        if machine.step().is_err() {
+            return false;
+        }
+    }
+    true
+}
+
+/// Whether a machine has the state that a program leaves.
+fn has_state(machine: &Tested, program: &Program) -> bool {
+    let globals = [global(machine, 1), global(machine, 2), global(machine, 3)];
+    globals == program.globals && (machine.pc(), machine.psr()) == (program.pc, program.psr_after)
+}
+
+fn leaves_its_state(program: &Program) -> bool {
+    let mut machine = machine(3, program.psr, program.words);
+    makes(&mut machine, program.turns) && has_state(&machine, program)
+}
+
 #[test]
 fn programs_leave_the_state_of_the_manual(rt: HostRuntime) {
     for program in &PROGRAMS {
-        let mut machine = machine(3, program.psr, program.words);
-        for _ in 0..program.turns {
-            assert!(rt; machine.step().is_ok());
-        }
-        let expected = program.globals;
-        assert_eq!(rt; global(&machine, 1), expected[0]);
-        assert_eq!(rt; global(&machine, 2), expected[1]);
-        assert_eq!(rt; global(&machine, 3), expected[2]);
-        assert_eq!(rt; machine.pc(), program.pc);
-        assert_eq!(rt; machine.psr(), program.psr_after);
+        assert!(rt; leaves_its_state(program), "{:?}", program.words);
     }
 }
 
@@ -897,21 +909,41 @@ fn first_end(machine: &mut Tested) -> Option<Event> {
     None
 }
 
+/// Whether a machine has entered the trap of a case: at its vector, traps disabled, the mode before it kept.
+fn has_entered(machine: &Tested, case: &Trapping) -> bool {
+    machine.pc() == VECTORS + u32::from(case.trap) * 16
+        && machine.npc() == machine.pc().wrapping_add(4)
+        && machine.psr() & 0xE0 == 0x80 + (case.psr & 0x80) / 2
+        && machine.reg(Reg::L2) == machine.reg(Reg::L1).wrapping_add(4)
+}
+
+/// What traps writes no register: no word before it sets %g2, and before the first word %g1 is 0.
+fn wrote_no_register(machine: &Tested, case: &Trapping) -> bool {
+    global(machine, 2) == 0 && (case.words.len() > 1 || global(machine, 1) == 0)
+}
+
+fn traps_as_told(case: &Trapping) -> bool {
+    let mut machine = machine(case.acc, case.psr, case.words);
+    first_end(&mut machine) == Some(Event::Trapped(TrapType::new(case.trap)))
+        && machine.fault_status() == case.status
+        && has_entered(&machine, case)
+        && wrote_no_register(&machine, case)
+}
+
 #[test]
 fn traps_are_told_by_priority(rt: HostRuntime) {
     for case in &TRAPS {
-        let mut machine = machine(case.acc, case.psr, case.words);
-        let event = first_end(&mut machine);
-        assert_eq!(rt; event, Some(Event::Trapped(TrapType::new(case.trap))));
-        assert_eq!(rt; machine.fault_status(), case.status);
-        assert_eq!(rt; machine.pc(), VECTORS + u32::from(case.trap) * 16);
-        assert_eq!(rt; machine.npc(), machine.pc().wrapping_add(4));
-        assert_eq!(rt; machine.psr() & 0xE0, 0x80 + (case.psr & 0x80) / 2);
-        assert_eq!(rt; machine.reg(Reg::L2), machine.reg(Reg::L1).wrapping_add(4));
-        // What traps writes no register: no word before it sets %g2, and before the first word %g1 is 0.
-        assert_eq!(rt; global(&machine, 2), 0);
-        assert!(rt; case.words.len() > 1 || global(&machine, 1) == 0);
+        assert!(rt; traps_as_told(case), "{:?} {}", case.words, case.psr);
     }
+}
+
+/// Whether a machine that ends in error mode by this trap stays there, with TBR telling it.
+fn stays_in_error_mode(machine: &mut Tested, psr: u32, trap: u8) -> bool {
+    let ended = Some(Event::ErrorMode(TrapType::new(trap)));
+    first_end(machine) == ended
+        && first_end(machine) == ended
+        && (machine.pc(), machine.psr()) == (CODE, psr)
+        && machine.tbr() == VECTORS + u32::from(trap) * 16
 }
 
 #[test]
@@ -919,27 +951,28 @@ fn traps_while_disabled_are_error_mode(rt: HostRuntime) {
     for (psr, wim, word, trap) in ERRORS {
         let mut machine = machine(3, psr, &[word]);
         machine.set_wim(wim);
-        let ended = Some(Event::ErrorMode(TrapType::new(trap)));
-        assert_eq!(rt; first_end(&mut machine), ended);
-        assert_eq!(rt; first_end(&mut machine), ended);
-        assert_eq!(rt; machine.pc(), CODE);
-        assert_eq!(rt; machine.psr(), psr);
-        assert_eq!(rt; machine.tbr(), VECTORS + u32::from(trap) * 16);
+        assert!(rt;
+            stays_in_error_mode(&mut machine, psr, trap),
+            "{word} {psr}"
+        );
+    }
+}
+
+/// Whether a word of this kind accesses pages of this ACC.
+fn is_admitted(acc: u32, word: u32) -> bool {
+    let mut machine = machine(acc, 0xA0, &[word]);
+    match machine.step() {
+        Ok(turn) => {
+            turn.event == Event::Ran && turn.access.is_some() && machine.fault_status() == 0
+        }
+        Err(_) => false,
     }
 }
 
 #[test]
 fn spaces_admit_what_their_pages_allow(rt: HostRuntime) {
     for (acc, word) in ADMITTED {
-        let mut machine = machine(acc, 0xA0, &[word]);
-        match machine.step() {
-            Ok(turn) => {
-                assert_eq!(rt; turn.event, Event::Ran);
-                assert!(rt; turn.access.is_some());
-            }
-            Err(_) => assert!(rt; false),
-        }
-        assert_eq!(rt; machine.fault_status(), 0);
+        assert!(rt; is_admitted(acc, word), "{word} {acc}");
     }
 }
 
@@ -971,25 +1004,29 @@ const ACCESSES: [(u32, Size, bool); 12] = [
     (0xC47827F8, Size::Word, true),
 ];
 
+/// Whether the turn of a word tells this access of 7F8.
+fn tells(word: u32, size: Size, store: bool) -> bool {
+    let access = DataAccess {
+        va: 0x7F8,
+        pa: 0x7F8,
+        size,
+        store,
+    };
+    let turn = Turn {
+        event: Event::Ran,
+        cwp: 3,
+        user: true,
+        pc: CODE,
+        word: Some(word),
+        access: Some(access),
+    };
+    machine(3, 0x23, &[word]).step() == Ok(turn)
+}
+
 #[test]
 fn turns_tell_what_moved(rt: HostRuntime) {
     for (word, size, store) in ACCESSES {
-        let mut machine = machine(3, 0x23, &[word]);
-        let access = DataAccess {
-            va: 0x7F8,
-            pa: 0x7F8,
-            size,
-            store,
-        };
-        let turn = Turn {
-            event: Event::Ran,
-            cwp: 3,
-            user: true,
-            pc: CODE,
-            word: Some(word),
-            access: Some(access),
-        };
-        assert_eq!(rt; machine.step(), Ok(turn));
+        assert!(rt; tells(word, size, store), "{word}");
     }
 }
 
@@ -1012,106 +1049,147 @@ const OWN_ENTRY: [(u32, u32, u32, u32); 7] = [
     (0xC2682FFF, 0, 0x6E, 0xFF),
 ];
 
-/// R and M are set before the bytes of an access move.
-#[test]
-fn marks_come_before_the_bytes(rt: HostRuntime) -> Result<(), PortFault> {
-    for (word, before, after, entry) in OWN_ENTRY {
-        let mut machine = machine(3, 0x20, &[word]);
-        assert_eq!(rt; root_entry(&machine), Some(0xE));
-        if let Some(first) = Reg::new(1) {
-            machine.set_reg(first, before);
-        }
-        assert_eq!(rt; machine.step()?.event, Event::Ran);
-        assert_eq!(rt; global(&machine, 1), after);
-        assert_eq!(rt; root_entry(&machine), Some(entry));
+/// Whether the next turn runs an instruction.
+fn runs(machine: &mut Tested) -> bool {
+    match machine.step() {
+        Ok(turn) => turn.event == Event::Ran,
+        Err(_) => false,
     }
-    // a fetch of the entry, which is then an UNIMP
+}
+
+/// Whether a word that finds this in %g1 leaves these words in %g1 and in the entry.
+fn leaves(word: u32, before: u32, after: u32, entry: u32) -> bool {
+    let mut machine = machine(3, 0x20, &[word]);
+    if let Some(first) = Reg::new(1) {
+        machine.set_reg(first, before);
+    }
+    root_entry(&machine) == Some(0xE)
+        && runs(&mut machine)
+        && global(&machine, 1) == after
+        && root_entry(&machine) == Some(entry)
+}
+
+/// Whether a fetch of the entry gives it with R, which is an UNIMP.
+fn fetches_its_mark() -> bool {
     let mut machine = machine(3, 0x20, &[]);
     machine.set_pc(0xFFC);
     machine.set_npc(CODE);
-    let turn = machine.step()?;
-    assert_eq!(rt; turn.event, Event::Trapped(TrapType::new(0x02)));
-    assert_eq!(rt; turn.word, Some(0x2E));
-    assert_eq!(rt; root_entry(&machine), Some(0x2E));
-    Ok(())
+    match machine.step() {
+        Ok(turn) => {
+            turn.event == Event::Trapped(TrapType::new(0x02))
+                && turn.word == Some(0x2E)
+                && root_entry(&machine) == Some(0x2E)
+        }
+        Err(_) => false,
+    }
+}
+
+/// R and M are set before the bytes of an access move.
+#[test]
+fn marks_come_before_the_bytes(rt: HostRuntime) {
+    for (word, before, after, entry) in OWN_ENTRY {
+        assert!(rt; leaves(word, before, after, entry), "{word}");
+    }
+    assert!(rt; fetches_its_mark());
+}
+
+/// Whether words meet an annulled slot in window 0, and the fetches alone have marked the page.
+fn annul(words: &[u32]) -> bool {
+    let mut machine = machine(3, 0x20, words);
+    first_end(&mut machine) == Some(Event::Annulled)
+        && machine.psr() & 0x1F == 0
+        && root_entry(&machine) == Some(0x2E)
 }
 
 #[test]
 fn annulled_turns_fetch_nothing(rt: HostRuntime) {
     // ba,a .+12; save %sp,-96,%sp; and after a comparison bne,a .+12; st %g0,[%g0+0xFFC]
-    let lists: [[u32; 3]; 2] = [
-        [0x30800003, 0x9DE3BFA0, 0],
-        [0x80A00000, 0x32800003, 0xC0202FFC],
-    ];
-    for words in lists {
-        let mut machine = machine(3, 0x20, &words);
-        assert_eq!(rt; first_end(&mut machine), Some(Event::Annulled));
-        assert_eq!(rt; machine.psr() & 0x1F, 0);
-        // the fetches alone have marked the page
-        assert_eq!(rt; root_entry(&machine), Some(0x2E));
-    }
+    assert!(rt; annul(&[0x30800003, 0x9DE3BFA0, 0]));
+    assert!(rt; annul(&[0x80A00000, 0x32800003, 0xC0202FFC]));
+}
+
+/// Whether a turn whose port fails changes nothing, and is made once the port works.
+fn is_made_again(machine: &mut Tested, fault: PortFault) -> bool {
+    machine.bus_mut().broken = true;
+    let is_undone = machine.step() == Err(fault)
+        && machine.pc() == CODE + 4
+        && root_entry(machine) == Some(0x2E);
+    machine.bus_mut().broken = false;
+    is_undone && makes(machine, 1) && machine.pc() == CODE + 8
 }
 
 #[test]
 fn a_port_that_fails_changes_nothing(rt: HostRuntime) {
     // %g1 = 10000000, and then a load, a store, an exchange of the device's word
-    let cases = [
+    for (word, fault) in [
         (0xC4004000, PortFault::Reader),
         (0xC4204000, PortFault::Writer),
         (0xC4784000, PortFault::Memory),
-    ];
-    for (word, fault) in cases {
+    ] {
         let mut machine = machine(3, 0x20, &[0x03040000, word]);
-        assert!(rt; machine.step().is_ok());
-        machine.bus_mut().broken = true;
-        assert_eq!(rt; machine.step(), Err(fault));
-        assert_eq!(rt; machine.pc(), CODE + 4);
-        assert_eq!(rt; root_entry(&machine), Some(0x2E));
-        machine.bus_mut().broken = false;
-        assert!(rt; machine.step().is_ok());
-        assert_eq!(rt; machine.pc(), CODE + 8);
+        assert!(rt;
+            makes(&mut machine, 1) && is_made_again(&mut machine, fault),
+            "{word}"
+        );
+    }
+}
+
+const ENDED: Event = Event::Stopped(Stop::Exit(0x1000_0000));
+
+/// Whether the next turn stores the exit word, and marks the page.
+fn exits(machine: &mut Tested) -> bool {
+    match machine.step() {
+        Ok(turn) => {
+            (turn.event, turn.pc) == (ENDED, CODE + 4)
+                && turn.access.is_some()
+                && machine.pc() == CODE + 8
+                && root_entry(machine) == Some(0x6E)
+        }
+        Err(_) => false,
+    }
+}
+
+/// Whether the next turn tells the end again, and moves nothing.
+fn tells_the_end(machine: &mut Tested) -> bool {
+    match machine.step() {
+        Ok(turn) => {
+            (turn.event, turn.word, turn.access) == (ENDED, None, None) && machine.pc() == CODE + 8
+        }
+        Err(_) => false,
     }
 }
 
 #[test]
-fn an_exit_ends_the_machine(rt: HostRuntime) -> Result<(), PortFault> {
+fn an_exit_ends_the_machine(rt: HostRuntime) {
     // st %g1,[%g1] at the device
     let mut machine = machine(3, 0x20, &[0x03040000, 0xC2204000]);
-    assert_eq!(rt; machine.step()?.event, Event::Ran);
-    let ended = Event::Stopped(Stop::Exit(0x10000000));
-    let turn = machine.step()?;
-    assert_eq!(rt; turn.event, ended);
-    assert_eq!(rt; turn.pc, CODE + 4);
-    assert!(rt; turn.access.is_some());
-    assert_eq!(rt; machine.pc(), CODE + 8);
-    assert_eq!(rt; root_entry(&machine), Some(0x6E));
-    let again = machine.step()?;
-    assert_eq!(rt; again.event, ended);
-    assert_eq!(rt; again.word, None);
-    assert!(rt; again.access.is_none());
-    assert_eq!(rt; machine.pc(), CODE + 8);
-    Ok(())
+    assert!(rt; runs(&mut machine));
+    assert!(rt; exits(&mut machine));
+    assert!(rt; tells_the_end(&mut machine));
+}
+
+/// Whether Y, WIM and TBR are these.
+fn has_set(machine: &Tested, y: u32, wim: u32, tbr: u32) -> bool {
+    (machine.y(), machine.wim(), machine.tbr()) == (y, wim, tbr)
+}
+
+/// Whether a machine has booted, and kept the rest of its registers.
+fn has_booted(machine: &Tested) -> bool {
+    (machine.pc(), machine.npc(), machine.psr()) == (0x0004_0000, 0x0004_0004, 0x20)
+        && has_set(machine, 5, 2, 0xF000_0000)
+        && (machine.reg(Reg::SP), machine.reg(Reg::O7)) == (0x000F_FFC0, 9)
 }
 
 #[test]
 fn state_registers_are_set_and_read(rt: HostRuntime) {
     let mut machine = machine(3, 0x20, &[]);
-    assert!(rt; !machine.set_psr(0xFF));
-    assert_eq!(rt; machine.psr(), 0x20);
+    let is_set = machine.set_psr(0xFF);
+    assert!(rt; !is_set && machine.psr() == 0x20);
     machine.set_y(5);
     machine.set_wim(0x1FF);
     machine.set_tbr(0xABCD_EFFF);
     machine.set_reg(Reg::O7, 9);
-    assert_eq!(rt; machine.y(), 5);
-    assert_eq!(rt; machine.wim(), 0xFF);
-    assert_eq!(rt; machine.tbr(), 0xABCD_EFF0);
+    assert!(rt; has_set(&machine, 5, 0xFF, 0xABCD_EFF0));
     machine.boot();
-    assert_eq!(rt; machine.pc(), 0x0004_0000);
-    assert_eq!(rt; machine.npc(), 0x0004_0004);
-    assert_eq!(rt; machine.psr(), 0x20);
-    assert_eq!(rt; machine.wim(), 2);
-    assert_eq!(rt; machine.tbr(), 0xF000_0000);
-    assert_eq!(rt; machine.reg(Reg::SP), 0x000F_FFC0);
-    assert_eq!(rt; machine.reg(Reg::O7), 9);
-    assert_eq!(rt; machine.y(), 5);
+    assert!(rt; has_booted(&machine));
 }

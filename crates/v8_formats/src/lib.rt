@@ -9,8 +9,6 @@ ghost use Rattle.v8_formats.specs.Table.{meaning, table, IsCanonical, AreApart};
 mod encoding;
 mod fields;
 mod instr;
-#[cfg(test)]
-mod tests;
 
 pub use encoding::encode;
 use fields::{

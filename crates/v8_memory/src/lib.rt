@@ -8,6 +8,3 @@ mod ram;
 pub use memory::Memory;
 pub use port::Port;
 pub use ram::Ram;
-
-#[cfg(test)]
-mod tests;

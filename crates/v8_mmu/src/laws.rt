@@ -25,17 +25,3 @@ pub fn marks_two_bits()
 pub fn stores_one_number()
     ensures { StoresOneNumber }
 {}
-
-#[cfg(test)]
-mod tests {
-    use super::*;
-
-    #[test]
-    fn laws_return(_rt: HostRuntime) {
-        path_is_unique();
-        fault_is_unique();
-        no_fault_on_a_path();
-        marks_two_bits();
-        stores_one_number();
-    }
-}

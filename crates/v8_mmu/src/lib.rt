@@ -12,6 +12,3 @@ pub use bus::{Bus, BusFault, PortFault, Stop};
 pub use translation::{Found, MmuFault, MmuRegs, PageEntry};
 pub use v8_word::Size;
 pub use walks::{find_page, mark, mark_page, walk};
-
-#[cfg(test)]
-mod tests;

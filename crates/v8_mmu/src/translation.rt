@@ -12,7 +12,7 @@ pub struct MmuRegs {
 
 /// A translation: the physical address, the level (0 to 3) of the page's entry, and the places of the path's entries, of
 /// which the one of number `level` is the page's and those after it mean nothing.
-#[derive(Clone, Copy, PartialEq, Eq, Debug)]
+#[derive(Clone, Copy)]
 pub struct Found {
     pub pa: u64,
     pub level: usize,
@@ -22,7 +22,7 @@ pub struct Found {
 
 /// The entry of a page that an access may use: the physical address that is accessed, the entry's level (0 to 3), where the entry
 /// lies, and its word.
-#[derive(Clone, Copy, PartialEq, Eq, Debug)]
+#[derive(Clone, Copy)]
 pub struct PageEntry {
     pub pa: u64,
     pub level: usize,

@@ -11,8 +11,6 @@ mod printing;
 mod shape;
 mod statement;
 mod symbols;
-#[cfg(test)]
-mod tests;
 mod value;
 mod word;
 

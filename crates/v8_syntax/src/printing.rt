@@ -4,15 +4,16 @@ ghost use Rattle.std.specs.Fmt.{decimal, digit_glyph};
 ghost use Rattle.arrayvec.specs.ArrayString.{array_string_len};
 ghost use Rattle.v8_formats.specs.Spelling.{spelling};
 ghost use Rattle.v8_syntax.specs.Natives.{native_of};
+ghost use Rattle.v8_syntax.specs.declared.native.Native.TheVariants as natives;
 ghost use Rattle.v8_syntax.specs.Text.{group_text, register_text, special_text, signed_text, offset_text, operand_text, address_text, memory_text, target_text, three_text, load_text, store_text, elsewhere_text, trap_text, annul_text, hexadecimal, native_text, shown, text_of};
 
 use crate::mnemonic::{
     arithmetic_name, branch_name, load_alternate_name, load_name, shift_name, store_alternate_name,
     store_name, trap_name, window_name,
 };
-use crate::native::{Elsewhere, Native, Special, native_of};
+use crate::native::{Elsewhere, Loading, Native, Special, Storing, native_of};
 use arrayvec::ArrayString;
-use v8_formats::{Branch, Instr, Operand, Three, encode};
+use v8_formats::{Branch, Instr, Operand, Three, Two, Upper, encode};
 use v8_word::Reg;
 
 fn push_digit(out: &mut ArrayString<64>, digit: u32)
@@ -249,6 +250,77 @@ fn push_named(out: &mut ArrayString<64>, name: &str)
     out.push_str(" ");
 }
 
+fn print_load_elsewhere(op: Loading, fields: &Elsewhere, out: &mut ArrayString<64>)
+    requires { out.old.bytes ≡ [] }
+    ensures { out.new.bytes ≡ native_text (natives.LoadAlternate op fields.now) }
+{
+    push_named(out, load_alternate_name(op));
+    push_elsewhere(out, fields);
+    out.push_str(",");
+    push_register(out, fields.rd)
+}
+
+fn print_store_elsewhere(op: Storing, fields: &Elsewhere, out: &mut ArrayString<64>)
+    requires { out.old.bytes ≡ [] }
+    ensures { out.new.bytes ≡ native_text (natives.StoreAlternate op fields.now) }
+{
+    push_named(out, store_alternate_name(op));
+    push_register(out, fields.rd);
+    out.push_str(",");
+    push_elsewhere(out, fields)
+}
+
+fn print_read(special: Special, rd: Reg, out: &mut ArrayString<64>)
+    requires { out.old.bytes ≡ [] }
+    ensures { out.new.bytes ≡ native_text (natives.Read special rd) }
+{
+    out.push_str("rd ");
+    out.push_str(special_text(special));
+    out.push_str(",");
+    push_register(out, rd)
+}
+
+fn print_write(special: Special, fields: &Two, out: &mut ArrayString<64>)
+    requires { out.old.bytes ≡ [] }
+    ensures { out.new.bytes ≡ native_text (natives.Write special fields.now) }
+{
+    out.push_str("wr ");
+    push_register(out, fields.rs1);
+    out.push_str(",");
+    push_operand(out, &fields.operand2);
+    out.push_str(",");
+    out.push_str(special_text(special))
+}
+
+fn print_jump(fields: &Three, out: &mut ArrayString<64>)
+    requires { out.old.bytes ≡ [] }
+    ensures { out.new.bytes ≡ native_text (natives.Jump fields.now) }
+{
+    out.push_str("jmpl ");
+    push_address(out, fields.rs1, &fields.operand2);
+    out.push_str(",");
+    push_register(out, fields.rd)
+}
+
+fn print_branch(fields: &Branch, out: &mut ArrayString<64>)
+    requires { out.old.bytes ≡ [] }
+    ensures { out.new.bytes ≡ native_text (natives.Branch fields.now) }
+{
+    out.push_str(branch_name(fields.cond));
+    out.push_str(annul_text(fields));
+    push_target(out, fields.displacement)
+}
+
+fn print_set_high(fields: &Upper, out: &mut ArrayString<64>)
+    requires { out.old.bytes ≡ [] }
+    ensures { out.new.bytes ≡ native_text (natives.SetHigh fields.now) }
+{
+    out.push_str("sethi ");
+    push_decimal(out, fields.imm22);
+    out.push_str(",");
+    push_register(out, fields.rd)
+}
+
 fn print_native(native: &Native, out: &mut ArrayString<64>)
     requires { out.old.bytes ≡ [] }
     ensures { out.new.bytes ≡ native_text native.now }
@@ -274,38 +346,11 @@ fn print_native(native: &Native, out: &mut ArrayString<64>)
             push_named(out, store_name(*op));
             push_store(out, fields)
         }
-        Native::LoadAlternate(op, fields) => {
-            push_named(out, load_alternate_name(*op));
-            push_elsewhere(out, fields);
-            out.push_str(",");
-            push_register(out, fields.rd)
-        }
-        Native::StoreAlternate(op, fields) => {
-            push_named(out, store_alternate_name(*op));
-            push_register(out, fields.rd);
-            out.push_str(",");
-            push_elsewhere(out, fields)
-        }
-        Native::Read(special, rd) => {
-            out.push_str("rd ");
-            out.push_str(special_text(*special));
-            out.push_str(",");
-            push_register(out, *rd)
-        }
-        Native::Write(special, fields) => {
-            out.push_str("wr ");
-            push_register(out, fields.rs1);
-            out.push_str(",");
-            push_operand(out, &fields.operand2);
-            out.push_str(",");
-            out.push_str(special_text(*special))
-        }
-        Native::Jump(fields) => {
-            out.push_str("jmpl ");
-            push_address(out, fields.rs1, &fields.operand2);
-            out.push_str(",");
-            push_register(out, fields.rd)
-        }
+        Native::LoadAlternate(op, fields) => print_load_elsewhere(*op, fields, out),
+        Native::StoreAlternate(op, fields) => print_store_elsewhere(*op, fields, out),
+        Native::Read(special, rd) => print_read(*special, *rd, out),
+        Native::Write(special, fields) => print_write(*special, fields, out),
+        Native::Jump(fields) => print_jump(fields, out),
         Native::Return(fields) => {
             out.push_str("rett ");
             push_address(out, fields.rs1, &fields.operand2)
@@ -322,17 +367,8 @@ fn print_native(native: &Native, out: &mut ArrayString<64>)
             out.push_str("call ");
             push_target(out, *displacement)
         }
-        Native::Branch(fields) => {
-            out.push_str(branch_name(fields.cond));
-            out.push_str(annul_text(fields));
-            push_target(out, fields.displacement)
-        }
-        Native::SetHigh(fields) => {
-            out.push_str("sethi ");
-            push_decimal(out, fields.imm22);
-            out.push_str(",");
-            push_register(out, fields.rd)
-        }
+        Native::Branch(fields) => print_branch(fields, out),
+        Native::SetHigh(fields) => print_set_high(fields, out),
         Native::Unimp(number) => {
             out.push_str("unimp ");
             push_decimal(out, *number)

@@ -20,16 +20,3 @@ pub fn writes_one_place()
 pub fn outs_are_ins_below()
     ensures { OutsAreIns }
 {}
-
-#[cfg(test)]
-mod tests {
-    use super::*;
-
-    #[test]
-    fn laws_return(_rt: HostRuntime) {
-        reads_what_was_written();
-        reads_others_as_before();
-        writes_one_place();
-        outs_are_ins_below();
-    }
-}

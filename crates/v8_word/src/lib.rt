@@ -267,6 +267,3 @@ impl Cond {
         }
     }
 }
-
-#[cfg(test)]
-mod tests;

@@ -1,3 +1,5 @@
+use Rattle.std.proofs.lemmas.Grind.{common_steps}
+use Rattle.std.proofs.Common.{arith}
 use Rattle.v8_board.proofs.Placed.{placed_loaded, placed_maps}
 use Rattle.v8_board.proofs.board.Board.load.Goals as goal
 
@@ -10,3 +12,6 @@ pub returns-clause-loaded : goal.returns-clause-loaded
 returns-clause-loaded g c =
     let loaded = placed_loaded g.row.N c.args.image.now _ _ c.place.ensures.ram in
     rw c.boot.ensures.bus loaded
+
+pub returns-clause-start : goal.returns-clause-start
+returns-clause-start g c = grind (arith, common_steps)

@@ -1,0 +1,7 @@
+use Rattle.std.proofs.Common.{rules}
+use Rattle.sbx_asm.specs.Drafts.{numbered_line}
+use Rattle.sbx_asm.proofs.draft.Draft.begin_line.Goals as goal
+
+pub returns : goal.returns
+unfolding numbered_line
+returns c = search rules

@@ -1,0 +1,7 @@
+use Rattle.sbx_asm.specs.Drafts.{close_block}
+use Rattle.std.proofs.Common.{rules}
+use Rattle.sbx_asm.proofs.draft.Draft.close_block.Goals as goal
+
+pub returns : goal.returns
+unfolding close_block
+returns c = search rules

@@ -1,0 +1,7 @@
+use Rattle.sbx_asm.specs.Labels.{add}
+use Rattle.std.proofs.Common.{rules}
+use Rattle.sbx_asm.proofs.survey.Survey.add.Goals as goal
+
+pub returns-in-Some : goal.returns-in-Some
+unfolding add
+returns-in-Some c = search rules

@@ -1,0 +1,7 @@
+use Rattle.sbx_asm.specs.Labels.{survey_line}
+use Rattle.std.proofs.Common.{rules}
+use Rattle.sbx_asm.proofs.survey.Survey.add_line.Goals as goal
+
+pub returns-in-Err : goal.returns-in-Err
+unfolding survey_line
+returns-in-Err c = search rules

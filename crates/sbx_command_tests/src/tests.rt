@@ -1,0 +1,503 @@
+//! Commands on bytes that are or aren't images, over readers and writers that fail at one call.
+mod sources;
+
+use arrayvec::ArrayVec;
+use sbx_command::{Job, ReadFault, command, decimal, read_whole, turns};
+use std::alloc::Global;
+use std::io::{self, Read, Write};
+
+/// Gives a byte a call, and fails at call `fails`, counted from 1.
+#[derive(Drop)]
+struct Reader<'a> {
+    bytes: &'a [u8],
+    calls: usize,
+    fails: usize,
+}
+
+impl Reader<'_> {
+    fn new(bytes: &[u8], fails: usize) -> Reader<'_> {
+        Reader {
+            bytes,
+            calls: 0,
+            fails,
+        }
+    }
+}
+
+impl Read for Reader<'_> {
+    fn read(&mut self, buf: &mut [u8]) -> io::Result<usize> {
+        self.calls = self.calls.wrapping_add(1);
+        if self.calls == self.fails {
+            return Err(io::Error::from(io::ErrorKind::Other));
+        }
+        match self.bytes.split_first() {
+            Some((first, rest)) => {
+                if buf.is_empty() {
+                    return Ok(0);
+                }
+                buf[0] = *first;
+                self.bytes = rest;
+                Ok(1)
+            }
+            None => Ok(0),
+        }
+    }
+}
+
+/// Keeps what is written, and fails at call `fails`, counted from 1, flushes among the calls. Its room is its own, so
+/// that no refused growth is its.
+#[derive(Drop)]
+struct Writer {
+    kept: ArrayVec<u8, 1024>,
+    calls: usize,
+    fails: usize,
+}
+
+impl Writer {
+    fn new(fails: usize) -> Writer {
+        Writer {
+            kept: ArrayVec::new(),
+            calls: 0,
+            fails,
+        }
+    }
+
+    fn call(&mut self) -> io::Result<()> {
+        self.calls = self.calls.wrapping_add(1);
+        if self.calls == self.fails {
+            return Err(io::Error::from(io::ErrorKind::Other));
+        }
+        Ok(())
+    }
+}
+
+impl Write for Writer {
+    fn write(&mut self, buf: &[u8]) -> io::Result<usize> {
+        self.call()?;
+        match self.kept.try_extend_from_slice(buf) {
+            Ok(()) => Ok(buf.len()),
+            Err(_) => Err(io::Error::from(io::ErrorKind::OutOfMemory)),
+        }
+    }
+
+    fn flush(&mut self) -> io::Result<()> {
+        self.call()
+    }
+}
+
+/// Puts `H` and `i` and exits with 0.
+const HELLO: [u8; 86] = [
+    0x53, 0x42, 0x58, 0x38, 0x00, 0x01, 0x00, 0x05, 0x00, 0x00, 0x00, 0x06, 0x00, 0x00, 0x00, 0x00,
+    0x00, 0x01, 0x00, 0x01, 0x90, 0x10, 0x20, 0x48, 0x91, 0xD0, 0x20, 0x02, 0x90, 0x10, 0x20, 0x69,
+    0x91, 0xD0, 0x20, 0x02, 0x90, 0x10, 0x20, 0x00, 0x91, 0xD0, 0x20, 0x00, 0x00, 0x00, 0x00, 0x00,
+    0x00, 0x04, 0x00, 0x00, 0x00, 0x00, 0x00, 0x00, 0x00, 0x00, 0x00, 0x00, 0x00, 0x00, 0x00, 0x00,
+    0x00, 0x00, 0x00, 0x10, 0x00, 0x01, 0x00, 0x04, 0x00, 0x00, 0x00, 0x00, 0x00, 0x00, 0x00, 0x00,
+    0x00, 0x00, 0x00, 0x00, 0x00, 0x10,
+];
+
+const VERIFY: Job<'static> = Job::Verify { image: "a.img" };
+
+const RUN: Job<'static> = Job::Run { image: "a.img" };
+
+const LIST: Job<'static> = Job::List { image: "a.img" };
+
+const TRACE: Job<'static> = Job::Trace {
+    image: "a.img",
+    limit: 100_000,
+};
+
+const TRACE_OF_TWO: Job<'static> = Job::Trace {
+    image: "a.img",
+    limit: 2,
+};
+
+const TRACE_OF_NONE: Job<'static> = Job::Trace {
+    image: "a.img",
+    limit: 0,
+};
+
+const MEMORY: &[u8] = b"memory\n";
+
+const TWO_TURNS: &[u8] = b"0000000001 00 u 00040000 90102048 ran
+0000000002 00 u 00040004 91D02002 trap 82
+";
+
+const LAST_TURN: &[u8] = b"\n0000000016 07 s F0000804 F024E008 exit 00000000\n";
+
+const LISTING: &[u8] = b"00040000 90102048 or %g0,72,%o0
+00040004 91D02002 ta 2
+00040008 90102069 or %g0,105,%o0
+0004000C 91D02002 ta 2
+00040010 90102000 or %g0,0,%o0
+00040014 91D02000 ta 0
+";
+
+/// A command, the calls at which its file, its input and its output fail (0: none), and what it has to answer.
+#[derive(Clone, Copy)]
+struct Case<'a> {
+    job: Job<'a>,
+    file: &'a [u8],
+    fails: [usize; 3],
+    status: u8,
+    out: &'a [u8],
+    err: &'a [u8],
+}
+
+/// What a command told: its status and its two outputs.
+#[derive(Drop)]
+struct Told {
+    status: u8,
+    out: Writer,
+    err: Writer,
+}
+
+impl Told {
+    /// One try of a job on a file.
+    fn of(alloc: Global, job: &Job<'_>, file: &[u8], fails: [usize; 3]) -> Told {
+        let [file_fails, input_fails, out_fails] = fails;
+        let mut file = Reader::new(file, file_fails);
+        let mut input = Reader::new(b"abc", input_fails);
+        let mut out = Writer::new(out_fails);
+        let mut err = Writer::new(0);
+        let status = command(alloc, job, &mut file, &mut input, &mut out, &mut err);
+        Told { status, out, err }
+    }
+
+    fn is_want_of_memory(&self) -> bool {
+        self.status == 5 && self.err.kept.as_slice() == MEMORY
+    }
+}
+
+/// What a job tells. Where it tells want of memory, it is tried once more, and what it had put out until then has to be
+/// where the whole output begins; every other answer is the first one.
+fn answer_of(alloc: Global, job: &Job<'_>, file: &[u8], fails: [usize; 3]) -> Told {
+    let first = Told::of(alloc, job, file, fails);
+    if !first.is_want_of_memory() {
+        return first;
+    }
+    let second = Told::of(alloc, job, file, fails);
+    let whole = second.out.kept.as_slice();
+    if whole.starts_with(first.out.kept.as_slice()) {
+        second
+    } else {
+        first
+    }
+}
+
+/// Whether the command answers as it has to.
+fn is_answered(alloc: Global, case: &Case<'_>) -> bool {
+    let told = answer_of(alloc, &case.job, case.file, case.fails);
+    told.status == case.status
+        && told.out.kept.as_slice() == case.out
+        && told.err.kept.as_slice() == case.err
+}
+
+/// What is read of a reader that fails at a call. Where a growth was refused, it is read once more.
+fn read(alloc: Global, bytes: &[u8], most: usize, fails: usize) -> Result<Vec<u8>, ReadFault> {
+    match read_whole(alloc, &mut Reader::new(bytes, fails), most) {
+        Err(ReadFault::Memory) => read_whole(alloc, &mut Reader::new(bytes, fails), most),
+        first => first,
+    }
+}
+
+/// Bytes, the bound, the call that fails, and what is read.
+type Reading = (
+    &'static [u8],
+    usize,
+    usize,
+    Result<&'static [u8], ReadFault>,
+);
+
+/// Whether the bytes are read as wanted.
+fn is_read(alloc: Global, (bytes, most, fails, wanted): Reading) -> bool {
+    match read(alloc, bytes, most, fails) {
+        Ok(found) => Ok(found.as_slice()) == wanted,
+        Err(fault) => Err(fault) == wanted,
+    }
+}
+
+const READINGS: [Reading; 7] = [
+    (b"", 0, 0, Ok(b"")),
+    (b"abc", 3, 0, Ok(b"abc")),
+    (b"abc", 4, 0, Ok(b"abc")),
+    (b"abc", 2, 0, Err(ReadFault::TooLong)),
+    (b"abc", 3, 1, Err(ReadFault::Reader)),
+    (b"abc", 3, 4, Err(ReadFault::Reader)),
+    (b"abc", 3, 5, Ok(b"abc")),
+];
+
+/// The sample with the bytes from `place` on replaced.
+fn changed(place: usize, bytes: &[u8]) -> [u8; 86] {
+    let mut image = HELLO;
+    for (old, new) in image.iter_mut().skip(place).zip(bytes) {
+        *old = *new;
+    }
+    image
+}
+
+#[test]
+fn reads_within_a_bound(rt: HostRuntime) {
+    for reading in READINGS {
+        assert!(rt; is_read(rt.alloc(), reading), "at {reading:?}");
+    }
+}
+
+/// Texts, and the number that they spell by digits alone, up to 9.
+const DECIMALS: [(&str, Option<u64>); 10] = [
+    ("0", Some(0)),
+    ("007", Some(7)),
+    ("9", Some(9)),
+    ("10", None),
+    ("", None),
+    ("+8", None),
+    ("-8", None),
+    ("8 ", None),
+    ("0x8", None),
+    ("٨", None),
+];
+
+#[test]
+fn reads_decimal_digits_alone(rt: HostRuntime) {
+    for (text, wanted) in DECIMALS {
+        assert!(rt; decimal(text, 9) == wanted, "at {text}");
+    }
+}
+
+/// Texts, and the limit of turns that they give.
+const LIMITS: [(Option<&str>, Option<u64>); 6] = [
+    (None, Some(100_000)),
+    (Some("0"), Some(0)),
+    (Some("9999999999"), Some(9_999_999_999)),
+    (Some("10000000000"), None),
+    (Some("+8"), None),
+    (Some(""), None),
+];
+
+#[test]
+fn reads_a_limit_of_turns(rt: HostRuntime) {
+    for (text, wanted) in LIMITS {
+        assert!(rt; turns(text) == wanted, "at {text:?}");
+    }
+}
+
+/// The sample and a byte after it.
+fn longer() -> [u8; 87] {
+    let mut image = [0; 87];
+    for (new, old) in image.iter_mut().zip(HELLO) {
+        *new = old;
+    }
+    image
+}
+
+/// A command on whole bytes that has to answer with status 2 and a line.
+fn refused<'a>(job: Job<'a>, file: &'a [u8], err: &'a [u8]) -> Case<'a> {
+    Case {
+        job,
+        file,
+        fails: [0, 0, 0],
+        status: 2,
+        out: b"",
+        err,
+    }
+}
+
+/// The sample with one param, whose range is from 5 to 4.
+const RANGE: [u8; 95] = [
+    0x53, 0x42, 0x58, 0x38, 0x00, 0x01, 0x00, 0x05, 0x00, 0x00, 0x00, 0x06, 0x00, 0x00, 0x00, 0x00,
+    0x00, 0x01, 0x00, 0x01, 0x90, 0x10, 0x20, 0x48, 0x91, 0xD0, 0x20, 0x02, 0x90, 0x10, 0x20, 0x69,
+    0x91, 0xD0, 0x20, 0x02, 0x90, 0x10, 0x20, 0x00, 0x91, 0xD0, 0x20, 0x00, 0x00, 0x01, 0x00, 0x00,
+    0x00, 0x04, 0x00, 0x00, 0x00, 0x00, 0x00, 0x00, 0x00, 0x00, 0x00, 0x00, 0x00, 0x00, 0x00, 0x00,
+    0x00, 0x00, 0x00, 0x10, 0x00, 0x01, 0x00, 0x00, 0x00, 0x05, 0x00, 0x00, 0x00, 0x04, 0x00, 0x00,
+    0x04, 0x00, 0x00, 0x00, 0x00, 0x00, 0x00, 0x00, 0x00, 0x00, 0x00, 0x00, 0x00, 0x00, 0x10,
+];
+
+/// Whether `verify`, `run` and `list` all answer with status 2 and the line.
+fn are_refused<'a>(alloc: Global, file: &'a [u8], line: &'a [u8]) -> bool {
+    is_answered(alloc, &refused(VERIFY, file, line))
+        && is_answered(alloc, &refused(RUN, file, line))
+        && is_answered(alloc, &refused(LIST, file, line))
+}
+
+#[test]
+fn refuses_an_image_that_is_cut(rt: HostRuntime) {
+    for end in 0..86usize {
+        assert!(rt;
+            are_refused(rt.alloc(), &HELLO[..end], b"image I1\n"),
+            "at {end}"
+        );
+    }
+}
+
+#[test]
+fn refuses_what_is_longer(rt: HostRuntime) {
+    let alloc = rt.alloc();
+    assert!(rt; are_refused(alloc, &longer(), b"image I6\n"), "a byte more");
+    assert!(rt; are_refused(alloc, &RANGE, b"image I8\n"), "a param 5 to 4");
+}
+
+/// Bytes of the sample that are replaced from a place on, and the line that tells of it.
+type Change = (usize, &'static [u8], &'static [u8]);
+
+/// Samples that are no image.
+const BAD: [Change; 5] = [
+    (0, &[0x54], b"image I2\n"),
+    (4, &[0, 2], b"image I3\n"),
+    (6, &[0, 8], b"image I4\n"),
+    (60, &[0, 0, 1, 0, 0, 0, 0, 0], b"image I5\n"),
+    (48, &[0, 4, 0, 4], b"image I7\n"),
+];
+
+/// Whether `verify`, `run` and `list` all refuse the changed sample.
+fn is_change_refused(alloc: Global, (place, bytes, line): Change) -> bool {
+    are_refused(alloc, &changed(place, bytes), line)
+}
+
+#[test]
+fn refuses_what_is_bad(rt: HostRuntime) {
+    for change in BAD {
+        assert!(rt; is_change_refused(rt.alloc(), change), "at {change:?}");
+    }
+}
+
+/// Samples that break a rule.
+const RULES: [Change; 4] = [
+    // fuel and budget 15
+    (
+        60,
+        &[
+            0, 0, 0, 0, 0, 0, 0, 15, 0, 1, 0, 4, 0, 0, 0, 0, 0, 0, 0, 0, 0, 0, 0, 0, 0, 15,
+        ],
+        b"refused V14 in function 0 at 00040014\n",
+    ),
+    // put alone, exit alone
+    (6, &[0, 4], b"refused V12 in function 0 at 00040014\n"),
+    (6, &[0, 1], b"refused V12 in function 0 at 00040004\n"),
+    // restore %g0,%g0,%g0 with an unused bit set
+    (
+        20,
+        &[0x81, 0xE8, 0, 0x20],
+        b"refused V1 in function 0 at 00040000\n",
+    ),
+];
+
+/// Whether `verify` and `run` both refuse the changed sample.
+fn is_rule_named(alloc: Global, (place, bytes, line): Change) -> bool {
+    let image = changed(place, bytes);
+    is_answered(alloc, &refused(VERIFY, &image, line))
+        && is_answered(alloc, &refused(RUN, &image, line))
+}
+
+#[test]
+fn refuses_what_breaks_a_rule(rt: HostRuntime) {
+    for change in RULES {
+        assert!(rt; is_rule_named(rt.alloc(), change), "at {change:?}");
+    }
+}
+
+/// A job on the sample, the calls that fail, and the status, the output and the line that it has to end with.
+type End = (Job<'static>, [usize; 3], u8, &'static [u8], &'static [u8]);
+
+/// Ends of `list` and `verify`.
+const LISTS_AND_VERDICTS: [End; 10] = [
+    (LIST, [0, 0, 0], 0, LISTING, b""),
+    (LIST, [1, 0, 0], 4, b"", b"file\n"),
+    (LIST, [86, 0, 0], 4, b"", b"file\n"),
+    (LIST, [87, 0, 0], 4, b"", b"file\n"),
+    (LIST, [88, 0, 0], 0, LISTING, b""),
+    (LIST, [0, 0, 1], 4, b"", b"output\n"),
+    (VERIFY, [0, 0, 0], 0, b"accepted\n", b""),
+    (VERIFY, [87, 0, 0], 4, b"", b"file\n"),
+    (VERIFY, [0, 0, 1], 4, b"", b"output\n"),
+    (VERIFY, [0, 0, 2], 4, b"accepted\n", b"output\n"),
+];
+
+/// Ends of `run`.
+const RUNS: [End; 7] = [
+    (RUN, [0, 0, 0], 0, b"Hi", b""),
+    (RUN, [87, 1, 1], 4, b"", b"file\n"),
+    (RUN, [0, 1, 1], 4, b"", b"input\n"),
+    (RUN, [0, 4, 0], 4, b"", b"input\n"),
+    (RUN, [0, 5, 0], 0, b"Hi", b""),
+    (RUN, [0, 0, 1], 4, b"", b"output\n"),
+    (RUN, [0, 0, 2], 4, b"Hi", b"output\n"),
+];
+
+/// Ends of `trace`.
+const TRACES: [End; 9] = [
+    (TRACE_OF_TWO, [0, 0, 0], 0, TWO_TURNS, b""),
+    (TRACE_OF_TWO, [87, 1, 1], 4, b"", b"file\n"),
+    (TRACE_OF_TWO, [0, 1, 1], 4, b"", b"input\n"),
+    (TRACE_OF_TWO, [0, 0, 1], 4, b"", b"output\n"),
+    (TRACE_OF_TWO, [0, 0, 3], 4, TWO_TURNS, b"output\n"),
+    (TRACE_OF_NONE, [0, 0, 0], 0, b"", b""),
+    (TRACE_OF_NONE, [0, 4, 0], 4, b"", b"input\n"),
+    (TRACE_OF_NONE, [0, 0, 1], 4, b"", b"output\n"),
+    (TRACE, [0, 0, 1], 4, b"", b"output\n"),
+];
+
+/// Whether a job ends as it has to.
+fn is_ended(alloc: Global, (job, fails, status, out, err): End) -> bool {
+    let case = Case {
+        job,
+        file: &HELLO,
+        fails,
+        status,
+        out,
+        err,
+    };
+    is_answered(alloc, &case)
+}
+
+#[test]
+fn lists_and_verifies_up_to_a_fault(rt: HostRuntime) {
+    for end in LISTS_AND_VERDICTS {
+        assert!(rt; is_ended(rt.alloc(), end), "at {end:?}");
+    }
+}
+
+#[test]
+fn runs_up_to_a_fault(rt: HostRuntime) {
+    for end in RUNS {
+        assert!(rt; is_ended(rt.alloc(), end), "at {end:?}");
+    }
+}
+
+#[test]
+fn traces_up_to_a_fault(rt: HostRuntime) {
+    for end in TRACES {
+        assert!(rt; is_ended(rt.alloc(), end), "at {end:?}");
+    }
+}
+
+#[test]
+fn ends_with_the_exit_word(rt: HostRuntime) {
+    let one = changed(36, &[0x90, 0x10, 0x20, 0x01]);
+    let case = Case {
+        job: RUN,
+        file: &one,
+        fails: [0, 0, 0],
+        status: 1,
+        out: b"Hi",
+        err: b"",
+    };
+    assert!(rt; is_answered(rt.alloc(), &case), "exit word 1");
+}
+
+/// Whether a whole trace of the image in the file is written, and nothing else.
+fn is_traced_to_the_end(alloc: Global, file: &[u8]) -> bool {
+    let told = answer_of(alloc, &TRACE, file, [0, 0, 0]);
+    let lines = told.out.kept.as_slice();
+    told.status == 0
+        && lines.starts_with(TWO_TURNS)
+        && lines.ends_with(LAST_TURN)
+        && told.err.kept.is_empty()
+}
+
+/// A whole trace ends with the exit; the image need not be one that is accepted.
+#[test]
+fn traces_to_the_end(rt: HostRuntime) {
+    let little = changed(60, &[0, 0, 0, 0, 0, 0, 0, 0x0F]);
+    for file in [&HELLO, &little] {
+        assert!(rt; is_traced_to_the_end(rt.alloc(), file));
+    }
+}

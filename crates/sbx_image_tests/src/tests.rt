@@ -1,0 +1,448 @@
+//! The format's worked images, its bounds, and parts.
+use sbx_image::{
+    Block, Cell, Function, Image, ImageFault, Items, Kind, Parts, Range, Services, parse, write,
+};
+use std::alloc::{AllocError, Global};
+
+/// The image that writes `Hi`: exit and put, six words, one leaf with one block.
+const HELLO: [u8; 86] = [
+    83, 66, 88, 56, 0, 1, 0, 5, 0, 0, 0, 6, 0, 0, 0, 0, 0, 1, 0, 1, 144, 16, 32, 72, 145, 208, 32,
+    2, 144, 16, 32, 105, 145, 208, 32, 2, 144, 16, 32, 0, 145, 208, 32, 0, 0, 0, 0, 0, 0, 4, 0, 0,
+    0, 0, 0, 0, 0, 0, 0, 0, 0, 0, 0, 0, 0, 0, 0, 16, 0, 1, 0, 4, 0, 0, 0, 0, 0, 0, 0, 0, 0, 0, 0,
+    0, 0, 16,
+];
+
+/// Two functions, a result, a param, three blocks, cells and terms.
+const CALLS: [u8; 212] = [
+    83, 66, 88, 56, 0, 1, 0, 7, 0, 0, 0, 8, 0, 0, 0, 8, 0, 16, 0, 2, 1, 0, 0, 0, 1, 0, 0, 0, 1, 0,
+    0, 0, 1, 0, 0, 0, 1, 0, 0, 0, 1, 0, 0, 0, 1, 0, 0, 0, 1, 0, 0, 0, 97, 98, 99, 100, 101, 102,
+    103, 104, 1, 0, 1, 0, 0, 4, 0, 0, 0, 0, 0, 96, 0, 0, 0, 96, 0, 0, 0, 0, 0, 0, 0, 39, 0, 2, 255,
+    255, 255, 251, 0, 0, 0, 5, 0, 0, 4, 0, 0, 0, 0, 0, 0, 0, 0, 0, 0, 0, 0, 0, 39, 0, 4, 0, 8, 0,
+    2, 0, 2, 255, 255, 255, 255, 255, 255, 255, 254, 0, 8, 128, 0, 0, 0, 127, 255, 255, 255, 3, 4,
+    15, 0, 0, 0, 0, 0, 0, 0, 0, 0, 0, 8, 255, 255, 255, 255, 0, 16, 127, 255, 255, 255, 0, 1, 0, 0,
+    0, 4, 0, 16, 0, 0, 0, 0, 0, 0, 0, 0, 0, 0, 0, 0, 0, 0, 0, 2, 0, 1, 0, 0, 0, 0, 0, 0, 0, 254, 2,
+    0, 4, 0, 16, 0, 0, 0, 0, 0, 0, 0, 0, 0, 0, 0, 2,
+];
+
+/// What is read of bytes. Where a growth was refused, they are read once more.
+fn read(alloc: Global, bytes: &[u8]) -> Result<Image, ImageFault> {
+    match parse(alloc, bytes) {
+        Err(ImageFault::Memory) => parse(alloc, bytes),
+        first => first,
+    }
+}
+
+/// The bytes of an image. Where a growth was refused, they are written once more.
+fn written(alloc: Global, image: &Image) -> Result<Vec<u8>, AllocError> {
+    match write(image, alloc) {
+        Err(AllocError) => write(image, alloc),
+        first => first,
+    }
+}
+
+/// Whether bytes get the fault; none where they are an image.
+fn is_told(alloc: Global, bytes: &[u8], wanted: Option<ImageFault>) -> bool {
+    match read(alloc, bytes) {
+        Ok(_) => wanted.is_none(),
+        Err(fault) => wanted == Some(fault),
+    }
+}
+
+/// Whether an image is written as the bytes that it was read from.
+fn is_written_back(alloc: Global, bytes: &[u8]) -> bool {
+    let Ok(image) = read(alloc, bytes) else {
+        return false;
+    };
+    match written(alloc, &image) {
+        Ok(text) => text.as_slice() == bytes,
+        Err(AllocError) => false,
+    }
+}
+
+/// The code of `HELLO`.
+const WORDS: [u32; 6] = [
+    0x9010_2048,
+    0x91D0_2002,
+    0x9010_2069,
+    0x91D0_2002,
+    0x9010_2000,
+    0x91D0_2000,
+];
+
+/// Whether each block is the one of `HELLO`.
+fn are_blocks_of_hello(blocks: &[Block]) -> bool {
+    blocks.len() == 1
+        && blocks
+            .iter()
+            .all(|block| block.address == 0x40000 && block.fuel == 16)
+}
+
+/// Whether each function is the one of `HELLO`.
+fn are_functions_of_hello(functions: &[Function]) -> bool {
+    functions.len() == 1
+        && functions.iter().all(|function| {
+            function.kind == Kind::Leaf
+                && function.entry == 0x40000
+                && function.budget == 16
+                && are_blocks_of_hello(function.blocks.as_slice())
+        })
+}
+
+/// Whether each reader of an image gives what `HELLO` says.
+fn is_hello(image: &Image) -> bool {
+    image.services() == Services::EXIT | Services::PUT
+        && image.words() == WORDS.as_slice()
+        && image.word_count() == 6
+        && image.bytes().is_empty()
+        && image.byte_count() == 0
+        && image.stack_pages() == 1
+        && image.function_count() == 1
+        && are_functions_of_hello(image.functions())
+}
+
+#[test]
+fn reads_the_fields(rt: HostRuntime) {
+    let is_read = match read(rt.alloc(), &HELLO) {
+        Ok(image) => is_hello(&image),
+        Err(_) => false,
+    };
+    assert!(rt; is_read);
+}
+
+#[test]
+fn writes_what_was_read(rt: HostRuntime) {
+    assert!(rt; is_written_back(rt.alloc(), &HELLO), "HELLO");
+    assert!(rt; is_written_back(rt.alloc(), &CALLS), "CALLS");
+}
+
+#[test]
+fn tells_the_end_of_the_bytes(rt: HostRuntime) {
+    for end in 0..86usize {
+        assert!(rt;
+            is_told(rt.alloc(), &HELLO[..end], Some(ImageFault::Short)),
+            "at {end}"
+        );
+    }
+    let mut longer = [0u8; 87];
+    longer[..86].copy_from_slice(&HELLO);
+    assert!(rt;
+        is_told(rt.alloc(), &longer, Some(ImageFault::Trailing)),
+        "a byte more"
+    );
+}
+
+/// Bytes of `CALLS` that are replaced from a place on, and the fault that they get; none where they are an image.
+type Change = (usize, &'static [u8], Option<ImageFault>);
+
+/// Changes of the header.
+const OF_HEADER: [Change; 18] = [
+    (0, &[82], Some(ImageFault::Magic)),
+    (4, &[0, 2], Some(ImageFault::Version)),
+    (4, &[0, 0], Some(ImageFault::Version)),
+    (6, &[0, 8], Some(ImageFault::Service)),
+    (6, &[0, 0], None),
+    (8, &[0, 0, 0, 0], Some(ImageFault::Limit)),
+    (8, &[0, 1, 0, 1], Some(ImageFault::Limit)),
+    (8, &[0, 1, 0, 0], Some(ImageFault::Short)), // the count passes, the words are short
+    (12, &[0, 0, 0, 4], Some(ImageFault::Limit)),
+    (12, &[0, 4, 0, 8], Some(ImageFault::Limit)),
+    (12, &[0, 4, 0, 0], Some(ImageFault::Short)),
+    (16, &[0, 0], Some(ImageFault::Limit)),
+    (16, &[0, 17], Some(ImageFault::Limit)),
+    (16, &[0, 1], None),
+    (18, &[0, 0], Some(ImageFault::Limit)),
+    (18, &[1, 1], Some(ImageFault::Limit)),
+    (18, &[1, 0], Some(ImageFault::Short)),
+    (18, &[0, 1], Some(ImageFault::Trailing)),
+];
+
+/// Changes of functions' heads and ranges.
+const OF_FUNCTIONS: [Change; 24] = [
+    (60, &[2], Some(ImageFault::Limit)),
+    (60, &[0], None),
+    (61, &[7], Some(ImageFault::Limit)),
+    (62, &[7], Some(ImageFault::Limit)),
+    (63, &[1], Some(ImageFault::Limit)),
+    (64, &[0, 4, 0, 4], Some(ImageFault::Order)),
+    (68, &[0, 0, 16, 0], None),
+    (68, &[0, 0, 16, 1], Some(ImageFault::Limit)),
+    (72, &[0, 1, 0, 0], None),
+    (72, &[0, 1, 0, 1], Some(ImageFault::Limit)),
+    (76, &[0, 0, 0, 255, 255, 255, 255, 255], None),
+    (76, &[0, 0, 1, 0, 0, 0, 0, 0], Some(ImageFault::Limit)),
+    (84, &[0, 0], Some(ImageFault::Limit)),
+    (84, &[16, 1], Some(ImageFault::Limit)),
+    (86, &[0, 0, 0, 5], None), // lo is hi
+    (86, &[0, 0, 0, 6], Some(ImageFault::Range)),
+    (94, &[3], None),
+    (94, &[4], Some(ImageFault::Range)),
+    (165, &[0, 4, 0, 8], Some(ImageFault::Order)),
+    (165, &[0, 4, 0, 32], Some(ImageFault::Order)),
+    (196, &[0, 4, 0, 20], Some(ImageFault::Order)),
+    (187, &[0, 0, 0, 5, 0, 0, 0, 4], Some(ImageFault::Range)),
+    (185, &[15, 254], Some(ImageFault::Short)), // 4,096 blocks in all
+    (185, &[15, 255], Some(ImageFault::Limit)),
+];
+
+/// Changes of blocks, cells and terms.
+const OF_BLOCKS: [Change; 25] = [
+    (95, &[0, 4, 0, 4], Some(ImageFault::Order)),
+    (99, &[0, 65], Some(ImageFault::Limit)),
+    (101, &[0, 9], Some(ImageFault::Limit)),
+    (103, &[0, 0, 0, 255, 255, 255, 255, 255], None),
+    (103, &[0, 0, 1, 0, 0, 0, 0, 0], Some(ImageFault::Limit)),
+    (103, &[255, 255, 255, 0, 0, 0, 0, 1], None),
+    (
+        103,
+        &[255, 255, 255, 0, 0, 0, 0, 0],
+        Some(ImageFault::Limit),
+    ),
+    (111, &[0, 4, 0, 0], Some(ImageFault::Order)),
+    (111, &[0, 4, 0, 4], None),
+    (111, &[0, 4, 0, 6], Some(ImageFault::Order)),
+    (111, &[0, 4, 0, 32], Some(ImageFault::Order)),
+    (111, &[0, 4, 0, 28], Some(ImageFault::Order)), // the next entry is not above it
+    (127, &[0, 0], Some(ImageFault::Limit)),
+    (127, &[0, 1], None),
+    (127, &[4, 14], None),
+    (127, &[4, 15], Some(ImageFault::Order)),
+    (138, &[4, 16], Some(ImageFault::Limit)),
+    (138, &[0, 8], Some(ImageFault::Order)),
+    (138, &[0, 0], Some(ImageFault::Limit)), // 0 and out of order
+    (149, &[0, 0], Some(ImageFault::Limit)),
+    (155, &[0, 8], Some(ImageFault::Order)),
+    (155, &[0, 9], None),
+    (155, &[4, 16], Some(ImageFault::Limit)),
+    (151, &[0, 0, 0, 0], Some(ImageFault::Limit)),
+    (151, &[0, 0, 0, 1], None),
+];
+
+/// `CALLS` with the bytes from a place on replaced.
+fn changed(place: usize, change: &[u8]) -> [u8; 212] {
+    let mut bytes = CALLS;
+    for (old, new) in bytes.iter_mut().skip(place).zip(change) {
+        *old = *new;
+    }
+    bytes
+}
+
+/// Whether `CALLS` gets the fault of a change.
+fn is_change_told(alloc: Global, (place, change, wanted): Change) -> bool {
+    is_told(alloc, &changed(place, change), wanted)
+}
+
+#[test]
+fn tells_the_first_bad_field_of_the_header(rt: HostRuntime) {
+    for change in OF_HEADER {
+        assert!(rt; is_change_told(rt.alloc(), change), "at {change:?}");
+    }
+}
+
+#[test]
+fn tells_the_first_bad_field_of_functions(rt: HostRuntime) {
+    for change in OF_FUNCTIONS {
+        assert!(rt; is_change_told(rt.alloc(), change), "at {change:?}");
+    }
+}
+
+#[test]
+fn tells_the_first_bad_field_of_blocks(rt: HostRuntime) {
+    for change in OF_BLOCKS {
+        assert!(rt; is_change_told(rt.alloc(), change), "at {change:?}");
+    }
+}
+
+/// Whether parts with so many pages and words get the fault, and come back as they are.
+fn are_told(parts: Parts, pages: u16, words: usize, wanted: Option<ImageFault>) -> bool {
+    match Image::from_parts(parts) {
+        Ok(image) => wanted.is_none() && image.stack_pages() == pages,
+        Err((back, fault)) => {
+            wanted == Some(fault) && back.stack_pages == pages && back.words.len() == words
+        }
+    }
+}
+
+/// The parts of `CALLS` with other services, pages of stack, and another first entry.
+fn changed_parts(image: Image, services: u16, pages: u16, entry: u32) -> Parts {
+    let Parts {
+        words,
+        bytes,
+        functions,
+        ..
+    } = image.into_parts();
+    let mut functions = functions.into_vec();
+    if let Some(first) = functions.first_mut() {
+        first.entry = entry;
+    }
+    Parts {
+        services: Services(services),
+        words,
+        bytes,
+        stack_pages: pages,
+        functions: Items::new(functions),
+    }
+}
+
+/// Services, pages of stack, the first entry, and the fault.
+const PARTS: [(u16, u16, u32, Option<ImageFault>); 7] = [
+    (7, 16, 0x40000, None),
+    (8, 16, 0x40000, Some(ImageFault::Service)),
+    (7, 0, 0x40000, Some(ImageFault::Limit)),
+    (7, 1, 0x40000, None),
+    (7, 17, 0x40000, Some(ImageFault::Limit)),
+    (7, 16, 0x40004, Some(ImageFault::Order)),
+    (8, 17, 0x40004, Some(ImageFault::Service)),
+];
+
+#[test]
+fn parts(rt: HostRuntime) {
+    for (services, pages, entry, wanted) in PARTS {
+        let is_right = match read(rt.alloc(), &CALLS) {
+            Ok(image) => are_told(
+                changed_parts(image, services, pages, entry),
+                pages,
+                8,
+                wanted,
+            ),
+            Err(_) => false,
+        };
+        assert!(rt; is_right, "at {services} {pages} {entry}");
+    }
+}
+
+const GOOD: Range = Range {
+    lo: 5,
+    hi: 5,
+    alignment: 3,
+};
+
+/// Its ends are exchanged.
+const BAD: Range = Range {
+    lo: 5,
+    hi: 4,
+    alignment: 0,
+};
+
+/// Its alignment is above 3.
+const SLANTED: Range = Range {
+    lo: 4,
+    hi: 5,
+    alignment: 4,
+};
+
+/// How many params of a range, the frame, how many cells of that range, whether they go up, and the fault.
+const SMALL: [(usize, Range, u32, u16, bool, Option<ImageFault>); 17] = [
+    (0, GOOD, 4096, 0, true, None),
+    (6, GOOD, 0, 64, true, None),
+    (1, BAD, 0, 0, true, Some(ImageFault::Range)),
+    (1, SLANTED, 0, 0, true, Some(ImageFault::Range)),
+    (0, BAD, 0, 1, true, Some(ImageFault::Range)),
+    (7, GOOD, 0, 0, true, Some(ImageFault::Limit)),
+    (257, GOOD, 0, 0, true, Some(ImageFault::Limit)), // its count is one byte
+    (256, GOOD, 0, 0, true, Some(ImageFault::Limit)),
+    (0, GOOD, 4097, 0, true, Some(ImageFault::Limit)),
+    (0, GOOD, 0, 65, true, Some(ImageFault::Limit)),
+    (0, GOOD, 0, 2, false, Some(ImageFault::Order)),
+    (0, GOOD, 0, 65, false, Some(ImageFault::Limit)), // their number stands before them
+    (7, BAD, 0, 0, true, Some(ImageFault::Limit)),
+    (1, BAD, 4097, 0, true, Some(ImageFault::Limit)), // the frame stands before the params
+    (1, BAD, 0, 65, true, Some(ImageFault::Range)), // and the params before the blocks
+    (0, BAD, 0, 65, true, Some(ImageFault::Limit)),
+    (0, BAD, 0, 2, false, Some(ImageFault::Range)), // of the first cell, before the second's location
+];
+
+/// So many cells of a range, at the registers from 1 up, or down to 1.
+fn small_cells(alloc: Global, range: Range, count: u16, up: bool) -> Result<Vec<Cell>, ImageFault> {
+    let mut cells = Vec::new(alloc);
+    for i in 0..count {
+        let location = if up {
+            i.wrapping_add(1)
+        } else {
+            count.wrapping_sub(i)
+        };
+        cells.push(Cell { location, range })?;
+    }
+    Ok(cells)
+}
+
+/// A list of one item.
+fn one<T: Drop>(alloc: Global, item: T) -> Result<Items<T>, ImageFault> {
+    let mut items = Vec::new(alloc);
+    items.push(item)?;
+    Ok(Items::new(items))
+}
+
+/// A function of one block, with so many params of a range, a frame, and cells.
+fn small_function(
+    alloc: Global,
+    params: usize,
+    range: Range,
+    frame: u32,
+    cells: Vec<Cell>,
+) -> Result<Function, ImageFault> {
+    let block = Block {
+        address: 0x40000,
+        fuel: 0,
+        cells: Items::new(cells),
+        terms: Items::new(Vec::new(alloc)),
+    };
+    let blocks = one(alloc, block)?;
+    Ok(Function {
+        kind: Kind::Leaf,
+        params: Items::new(vec![in alloc; range; params]?),
+        results: Items::new(Vec::new(alloc)),
+        entry: 0x40000,
+        frame,
+        stack_room: 0,
+        budget: 0,
+        blocks,
+    })
+}
+
+/// Parts of one word and one function.
+fn small_parts(alloc: Global, function: Function) -> Result<Parts, ImageFault> {
+    Ok(Parts {
+        services: Services(0),
+        words: one(alloc, 0)?,
+        bytes: Items::new(Vec::new(alloc)),
+        stack_pages: 1,
+        functions: one(alloc, function)?,
+    })
+}
+
+/// The parts of a row of `SMALL`.
+fn row_parts(
+    alloc: Global,
+    params: usize,
+    range: Range,
+    frame: u32,
+    cells: u16,
+    up: bool,
+) -> Result<Parts, ImageFault> {
+    let cells = small_cells(alloc, range, cells, up)?;
+    let function = small_function(alloc, params, range, frame, cells)?;
+    small_parts(alloc, function)
+}
+
+/// Whether the parts of a row get its fault. Where a growth was refused, they are made once more.
+fn is_row_told(
+    alloc: Global,
+    (params, range, frame, cells, up, wanted): (usize, Range, u32, u16, bool, Option<ImageFault>),
+) -> bool {
+    let first = row_parts(alloc, params, range, frame, cells, up);
+    let made = match first {
+        Ok(parts) => Ok(parts),
+        Err(_) => row_parts(alloc, params, range, frame, cells, up),
+    };
+    match made {
+        Ok(parts) => are_told(parts, 1, 1, wanted),
+        Err(_) => false,
+    }
+}
+
+#[test]
+fn parts_of_functions(rt: HostRuntime) {
+    for row in SMALL {
+        assert!(rt; is_row_told(rt.alloc(), row), "at {row:?}");
+    }
+}

@@ -1,0 +1,11 @@
+pub mod Words
+pub mod Additions
+pub mod Bitwise
+pub mod Products
+pub mod Shifted
+pub mod Divided
+pub mod Multiples
+pub mod Sound
+pub mod Alignments
+pub mod Compared
+pub mod Kept

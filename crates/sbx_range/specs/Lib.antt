@@ -1,0 +1,5 @@
+pub mod Ranges
+pub mod Rows
+pub mod Table
+pub mod Refining
+pub mod Laws

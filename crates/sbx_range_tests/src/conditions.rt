@@ -1,0 +1,139 @@
+// Refinement, condition by condition: two ranges, and what is left of them where the condition holds, or nothing where it can't.
+use crate::reading::{wrong_pair, wrong_value};
+use sbx_range::{Range, common};
+use v8_word::Cond;
+
+const EQUAL: &str = "0 10 0  5 20 2  5 10 2  5 10 2
+    0 4 0  5 9 0
+    0 0 3  5 5 0";
+
+const NOT_EQUAL: &str = "0 10 0  10 10 1  0 9 0  10 10 1
+    0 8 3  0 0 3  1 8 3  0 0 3
+    0 10 0  5 5 0  0 10 0  5 5 0
+    5 5 0  5 9 0  5 5 0  6 9 0
+    0 10 0  0 4 0  0 10 0  0 4 0
+    5 5 0  5 5 0
+    2147483647 2147483647 0  2147483647 2147483647 0";
+
+const LESS: &str =
+    "-2147483648 2147483647 0  -2147483648 2147483647 0  -2147483648 2147483646 0  -2147483647 2147483647 0
+    0 10 1  0 10 2  0 9 1  1 10 2
+    5 9 0  0 5 0
+    0 5 0  -2147483648 -2147483648 3
+    2147483647 2147483647 0  0 5 0";
+
+const LESS_OR_EQUAL: &str = "0 10 0  3 5 0  0 5 0  3 5 0
+    5 9 0  0 5 0  5 5 0  5 5 0
+    5 9 0  0 4 0";
+
+const GREATER: &str = "0 10 0  0 10 0  1 10 0  0 9 0
+    0 5 0  5 9 0";
+
+const GREATER_OR_EQUAL: &str = "0 10 0  3 20 0  3 10 0  3 10 0
+    0 4 0  5 9 0";
+
+const CARRY_SET: &str = "-5 10 0  0 8 0  0 7 0  1 8 0
+    0 10 0  -1 8 0  0 10 0  -1 8 0
+    -5 -1 0  0 8 0";
+
+const LESS_OR_EQUAL_UNSIGNED: &str = "-5 10 0  0 8 0  0 8 0  0 8 0
+    0 10 0  -1 8 0  0 10 0  -1 8 0";
+
+const CARRY_CLEAR: &str = "0 10 0  3 15 0  3 10 0  3 10 0
+    -1 10 0  3 5 0  -1 10 0  3 5 0";
+
+const GREATER_UNSIGNED: &str = "0 10 0  3 15 0  4 10 0  3 9 0
+    0 10 0  -3 5 0  0 10 0  -3 5 0";
+
+const UNCHANGED: &str = "-1 5 0  2 3 0  -1 5 0  2 3 0
+    5 4 0  2 3 0";
+
+#[test]
+fn compared(rt: HostRuntime) {
+    let tables = [
+        (Cond::Equal, EQUAL),
+        (Cond::NotEqual, NOT_EQUAL),
+        (Cond::Less, LESS),
+        (Cond::LessOrEqual, LESS_OR_EQUAL),
+        (Cond::Greater, GREATER),
+        (Cond::GreaterOrEqual, GREATER_OR_EQUAL),
+        (Cond::CarrySet, CARRY_SET),
+        (Cond::LessOrEqualUnsigned, LESS_OR_EQUAL_UNSIGNED),
+        (Cond::CarryClear, CARRY_CLEAR),
+        (Cond::GreaterUnsigned, GREATER_UNSIGNED),
+    ];
+    for (cond, rows) in tables {
+        let wrong = wrong_pair(cond, rows);
+        assert!(rt; wrong.is_empty(), "{wrong}");
+    }
+}
+
+#[test]
+fn other_conditions(rt: HostRuntime) {
+    let tables = [
+        (Cond::Never, UNCHANGED),
+        (Cond::Negative, UNCHANGED),
+        (Cond::OverflowSet, UNCHANGED),
+        (Cond::Always, UNCHANGED),
+        (Cond::Positive, UNCHANGED),
+        (Cond::OverflowClear, UNCHANGED),
+    ];
+    for (cond, rows) in tables {
+        let wrong = wrong_pair(cond, rows);
+        assert!(rt; wrong.is_empty(), "{wrong}");
+    }
+}
+
+#[test]
+fn by_value(rt: HostRuntime) {
+    let tables = [
+        (
+            Cond::Equal,
+            "-5 5 0  0 0 3
+            1 5 0",
+        ),
+        (
+            Cond::NotEqual,
+            "0 5 2  1 5 2
+            -5 0 0  -5 -1 0
+            -5 5 0  -5 5 0
+            0 0 3",
+        ),
+        (
+            Cond::Negative,
+            "-5 5 1  -5 -1 1
+            0 5 0",
+        ),
+        (
+            Cond::Positive,
+            "-5 5 1  0 5 1
+            -5 -1 0",
+        ),
+        (Cond::Less, "-5 5 0  -5 5 0"),
+        (Cond::CarrySet, "-5 5 0  -5 5 0"),
+    ];
+    for (cond, rows) in tables {
+        let wrong = wrong_value(cond, rows);
+        assert!(rt; wrong.is_empty(), "{wrong}");
+    }
+}
+
+#[test]
+fn what_two_ranges_share(rt: HostRuntime) {
+    let low = Range {
+        lo: 0,
+        hi: 9,
+        alignment: 1,
+    };
+    let high = Range {
+        lo: 4,
+        hi: 20,
+        alignment: 2,
+    };
+    let shared = Range {
+        lo: 4,
+        hi: 9,
+        alignment: 2,
+    };
+    assert!(rt; common(low, high) == Some(shared));
+}

@@ -1,0 +1,20 @@
+//! Tests of the crates that read source text: tokens, instructions, directives and whole sources. The expected values come from
+//! worked examples, from GNU as, and from the formats by hand.
+#![tactic(auto)]
+
+#[cfg(test)]
+mod check;
+#[cfg(test)]
+mod directives;
+#[cfg(test)]
+mod instructions;
+#[cfg(test)]
+mod limits;
+#[cfg(test)]
+mod lines;
+#[cfg(test)]
+mod names;
+#[cfg(test)]
+mod rereading;
+#[cfg(test)]
+mod sources;

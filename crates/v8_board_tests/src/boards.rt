@@ -1,0 +1,101 @@
+use crate::images::raw_image;
+use crate::ports::Probe;
+use std::alloc::{AllocError, Global};
+use std::test::Fail;
+use v8_board::{Board, Ending, Outcome, PageUse};
+use v8_mmu::PortFault;
+use v8_word::Reg;
+
+/// A board of four windows over a port without input.
+pub(crate) type Tested = Board<4, Probe<'static>>;
+
+/// A new board whose port fails at this call.
+pub(crate) fn board(alloc: Global, fails: u64) -> Result<Tested, AllocError> {
+    let port = Probe {
+        left: b"",
+        kept: Vec::new(alloc),
+        calls: 0,
+        fails,
+        failures: 0,
+    };
+    Board::new(alloc, port)
+}
+
+/// Loads a board with these words.
+pub(crate) fn load(board: &mut Tested, alloc: Global, words: &[u32]) -> Result<(), Fail> {
+    let image = raw_image(alloc, words)?;
+    board.load(&image);
+    Ok(())
+}
+
+/// A board that was loaded with these words.
+pub(crate) fn loaded_with(alloc: Global, words: &[u32]) -> Result<Tested, Fail> {
+    let mut loaded = board(alloc, 0)?;
+    load(&mut loaded, alloc, words)?;
+    Ok(loaded)
+}
+
+/// Whether a run of at most 100 turns ends so, and leaves this fault status.
+pub(crate) fn ends(board: &mut Tested, told: &Result<Outcome, PortFault>, status: u32) -> bool {
+    board.run(100) == *told && board.fault_status() == status
+}
+
+/// An outcome without underflows.
+pub(crate) fn outcome(ending: Ending, turns: u64, overflows: u64) -> Outcome {
+    Outcome {
+        ending,
+        turns,
+        overflows,
+        underflows: 0,
+    }
+}
+
+/// Whether the first code page was referenced, and no other page, and none modified.
+pub(crate) fn used_code_alone(board: &Tested) -> bool {
+    let used = PageUse {
+        referenced: [1, 0, 0],
+        modified: [0, 0, 0],
+    };
+    board.page_use() == used
+}
+
+/// Whether the port has kept these bytes.
+pub(crate) fn kept(board: &Tested, bytes: &[u8]) -> bool {
+    board.port().kept.as_slice() == bytes
+}
+
+/// The registers of the current window.
+pub(crate) fn registers(board: &Tested) -> [u32; 32] {
+    let mut words = [0; 32];
+    for number in 0..32u8 {
+        if let Some(register) = Reg::new(number) {
+            words[usize::from(number)] = board.reg(register);
+        }
+    }
+    words
+}
+
+/// A word of RAM; within the page tables without what R and M (hexadecimal 60) show.
+fn unmarked(board: &Tested, place: u64) -> Option<u32> {
+    let marks = if (0x2A00..0x2E00).contains(&place) {
+        0x60
+    } else {
+        0
+    };
+    board.entry(place).map(|word| word | marks)
+}
+
+/// Whether two boards have the same trap table, handlers, tables, code and data, but for R and M.
+pub(crate) fn are_alike_below_the_stack(one: &Tested, other: &Tested) -> bool {
+    for k in 0..0x2_4000u64 {
+        if unmarked(one, 4 * k) != unmarked(other, 4 * k) {
+            return false;
+        }
+    }
+    true
+}
+
+/// Whether two boards have these words at a place.
+pub(crate) fn have(one: &Tested, other: &Tested, place: u64, words: (u32, u32)) -> bool {
+    one.entry(place) == Some(words.0) && other.entry(place) == Some(words.1)
+}

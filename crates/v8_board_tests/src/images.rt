@@ -1,0 +1,67 @@
+use sbx_image::{Image, parse};
+use std::alloc::{AllocError, Global};
+use std::test::Fail;
+use v8_board::Ending;
+use v8_word::TrapType;
+
+/// What follows the words of code: one leaf function of one block.
+const AFTER_CODE: [u8; 42] = [
+    0, 0, 0, 0, 0, 4, 0, 0, 0, 0, 0, 0, 0, 0, 0, 0, 0, 0, 0, 0, 0, 0, 0, 0, 0, 1, 0, 4, 0, 0, 0, 0,
+    0, 0, 0, 0, 0, 0, 0, 0, 0, 0,
+];
+
+fn image_bytes(alloc: Global, words: &[u32]) -> Result<Vec<u8>, AllocError> {
+    let mut bytes = Vec::new(alloc);
+    // all services and one page of stack
+    bytes.extend_from_slice(b"SBX8\x00\x01\x00\x07")?;
+    bytes.extend_from_slice(&((words.len() % 0x1_0000) as u32).to_be_bytes())?;
+    bytes.extend_from_slice(&[0, 0, 0, 0, 0, 1, 0, 1])?;
+    for word in words {
+        bytes.extend_from_slice(&word.to_be_bytes())?;
+    }
+    bytes.extend_from_slice(&AFTER_CODE)?;
+    Ok(bytes)
+}
+
+/// An image of raw words: one leaf function of one block, all services, and one page of stack.
+pub(crate) fn raw_image(alloc: Global, words: &[u32]) -> Result<Image, Fail> {
+    let bytes = image_bytes(alloc, words)?;
+    Ok(parse(alloc, &bytes)?)
+}
+
+pub(crate) const SAVE: u32 = 0x9DE3_BFA0; // save %sp,-96,%sp
+
+pub(crate) const NOP: u32 = 0x0100_0000;
+
+pub(crate) const RET: u32 = 0x81C7_E008;
+
+pub(crate) const RESTORE: u32 = 0x81E8_0000;
+
+pub(crate) const GET: u32 = 0x91D0_2001; // ta 1
+
+pub(crate) const PUT: u32 = 0x91D0_2002; // ta 2
+
+pub(crate) const EXIT: u32 = 0x91D0_2000; // ta 0
+
+/// `mov 72,%o0; ta 2; mov 105,%o0; ta 2; mov 0,%o0; ta 0`
+pub(crate) const GREETING: [u32; 6] = [0x9010_2048, PUT, 0x9010_2069, PUT, 0x9010_2000, EXIT];
+
+/// An ending, with the number of its trap.
+#[derive(Clone, Copy)]
+pub(crate) enum End {
+    Exit(u32),
+    Trapped(u8),
+    ErrorMode(u8),
+    Limit,
+}
+
+impl End {
+    pub(crate) fn ending(self) -> Ending {
+        match self {
+            End::Exit(status) => Ending::Exit(status),
+            End::Trapped(number) => Ending::Trapped(TrapType::new(number)),
+            End::ErrorMode(number) => Ending::ErrorMode(TrapType::new(number)),
+            End::Limit => Ending::Limit,
+        }
+    }
+}

@@ -1,0 +1,140 @@
+use crate::ports::Probe;
+use std::alloc::{AllocError, Global};
+use std::test::Fail;
+use v8_memory::Memory;
+use v8_mmu::{Bus, BusFault, Stop};
+use v8_word::Size;
+
+/// A memory over a port with this input.
+fn memory<'a>(alloc: Global, input: &'a [u8]) -> Result<Memory<Probe<'a>>, AllocError> {
+    let port = Probe {
+        left: input,
+        kept: Vec::new(alloc),
+        calls: 0,
+        fails: 0,
+        failures: 0,
+    };
+    Memory::new(alloc, port)
+}
+
+/// Whether a load of the first register gives this word, and the port was then called so often.
+fn loads(memory: &mut Memory<Probe<'_>>, word: u64, calls: u64) -> bool {
+    memory.read(0x1_0000_0000, Size::Word) == Ok(word) && memory.port().calls == calls
+}
+
+/// Whether a store of a word at a place is done, and the device then has stopped so.
+fn stores(memory: &mut Memory<Probe<'_>>, pa: u64, word: u32, stop: &Option<Stop>) -> bool {
+    memory.write(pa, Size::Word, u64::from(word)) == Ok(()) && memory.stop() == *stop
+}
+
+/// Whether the port was called so often and kept these bytes.
+fn kept(memory: &Memory<Probe<'_>>, calls: u64, bytes: &[u8]) -> bool {
+    memory.port().calls == calls && memory.port().kept.as_slice() == bytes
+}
+
+/// A load of the first register gives the next byte of input, and all ones at its end. From then on the port isn't asked.
+#[test]
+fn loads_give_the_input_and_its_end(rt: HostRuntime) -> Result<(), Fail> {
+    let mut memory = memory(rt.alloc(), b"a\xFF")?;
+    for (word, calls) in [
+        (0x61, 1),
+        (0xFF, 2),
+        (0xFFFF_FFFF, 3),
+        (0xFFFF_FFFF, 3),
+        (0xFFFF_FFFF, 3),
+    ] {
+        assert!(rt; loads(&mut memory, word, calls), "{word} {calls}");
+    }
+    memory.restart();
+    assert!(rt; loads(&mut memory, 0xFFFF_FFFF, 4) && kept(&memory, 4, b""));
+    assert!(rt; memory.stop().is_none());
+    Ok(())
+}
+
+/// A store to the second register puts the low byte out, one to the third stops with its word, one to the fourth as trapped.
+#[test]
+fn stores_put_out_and_stop(rt: HostRuntime) -> Result<(), Fail> {
+    let mut memory = memory(rt.alloc(), b"a")?;
+    for (pa, word, stop, bytes) in [
+        (0x1_0000_0004, 0x1234_5648, None, b"H".as_slice()),
+        (0x1_0000_0004, 0x69, None, b"Hi"),
+        (
+            0x1_0000_0008,
+            0x8000_0021,
+            Some(Stop::Exit(0x8000_0021)),
+            b"Hi",
+        ),
+        (0x1_0000_000C, 5, Some(Stop::Trapped), b"Hi"),
+    ] {
+        let calls = bytes.len() as u64;
+        assert!(rt;
+            stores(&mut memory, pa, word, &stop) && kept(&memory, calls, bytes),
+            "{word}"
+        );
+    }
+    Ok(())
+}
+
+/// Whether nothing answers loads of this size there.
+fn refuses_loads(memory: &mut Memory<Probe<'_>>, pa: u64, size: Size) -> bool {
+    memory.read(pa, size) == Err(BusFault::Unanswered)
+}
+
+/// Whether nothing answers stores of words there.
+fn refuses_words(memory: &mut Memory<Probe<'_>>, pa: u64) -> bool {
+    memory.write(pa, Size::Word, 0x21) == Err(BusFault::Unanswered)
+}
+
+/// Whether nothing answers stores of bytes, halfwords and double words there.
+fn refuses_other_stores(memory: &mut Memory<Probe<'_>>, pa: u64) -> bool {
+    let refused = Err(BusFault::Unanswered);
+    memory.write(pa, Size::Byte, 0x21) == refused
+        && memory.write(pa, Size::Half, 0x21) == refused
+        && memory.write(pa, Size::Double, 0x21) == refused
+}
+
+/// Whether nothing answers the exchanges of LDSTUB and SWAP there.
+fn refuses_exchanges(memory: &mut Memory<Probe<'_>>, pa: u64) -> bool {
+    memory.swap(pa, Size::Byte, 0xFF) == Err(BusFault::Unanswered)
+        && memory.swap(pa, Size::Word, 0x21) == Err(BusFault::Unanswered)
+}
+
+/// Whether the device has not stopped, and its port was not called.
+fn is_untouched(memory: &Memory<Probe<'_>>) -> bool {
+    memory.stop().is_none() && kept(memory, 0, b"")
+}
+
+/// A word at a register that doesn't answer its kind of access, or past the last one: nothing answers, and the port isn't called.
+#[test]
+fn words_elsewhere_are_not_answered(rt: HostRuntime) -> Result<(), Fail> {
+    let mut memory = memory(rt.alloc(), b"a")?;
+    for pa in [
+        0x1_0000_0004,
+        0x1_0000_0008,
+        0x1_0000_000C,
+        0x1_0000_0010,
+        0x1_0000_1000,
+    ] {
+        assert!(rt; refuses_loads(&mut memory, pa, Size::Word), "{pa}");
+    }
+    for pa in [0x1_0000_0000, 0x1_0000_0010, 0x1_0000_1000] {
+        assert!(rt; refuses_words(&mut memory, pa), "{pa}");
+    }
+    assert!(rt; is_untouched(&memory));
+    Ok(())
+}
+
+/// Bytes, halfwords, double words and exchanges: no register answers, and the port isn't called.
+#[test]
+fn other_sizes_and_exchanges_are_not_answered(rt: HostRuntime) -> Result<(), Fail> {
+    let mut memory = memory(rt.alloc(), b"a")?;
+    for pa in [0x1_0000_0000, 0x1_0000_0004, 0x1_0000_0008, 0x1_0000_000C] {
+        for size in [Size::Byte, Size::Half, Size::Double] {
+            assert!(rt; refuses_loads(&mut memory, pa, size), "{pa} {size:?}");
+        }
+        assert!(rt; refuses_other_stores(&mut memory, pa), "{pa}");
+        assert!(rt; refuses_exchanges(&mut memory, pa), "{pa}");
+    }
+    assert!(rt; is_untouched(&memory));
+    Ok(())
+}

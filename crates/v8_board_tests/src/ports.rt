@@ -1,0 +1,77 @@
+ghost use Rattle.std.specs.Prelude.{◌≡◌, ℕ, ◌<◌, ◌≤◌};
+ghost use Rattle.v8_mmu.specs.Answers.{Rose};
+
+use v8_memory::Port;
+use v8_mmu::PortFault;
+
+/// A port that takes its input from a slice, keeps its output and counts how often it is called. It fails once, at the call of the
+/// number `fails` from here on, or never if that is 0.
+#[derive(Drop)]
+pub(crate) struct Probe<'a> {
+    pub(crate) left: &'a [u8],
+    pub(crate) kept: Vec<u8>,
+    pub(crate) calls: u64,
+    pub(crate) fails: u64,
+    pub(crate) failures: u64,
+}
+
+impl Probe<'_> {
+    /// Counts a call, and tells whether it is to fail.
+    fn is_to_fail(&mut self) -> bool
+        ensures left { self.new.left ≡ self.old.left }
+        ensures kept { self.new.kept ≡ self.old.kept }
+        ensures failures { self.new.failures ≡ self.old.failures }
+    {
+        self.calls = self.calls.saturating_add(1);
+        let now = self.fails == 1;
+        self.fails = self.fails.saturating_sub(1);
+        now
+    }
+
+    /// Counts a failure.
+    fn fail(&mut self, fault: PortFault) -> PortFault
+        ensures fault { result ≡ fault }
+        ensures left { self.new.left ≡ self.old.left }
+        ensures kept { self.new.kept ≡ self.old.kept }
+        ensures count { self.old.failures ≤ self.new.failures }
+        ensures rose { Rose self.old.failures self.new.failures }
+    {
+        self.failures = self.failures.saturating_add(1);
+        fault
+    }
+}
+
+impl Port for Probe<'_> {
+    ghost input = { λ p. p.left.now };
+
+    ghost output = { λ p. p.kept.items };
+
+    ghost failed = { λ p. p.failures };
+
+    fn get(&mut self) -> Result<Option<u8>, PortFault> {
+        if self.is_to_fail() {
+            return Err(self.fail(PortFault::Reader));
+        }
+        match self.left.split_first() {
+            Some((first, rest)) => {
+                self.left = rest;
+                Ok(Some(*first))
+            }
+            None => Ok(None),
+        }
+    }
+
+    fn put(&mut self, byte: u8) -> Result<(), PortFault> {
+        if self.is_to_fail() {
+            return Err(self.fail(PortFault::Writer));
+        }
+        match self.kept.push(byte) {
+            Ok(()) => Ok(()),
+            Err(_refused) => Err(self.fail(PortFault::Memory)),
+        }
+    }
+
+    fn failures(&self) -> u64 {
+        self.failures
+    }
+}

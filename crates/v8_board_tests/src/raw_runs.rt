@@ -1,0 +1,207 @@
+ghost use Rattle.std.specs.Prelude.{◌≤◌, ℕ};
+
+use crate::images::{EXIT, End, GET, GREETING, NOP, PUT, RESTORE, RET, SAVE, raw_image};
+use sbx_raw::{Ending, Outcome, PageUse, Raw, run_raw};
+use std::alloc::{AllocError, Global};
+use std::test::Fail;
+
+/// Words with the end of their raw run at four windows, of at most so many turns: its turns, its overflows, and the fault status.
+struct Run {
+    words: &'static [u32],
+    limit: u64,
+    end: End,
+    turns: u64,
+    overflows: u64,
+    status: u32,
+}
+
+const RUNS: [Run; 8] = [
+    Run {
+        words: &[0x1080_0000, NOP],
+        limit: 10,
+        end: End::Limit,
+        turns: 10,
+        overflows: 0,
+        status: 0,
+    },
+    Run {
+        words: &[0x1D3C_0040, 0x1080_0000, 0x9DE3_A000],
+        limit: 100,
+        end: End::ErrorMode(0x09),
+        turns: 19,
+        overflows: 1,
+        status: 0x3B6,
+    },
+    Run {
+        words: &[0x033C_0000, 0xC400_4000],
+        limit: 100,
+        end: End::Trapped(0x09),
+        turns: 4,
+        overflows: 0,
+        status: 0x30E,
+    },
+    Run {
+        words: &[0x0300_0100, 0xC020_4000],
+        limit: 100,
+        end: End::Trapped(0x09),
+        turns: 4,
+        overflows: 0,
+        status: 0x38A,
+    },
+    Run {
+        words: &[0xC400_0000],
+        limit: 100,
+        end: End::Trapped(0x09),
+        turns: 3,
+        overflows: 0,
+        status: 0x206,
+    },
+    Run {
+        words: &[0xC218_2001],
+        limit: 100,
+        end: End::Trapped(0x02),
+        turns: 3,
+        overflows: 0,
+        status: 0,
+    },
+    // udiv %g0,%g0,%g1
+    Run {
+        words: &[0x8270_0000],
+        limit: 100,
+        end: End::Trapped(0x2A),
+        turns: 3,
+        overflows: 0,
+        status: 0,
+    },
+    // taddcctv %g0,1,%g1
+    Run {
+        words: &[0x8310_2001],
+        limit: 100,
+        end: End::Trapped(0x0A),
+        turns: 3,
+        overflows: 0,
+        status: 0,
+    },
+];
+
+/// Whether a raw run is that of a row, without output.
+fn is(raw: &Raw, run: &Run) -> bool {
+    let wanted = Outcome {
+        ending: run.end.ending(),
+        turns: run.turns,
+        overflows: run.overflows,
+        underflows: 0,
+    };
+    raw.outcome == wanted && raw.fault_status == run.status && raw.output.is_empty()
+}
+
+fn agrees(alloc: Global, run: &Run) -> Result<bool, Fail> {
+    let image = raw_image(alloc, run.words)?;
+    let raw = run_raw::<4>(alloc, &image, b"", run.limit)?;
+    Ok(is(&raw, run))
+}
+
+#[test]
+fn raw_runs_end_as_worked_out(rt: HostRuntime) -> Result<(), Fail> {
+    for run in &RUNS {
+        assert!(rt; agrees(rt.alloc(), run)?, "{:?}", run.words);
+    }
+    Ok(())
+}
+
+/// Whether a raw run of 16 turns has put `Hi` out, and referenced the first page of code alone.
+fn greets(raw: &Raw) -> bool {
+    let used = PageUse {
+        referenced: [1, 0, 0],
+        modified: [0, 0, 0],
+    };
+    raw.output.as_slice() == b"Hi".as_slice() && raw.outcome.turns == 16 && raw.pages == used
+}
+
+/// What is got is put out, and the end of the input is the exit word.
+fn echoes(raw: &Raw) -> bool {
+    raw.output.as_slice() == b"ab".as_slice() && raw.outcome.ending == Ending::Exit(0xFFFF_FFFF)
+}
+
+/// The raw run of words at eight windows.
+fn run_words(alloc: Global, words: &[u32], input: &[u8]) -> Result<Raw, Fail> {
+    let image = raw_image(alloc, words)?;
+    Ok(run_raw::<8>(alloc, &image, input, 100)?)
+}
+
+#[test]
+fn raw_runs_get_and_put(rt: HostRuntime) -> Result<(), Fail> {
+    let raw = run_words(rt.alloc(), &GREETING, b"")?;
+    assert!(rt; greets(&raw), "{raw:?}");
+    let raw = run_words(rt.alloc(), &[GET, PUT, GET, PUT, GET, EXIT], b"ab")?;
+    assert!(rt; echoes(&raw), "{raw:?}");
+    Ok(())
+}
+
+/// The words that the functions of a chain begin with; a last function follows.
+struct Heads {
+    first: &'static [u32],
+    second: &'static [u32],
+}
+
+const MIDDLE: [u32; 5] = [SAVE, 0x4000_0004, NOP, RET, RESTORE];
+
+/// The first function exits with 0.
+const PLAIN: Heads = Heads {
+    first: &[SAVE, 0x4000_0004, NOP, 0x9010_2000, EXIT], // mov 0,%o0
+    second: &MIDDLE,
+};
+
+/// The second function's RESTORE makes the result 42, with which the first exits.
+const WITH_RESULT: Heads = Heads {
+    first: &[SAVE, 0x4000_0003, NOP, EXIT],
+    // mov 41,%l0; ret; restore %l0,1,%o0
+    second: &[SAVE, 0x4000_0005, NOP, 0xA010_2029, RET, 0x91EC_2001],
+};
+
+/// A chain of 40 functions, each of which saves a window and calls the next; the last puts `!` out.
+fn chain(alloc: Global, heads: &Heads) -> Result<Vec<u32>, AllocError> {
+    let mut words = Vec::new(alloc);
+    words.extend_from_slice(heads.first)?;
+    words.extend_from_slice(heads.second)?;
+    for _ in 2..39u32 {
+        words.extend_from_slice(&MIDDLE)?;
+    }
+    // mov 33,%o0
+    words.extend_from_slice(&[SAVE, 0x9010_2021, PUT, RET, RESTORE])?;
+    Ok(words)
+}
+
+/// Whether a chain exits on `N` windows with this status, these counts, and `!` put out.
+fn chain_ends<const N: usize>(
+    alloc: Global,
+    heads: &Heads,
+    status: u32,
+    counts: (u64, u64, u64),
+) -> Result<bool, Fail>
+    requires { (4 ≤ N) × (N ≤ 32) }
+{
+    let words = chain(alloc, heads)?;
+    let image = raw_image(alloc, &words)?;
+    let raw = run_raw::<N>(alloc, &image, b"", 10_000)?;
+    Ok(exits(&raw, status, counts) && raw.output.as_slice() == b"!".as_slice())
+}
+
+/// Whether a raw run exits with this status and these counts of turns, overflows and underflows.
+fn exits(raw: &Raw, status: u32, counts: (u64, u64, u64)) -> bool {
+    let told = &raw.outcome;
+    told.ending == Ending::Exit(status) && (told.turns, told.overflows, told.underflows) == counts
+}
+
+/// Windows are stored and loaded where there are too few, and every function returns to its caller. Of the 40 SAVEs all but the first
+/// N - 2 overflow, and of the 39 RESTOREs all but the first N - 2 underflow; each takes 24 turns more, the trap and the handler's 23.
+#[test]
+fn chains_of_calls_return(rt: HostRuntime) -> Result<(), Fail> {
+    let alloc = rt.alloc();
+    assert!(rt; chain_ends::<4>(alloc, &PLAIN, 0, (2006, 38, 37))?);
+    assert!(rt; chain_ends::<5>(alloc, &PLAIN, 0, (1958, 37, 36))?);
+    assert!(rt; chain_ends::<6>(alloc, &PLAIN, 0, (1910, 36, 35))?);
+    assert!(rt; chain_ends::<32>(alloc, &PLAIN, 0, (662, 10, 9))?);
+    assert!(rt; chain_ends::<4>(alloc, &WITH_RESULT, 42, (2006, 38, 37))?);
+    Ok(())
+}

@@ -1,0 +1,176 @@
+use crate::boards::{
+    Tested, are_alike_below_the_stack, board, ends, have, kept, load, loaded_with, outcome,
+    used_code_alone,
+};
+use crate::images::{EXIT, End, GET, GREETING, NOP, PUT, SAVE};
+use std::alloc::Global;
+use std::test::Fail;
+use v8_board::{Ending, Port};
+use v8_mmu::PortFault;
+use v8_word::TrapType;
+
+/// Words with the end of their run at four windows: its turns, its overflows, and the fault status.
+struct Run {
+    words: &'static [u32],
+    end: End,
+    turns: u64,
+    overflows: u64,
+    status: u32,
+}
+
+const RUNS: [Run; 8] = [
+    Run {
+        words: &[0x033C_0000, 0xC400_4000],
+        end: End::Trapped(0x09),
+        turns: 4,
+        overflows: 0,
+        status: 0x30E,
+    },
+    Run {
+        words: &[0x0300_0100, 0xC020_4000],
+        end: End::Trapped(0x09),
+        turns: 4,
+        overflows: 0,
+        status: 0x38A,
+    },
+    Run {
+        words: &[0xC400_0000],
+        end: End::Trapped(0x09),
+        turns: 3,
+        overflows: 0,
+        status: 0x206,
+    },
+    Run {
+        words: &[0xC218_2001],
+        end: End::Trapped(0x02),
+        turns: 3,
+        overflows: 0,
+        status: 0,
+    },
+    Run {
+        words: &[0x81C8_0000],
+        end: End::Trapped(0x03),
+        turns: 3,
+        overflows: 0,
+        status: 0,
+    },
+    Run {
+        words: &[0x1D3C_0040, 0x1080_0000, 0x9DE3_A000],
+        end: End::ErrorMode(0x09),
+        turns: 19,
+        overflows: 1,
+        status: 0x3B6,
+    },
+    Run {
+        words: &[0x1080_0000, NOP],
+        end: End::Limit,
+        turns: 100,
+        overflows: 0,
+        status: 0,
+    },
+    Run {
+        words: &GREETING,
+        end: End::Exit(0),
+        turns: 16,
+        overflows: 0,
+        status: 0,
+    },
+];
+
+/// Whether the words of a row, loaded, end as it says.
+fn agrees(board: &mut Tested, alloc: Global, run: &Run) -> Result<bool, Fail> {
+    load(board, alloc, run.words)?;
+    let told = Ok(outcome(run.end.ending(), run.turns, run.overflows));
+    Ok(ends(board, &told, run.status))
+}
+
+#[test]
+fn raw_words_end_as_worked_out(rt: HostRuntime) -> Result<(), Fail> {
+    let alloc = rt.alloc();
+    let mut plain = board(alloc, 0)?;
+    for run in &RUNS {
+        assert!(rt; agrees(&mut plain, alloc, run)?, "{:?}", run.words);
+    }
+    assert!(rt; kept(&plain, b"Hi") && used_code_alone(&plain));
+    Ok(())
+}
+
+/// Whether a run ends with this fault of the port, and the next one as if the port had not failed.
+fn goes_on(board: &mut Tested, fault: PortFault) -> bool {
+    // 5 turns for each get and put, 1 for the OR, 3 for the exit
+    let told = Ok(outcome(Ending::Exit(0x48), 19, 0));
+    board.run(100) == Err(fault)
+        && board.port().failures() == 1
+        && ends(board, &told, 0)
+        && kept(board, b"\xFFH")
+}
+
+/// The port fails at its first, second or third call. The run goes on with that call, and ends as if the port had not failed.
+#[test]
+fn a_run_goes_on_after_each_failed_call(rt: HostRuntime) -> Result<(), Fail> {
+    let alloc = rt.alloc();
+    // mov 72,%o0 between the puts
+    let words = [GET, PUT, 0x9010_2048, PUT, EXIT];
+    for (fails, fault) in [
+        (1, PortFault::Reader),
+        (2, PortFault::Writer),
+        (3, PortFault::Writer),
+    ] {
+        let mut failing = board(alloc, fails)?;
+        load(&mut failing, alloc, &words)?;
+        assert!(rt; goes_on(&mut failing, fault), "{fails}");
+    }
+    Ok(())
+}
+
+/// Whether one board shows no modified page, and the other the last page of the stack.
+fn differ_in_the_last_page(loaded: &Tested, ran: &Tested) -> bool {
+    loaded.page_use().modified == [0, 0, 0] && ran.page_use().modified == [0, 0, 1 << 63]
+}
+
+/// A run leaves the trap table, the handlers, the tables, the code and the data as they were loaded, but for R and M.
+#[test]
+fn a_run_changes_nothing_below_the_stack(rt: HostRuntime) -> Result<(), Fail> {
+    let alloc = rt.alloc();
+    // of the three SAVEs the last overflows; then the greeting's words
+    let words = [
+        SAVE,
+        SAVE,
+        SAVE,
+        0x9010_2048,
+        PUT,
+        0x9010_2069,
+        PUT,
+        0x9010_2000,
+        EXIT,
+    ];
+    let loaded = loaded_with(alloc, &words)?;
+    let mut ran = loaded_with(alloc, &words)?;
+    let told = Ok(outcome(Ending::Exit(0), 43, 1));
+    assert!(rt; ends(&mut ran, &told, 0));
+    assert!(rt; differ_in_the_last_page(&loaded, &ran));
+    assert!(rt; are_alike_below_the_stack(&loaded, &ran));
+    // the first code page and the last stack page, marked
+    assert!(rt; have(&loaded, &ran, 0x2A00, (0x1012, 0x1032)));
+    assert!(rt; have(&loaded, &ran, 0x2CFC, (0x9F06, 0x9F66)));
+    Ok(())
+}
+
+/// SAVEs with the stack pointer at the device, whose first spill is refused: the machine ends in error mode, nothing is put out, and
+/// below the stack nothing but R of pages that were fetched from has changed.
+#[test]
+fn a_refused_spill_changes_nothing(rt: HostRuntime) -> Result<(), Fail> {
+    let alloc = rt.alloc();
+    // sethi 0x3C0040,%sp; ba .+0; save %sp,0,%sp
+    let words = [0x1D3C_0040, 0x1080_0000, 0x9DE3_A000];
+    let loaded = loaded_with(alloc, &words)?;
+    let mut ran = loaded_with(alloc, &words)?;
+    let told = Ok(outcome(Ending::ErrorMode(TrapType::new(0x09)), 19, 1));
+    assert!(rt; ends(&mut ran, &told, 0x3B6));
+    assert!(rt; kept(&ran, b"") && used_code_alone(&ran));
+    assert!(rt; are_alike_below_the_stack(&loaded, &ran));
+    // the entries of the last stack page and of the device, without a mark
+    assert!(rt; have(&loaded, &ran, 0x2CFC, (0x9F06, 0x9F06)));
+    assert!(rt; have(&loaded, &ran, 0x2D40, (0x1000_001E, 0x1000_001E)));
+    Ok(())
+}

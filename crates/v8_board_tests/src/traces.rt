@@ -1,0 +1,217 @@
+use crate::images::{EXIT, GREETING, NOP, raw_image};
+use sbx_raw::{Ending, Line, Outcome, RunFault, make_line, trace};
+use std::alloc::Global;
+use std::io::{self, Write};
+use std::test::Fail;
+use v8_core::{Event, Turn};
+use v8_word::TrapType;
+
+const GREETING_TRACE: &[u8] = b"0000000001 00 u 00040000 90102048 ran
+0000000002 00 u 00040004 91D02002 trap 82
+0000000003 07 s F0000820 273C0040 ran
+0000000004 07 s F0000824 F024E004 ran
+0000000005 07 s F0000828 81C48000 ran
+0000000006 07 s F000082C 81CCA004 ran
+0000000007 00 u 00040008 90102069 ran
+0000000008 00 u 0004000C 91D02002 trap 82
+0000000009 07 s F0000820 273C0040 ran
+0000000010 07 s F0000824 F024E004 ran
+0000000011 07 s F0000828 81C48000 ran
+0000000012 07 s F000082C 81CCA004 ran
+0000000013 00 u 00040010 90102000 ran
+0000000014 00 u 00040014 91D02000 trap 80
+0000000015 07 s F0000800 273C0040 ran
+0000000016 07 s F0000804 F024E008 exit 00000000
+";
+
+/// Words with the trace of at most so many of their turns at eight windows.
+struct Traced {
+    words: &'static [u32],
+    limit: u64,
+    text: &'static [u8],
+}
+
+const TRACES: [Traced; 5] = [
+    Traced {
+        words: &GREETING,
+        limit: 100_000,
+        text: GREETING_TRACE,
+    },
+    Traced {
+        words: &GREETING,
+        limit: 0,
+        text: b"",
+    },
+    Traced {
+        words: &GREETING,
+        limit: 2,
+        text: b"0000000001 00 u 00040000 90102048 ran\n0000000002 00 u 00040004 91D02002 trap 82\n",
+    },
+    Traced {
+        words: &[0xC400_0000],
+        limit: 100,
+        text: b"0000000001 00 u 00040000 C4000000 trap 09
+0000000002 07 s F0000090 273C0040 ran
+0000000003 07 s F0000094 C024E00C stopped
+",
+    },
+    // ba,a .+8
+    Traced {
+        words: &[0x3080_0002, NOP, EXIT],
+        limit: 3,
+        text: b"0000000001 00 u 00040000 30800002 ran
+0000000002 00 u 00040004 -------- annulled
+0000000003 00 u 00040008 91D02000 trap 80
+",
+    },
+];
+
+/// Whether the trace of a row is its text.
+fn agrees(alloc: Global, traced: &Traced) -> Result<bool, Fail> {
+    let image = raw_image(alloc, traced.words)?;
+    let mut out = Vec::new(alloc);
+    let told = trace::<8, Vec<u8>>(alloc, &image, b"", traced.limit, &mut out);
+    Ok(told.is_ok() && out.as_slice() == traced.text)
+}
+
+#[test]
+fn traces_have_a_line_a_turn(rt: HostRuntime) -> Result<(), Fail> {
+    for traced in &TRACES {
+        assert!(rt;
+            agrees(rt.alloc(), traced)?,
+            "{:?} {}",
+            traced.words,
+            traced.limit
+        );
+    }
+    Ok(())
+}
+
+/// Whether a trace ends in error mode, and with the line that tells it.
+fn ends_in_error_mode(told: &Result<Outcome, RunFault>, text: &[u8]) -> bool {
+    match told {
+        Ok(told) => {
+            told.ending == Ending::ErrorMode(TrapType::new(0x09))
+                && text.ends_with(b"\n0000000019 00 s F0001020 E03BA000 error 09\n")
+        }
+        Err(_fault) => false,
+    }
+}
+
+/// The store of an overflow fails, and ends in error mode.
+#[test]
+fn error_mode_is_traced(rt: HostRuntime) -> Result<(), Fail> {
+    let alloc = rt.alloc();
+    let image = raw_image(alloc, &[0x1D3C_0040, 0x1080_0000, 0x9DE3_A000])?;
+    let mut out = Vec::new(alloc);
+    let told = trace::<4, Vec<u8>>(alloc, &image, b"", 100, &mut out);
+    assert!(rt; ends_in_error_mode(&told, out.as_slice()));
+    Ok(())
+}
+
+/// Takes at most seven bytes a call, until there is no more room; then it fails or takes none.
+#[derive(Drop)]
+struct Narrow {
+    kept: Vec<u8>,
+    room: usize,
+    fails: bool,
+}
+
+impl Narrow {
+    fn is_broken(&self) -> bool {
+        self.room == 0 && self.fails
+    }
+}
+
+impl Write for Narrow {
+    fn write(&mut self, buf: &[u8]) -> io::Result<usize> {
+        if self.is_broken() {
+            return Err(io::Error::from(io::ErrorKind::Other));
+        }
+        let count = buf.len().min(7).min(self.room);
+        self.kept.extend_from_slice(&buf[..count])?;
+        self.room -= count;
+        Ok(count)
+    }
+
+    fn flush(&mut self) -> io::Result<()> {
+        if self.is_broken() {
+            return Err(io::Error::from(io::ErrorKind::Other));
+        }
+        Ok(())
+    }
+}
+
+/// Whether a trace is told as whole, or as one whose writer failed.
+fn is_told(told: &Result<Outcome, RunFault>, whole: bool) -> bool {
+    match told {
+        Ok(told) => whole && told.turns == 16,
+        Err(fault) => !whole && *fault == RunFault::Writer,
+    }
+}
+
+/// Whether a writer has taken as many bytes as it had room for, and they are the front of the greeting's trace.
+fn has_the_front(out: &Narrow, room: usize) -> bool {
+    GREETING_TRACE.starts_with(out.kept.as_slice()) && out.kept.len() == room
+}
+
+/// Whether a writer with this room gets the front of the greeting's trace, and the whole of it where there is room.
+fn gets_the_front(alloc: Global, room: usize, fails: bool, whole: bool) -> Result<bool, Fail> {
+    let image = raw_image(alloc, &GREETING)?;
+    let mut out = Narrow {
+        kept: Vec::new(alloc),
+        room,
+        fails,
+    };
+    let told = trace::<8, Narrow>(alloc, &image, b"", 100, &mut out);
+    Ok(is_told(&told, whole) && has_the_front(&out, room))
+}
+
+/// What a writer took before it failed is the front of the trace.
+#[test]
+fn a_failing_writer_keeps_the_front(rt: HostRuntime) -> Result<(), Fail> {
+    for (room, fails, whole) in [
+        (60, true, false),
+        (60, false, false),
+        (0, true, false),
+        (GREETING_TRACE.len(), true, false),
+        (GREETING_TRACE.len(), false, true),
+    ] {
+        assert!(rt;
+            gets_the_front(rt.alloc(), room, fails, whole)?,
+            "{room} {fails}"
+        );
+    }
+    Ok(())
+}
+
+/// Numbers of more than ten digits have as many as they need.
+#[test]
+fn great_numbers_are_whole(rt: HostRuntime) {
+    let turn = Turn {
+        event: Event::Trapped(TrapType::new(0xFF)),
+        cwp: 31,
+        user: false,
+        pc: 0xFFFF_FFFC,
+        word: None,
+        access: None,
+    };
+    let mut line = Line::new();
+    for (number, text) in [
+        (
+            9_999_999_999,
+            b"9999999999 31 s FFFFFFFC -------- trap FF\n".as_slice(),
+        ),
+        (
+            10_000_000_000,
+            b"10000000000 31 s FFFFFFFC -------- trap FF\n",
+        ),
+        (
+            u64::MAX,
+            b"18446744073709551615 31 s FFFFFFFC -------- trap FF\n",
+        ),
+    ] {
+        make_line(&mut line, number, &turn);
+        assert!(rt; line.as_slice() == text, "{number}");
+    }
+}

@@ -1,0 +1,343 @@
+// Walks of page tables in RAM (appendix H, "Translation").
+ghost use Rattle.std.specs.Prelude.{◌≡◌, ℕ};
+
+use std::process::Abort;
+use v8_mmu::laws::{
+    fault_is_unique, marks_two_bits, no_fault_on_a_path, path_is_unique, stores_one_number,
+};
+use v8_mmu::{
+    Access, AccessKind, Bus, BusFault, Found, MmuFault, MmuRegs, PageEntry, Size, Stop, find_page,
+    mark, mark_page, walk,
+};
+
+/// RAM of `M` words and no device; words are reached as words alone.
+#[derive(Drop)]
+struct Words<const M: usize> {
+    words: [u32; M],
+}
+
+impl<const M: usize> Bus for Words<M> {
+    ghost use Rattle.v8_words_tests.specs.WordBus.{word_bus, bytes_of};
+
+    ghost Device = { Unit {0} };
+
+    ghost ram = { λ b. bytes_of b.words };
+
+    ghost device = { λ b. tt };
+
+    ghost failed = { λ b. 0 };
+
+    ghost meaning = { word_bus };
+
+    fn entry(&self, pa: u64) -> Option<u32> {
+        if pa % 4 != 0 {
+            return None;
+        }
+        let words = &self.words[..];
+        let number = (pa / 4) as usize;
+        if number >= words.len() {
+            return None;
+        }
+        let word = words[number];
+        Some(word)
+    }
+
+    fn set_entry(&mut self, pa: u64, word: u32) {
+        let words = &mut self.words[..];
+        words[(pa / 4) as usize] = word;
+    }
+
+    fn read(&mut self, pa: u64, size: Size) -> Result<u64, BusFault> {
+        match size {
+            Size::Word => match self.entry(pa) {
+                Some(word) => Ok(u64::from(word)),
+                None => Err(BusFault::Unanswered),
+            },
+            Size::Byte | Size::Half | Size::Double => Err(BusFault::Unanswered),
+        }
+    }
+
+    fn write(&mut self, pa: u64, size: Size, value: u64) -> Result<(), BusFault> {
+        match size {
+            Size::Word => {
+                if self.entry(pa).is_none() {
+                    return Err(BusFault::Unanswered);
+                }
+                self.set_entry(pa, value as u32);
+                Ok(())
+            }
+            Size::Byte | Size::Half | Size::Double => Err(BusFault::Unanswered),
+        }
+    }
+
+    fn swap(&mut self, pa: u64, size: Size, value: u64) -> Result<u64, BusFault> {
+        match size {
+            Size::Word => {
+                let Some(word) = self.entry(pa) else {
+                    return Err(BusFault::Unanswered);
+                };
+                self.set_entry(pa, value as u32);
+                Ok(u64::from(word))
+            }
+            Size::Byte | Size::Half | Size::Double => Err(BusFault::Unanswered),
+        }
+    }
+
+    fn stop(&self) -> Option<Stop> {
+        None
+    }
+
+    fn failures(&self) -> u64 {
+        0
+    }
+}
+
+const USER_LOAD: Access = Access {
+    user: true,
+    kind: AccessKind::Load,
+};
+
+/// RAM in which these words stand at these places.
+fn ram(rt: &impl Abort, entries: &[(u64, u32)]) -> Words<3072> {
+    let mut bus = Words { words: [0; 3072] };
+    for &(place, word) in entries {
+        if bus.entry(place).is_some() {
+            bus.set_entry(place, word);
+        } else {
+            panic!(rt; "no word at {place}");
+        }
+    }
+    bus
+}
+
+/// Context 0 of a context table at 2000.
+const REGS: MmuRegs = MmuRegs {
+    table: 0x2000,
+    context: 0,
+};
+
+/// Where the entries of address 0 lie, a level each.
+const PLACES: [u64; 4] = [0x2000, 0x2400, 0x2800, 0x2a00];
+
+fn translates(bus: &Words<3072>, va: u32, pa: u64, level: usize) -> bool {
+    match walk(bus, &REGS, va, USER_LOAD) {
+        Ok(found) => {
+            found.pa == pa && found.level == level && found.places.get(level) == PLACES.get(level)
+        }
+        Err(_) => false,
+    }
+}
+
+fn finds(bus: &Words<3072>, va: u32, pa: u64, level: usize, word: u32) -> bool {
+    match find_page(bus, &REGS, va, USER_LOAD) {
+        Ok(page) => {
+            page.pa == pa
+                && page.level == level
+                && page.word == word
+                && PLACES.get(level) == Some(&page.place)
+        }
+        Err(_) => false,
+    }
+}
+
+#[test]
+fn translates_at_each_level(rt: HostRuntime) {
+    let rows: [([u32; 4], u32, u64); 4] = [
+        ([0xf000_000e, 0, 0, 0], 0x1234_5678, 0xf_1234_5678),
+        ([0x241, 0x1234_560e, 0, 0], 0x00ab_cdef, 0x1_23ab_cdef),
+        ([0x241, 0x281, 0x1234_560e, 0], 0x0003_ffff, 0x1_2347_ffff),
+        (
+            [0x241, 0x281, 0x2a1, 0x1234_560e],
+            0x0000_0abc,
+            0x1_2345_6abc,
+        ),
+    ];
+    for level in 0..4 {
+        let (words, va, pa) = rows[level];
+        let [context, first, second, third] = words;
+        let bus = ram(
+            &rt,
+            &[
+                (0x2000, context),
+                (0x2400, first),
+                (0x2800, second),
+                (0x2a00, third),
+            ],
+        );
+        let agrees = translates(&bus, va, pa, level) && finds(&bus, va, pa, level, words[level]);
+        assert!(rt; agrees, "at level {level}");
+    }
+}
+
+fn leads_to(bus: &Words<3072>, regs: &MmuRegs, va: u32, pa: u64) -> bool {
+    match walk(bus, regs, va, USER_LOAD) {
+        Ok(found) => found.pa == pa,
+        Err(_) => false,
+    }
+}
+
+#[test]
+fn wraps_table_addresses_at_36_bits(rt: HostRuntime) {
+    let bus = ram(&rt, &[(0, 0x1234_560e), (4, 0xffff_fffd)]);
+    let past = MmuRegs {
+        table: 0xf_ffff_fffc,
+        context: 1,
+    };
+    assert!(rt; leads_to(&bus, &past, 0x1000_0000, 0x1_1000_0000));
+    let named = MmuRegs {
+        table: 4,
+        context: 0,
+    };
+    assert!(rt; leads_to(&bus, &named, 0x1000_0000, 0x1_2300_0000));
+}
+
+fn refuses(bus: &Words<3072>, va: u32, fault: MmuFault) -> bool {
+    let walked = walk(bus, &REGS, va, USER_LOAD);
+    let found = find_page(bus, &REGS, va, USER_LOAD);
+    matches!(walked, Err(told) if told == fault) && matches!(found, Err(told) if told == fault)
+}
+
+#[test]
+fn refuses_where_the_path_ends(rt: HostRuntime) {
+    let rows: [([(u64, u32); 4], u32, u8, usize); 6] = [
+        ([(0x2000, 0), (0, 0), (0, 0), (0, 0)], 0, 1, 0),
+        ([(0x2000, 3), (0, 0), (0, 0), (0, 0)], 0, 4, 0),
+        ([(0x2000, 0x0001_0001), (0, 0), (0, 0), (0, 0)], 0, 4, 1),
+        (
+            [
+                (0x2000, 0x241),
+                (0x2400, 0x281),
+                (0x2800, 0x2a1),
+                (0x2a00, 0x2b1),
+            ],
+            0,
+            4,
+            3,
+        ),
+        (
+            [
+                (0x2000, 0x241),
+                (0x27c0, 0x291),
+                (0x2900, 0x2d1),
+                (0x2d00, 0x1a),
+            ],
+            0xf000_0000,
+            3,
+            3,
+        ),
+        (
+            [
+                (0x2000, 0x241),
+                (0x2400, 0x281),
+                (0x2804, 0x2a1),
+                (0x2a00, 0x1012),
+            ],
+            0x0004_0000,
+            2,
+            3,
+        ),
+    ];
+    for (entries, va, ft, level) in rows {
+        let bus = ram(&rt, &entries);
+        assert!(rt;
+            refuses(&bus, va, MmuFault { ft, level, at: 0 }),
+            "{ft} at {level} of {va}"
+        );
+    }
+}
+
+/// The fault type of each access to a page, 0 where it is allowed: load, fetch, store, store to an instruction space; of
+/// users and of the supervisor, a row an access field.
+const FAULT_TYPES: [([u8; 4], [u8; 4]); 8] = [
+    ([0, 2, 2, 2], [0, 2, 2, 2]),
+    ([0, 2, 0, 2], [0, 2, 0, 2]),
+    ([0, 0, 2, 2], [0, 0, 2, 2]),
+    ([0, 0, 0, 0], [0, 0, 0, 0]),
+    ([2, 0, 2, 2], [2, 0, 2, 2]),
+    ([0, 2, 2, 2], [0, 2, 0, 2]),
+    ([3, 3, 3, 3], [0, 0, 2, 2]),
+    ([3, 3, 3, 3], [0, 0, 0, 0]),
+];
+
+/// Whether an access has this access type, and this fault type on the page of address 1234, 0 where it is allowed.
+fn answers(bus: &Words<3072>, access: Access, ft: u8, at: u8) -> bool {
+    let same_type = access.type_number() == at;
+    match walk(bus, &REGS, 0x1234, access) {
+        Ok(_) => same_type && ft == 0,
+        Err(fault) => same_type && fault.ft == ft && fault.at == at,
+    }
+}
+
+/// Whether the accesses of a user, or of the supervisor, have these fault types.
+fn allows(bus: &Words<3072>, user: bool, fault_types: [u8; 4]) -> bool {
+    let [load, fetch, store, store_code] = fault_types;
+    let first = if user { 0 } else { 1 };
+    let mut all = true;
+    for (kind, ft, at) in [
+        (AccessKind::Load, load, 0),
+        (AccessKind::Fetch, fetch, 2),
+        (AccessKind::Store, store, 4),
+        (AccessKind::StoreCode, store_code, 6),
+    ] {
+        all &= answers(bus, Access { user, kind }, ft, at | first);
+    }
+    all
+}
+
+#[test]
+fn allows_what_the_access_field_says(rt: HostRuntime) {
+    for acc in 0..8u32 {
+        let bus = ram(&rt, &[(0x2000, acc * 4 + 2)]);
+        let (user, supervisor) = FAULT_TYPES[acc as usize];
+        assert!(rt;
+            allows(&bus, true, user) && allows(&bus, false, supervisor),
+            "{acc}"
+        );
+    }
+}
+
+/// Whether both ways of marking the entry at 2A00 make it this word, and writing it again takes the mark away.
+fn marks(bus: &mut Words<3072>, word: u32, store: bool, marked: u32) -> bool {
+    let found = Found {
+        pa: 0,
+        level: 3,
+        places: [0, 0, 0, 0x2a00],
+    };
+    mark(bus, &found, store);
+    if bus.entry(0x2a00) != Some(marked) {
+        return false;
+    }
+    bus.set_entry(0x2a00, word);
+    if bus.entry(0x2a00) != Some(word) {
+        return false;
+    }
+    let page = PageEntry {
+        pa: 0,
+        level: 3,
+        place: 0x2a00,
+        word,
+    };
+    mark_page(bus, &page, store);
+    bus.entry(0x2a00) == Some(marked)
+}
+
+#[test]
+fn marks_and_takes_marks_away(rt: HostRuntime) {
+    for (word, store, marked) in [
+        (0x1012, false, 0x1032),
+        (0x5006, true, 0x5066),
+        (0x5066, false, 0x5066),
+    ] {
+        let mut bus = ram(&rt, &[(0x2a00, word)]);
+        assert!(rt; marks(&mut bus, word, store, marked), "{word:x}");
+    }
+}
+
+#[test]
+fn laws_return(_rt: HostRuntime) {
+    path_is_unique();
+    fault_is_unique();
+    no_fault_on_a_path();
+    marks_two_bits();
+    stores_one_number();
+}
