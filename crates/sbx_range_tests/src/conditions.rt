@@ -1,5 +1,5 @@
 // Refinement, condition by condition: two ranges, and what is left of them where the condition holds, or nothing where it can't.
-use crate::reading::{wrong_pair, wrong_value};
+use crate::reading::{Table, wrong_row};
 use sbx_range::{Range, common};
 use v8_word::Cond;
 
@@ -51,19 +51,22 @@ const UNCHANGED: &str = "-1 5 0  2 3 0  -1 5 0  2 3 0
 #[test]
 fn compared(rt: HostRuntime) {
     let tables = [
-        (Cond::Equal, EQUAL),
-        (Cond::NotEqual, NOT_EQUAL),
-        (Cond::Less, LESS),
-        (Cond::LessOrEqual, LESS_OR_EQUAL),
-        (Cond::Greater, GREATER),
-        (Cond::GreaterOrEqual, GREATER_OR_EQUAL),
-        (Cond::CarrySet, CARRY_SET),
-        (Cond::LessOrEqualUnsigned, LESS_OR_EQUAL_UNSIGNED),
-        (Cond::CarryClear, CARRY_CLEAR),
-        (Cond::GreaterUnsigned, GREATER_UNSIGNED),
+        (Table::Pairs(Cond::Equal), EQUAL),
+        (Table::Pairs(Cond::NotEqual), NOT_EQUAL),
+        (Table::Pairs(Cond::Less), LESS),
+        (Table::Pairs(Cond::LessOrEqual), LESS_OR_EQUAL),
+        (Table::Pairs(Cond::Greater), GREATER),
+        (Table::Pairs(Cond::GreaterOrEqual), GREATER_OR_EQUAL),
+        (Table::Pairs(Cond::CarrySet), CARRY_SET),
+        (
+            Table::Pairs(Cond::LessOrEqualUnsigned),
+            LESS_OR_EQUAL_UNSIGNED,
+        ),
+        (Table::Pairs(Cond::CarryClear), CARRY_CLEAR),
+        (Table::Pairs(Cond::GreaterUnsigned), GREATER_UNSIGNED),
     ];
-    for (cond, rows) in tables {
-        let wrong = wrong_pair(cond, rows);
+    for (table, rows) in tables {
+        let wrong = wrong_row(table, rows);
         assert!(rt; wrong.is_empty(), "{wrong}");
     }
 }
@@ -71,15 +74,15 @@ fn compared(rt: HostRuntime) {
 #[test]
 fn other_conditions(rt: HostRuntime) {
     let tables = [
-        (Cond::Never, UNCHANGED),
-        (Cond::Negative, UNCHANGED),
-        (Cond::OverflowSet, UNCHANGED),
-        (Cond::Always, UNCHANGED),
-        (Cond::Positive, UNCHANGED),
-        (Cond::OverflowClear, UNCHANGED),
+        (Table::Pairs(Cond::Never), UNCHANGED),
+        (Table::Pairs(Cond::Negative), UNCHANGED),
+        (Table::Pairs(Cond::OverflowSet), UNCHANGED),
+        (Table::Pairs(Cond::Always), UNCHANGED),
+        (Table::Pairs(Cond::Positive), UNCHANGED),
+        (Table::Pairs(Cond::OverflowClear), UNCHANGED),
     ];
-    for (cond, rows) in tables {
-        let wrong = wrong_pair(cond, rows);
+    for (table, rows) in tables {
+        let wrong = wrong_row(table, rows);
         assert!(rt; wrong.is_empty(), "{wrong}");
     }
 }
@@ -88,52 +91,55 @@ fn other_conditions(rt: HostRuntime) {
 fn by_value(rt: HostRuntime) {
     let tables = [
         (
-            Cond::Equal,
+            Table::Values(Cond::Equal),
             "-5 5 0  0 0 3
             1 5 0",
         ),
         (
-            Cond::NotEqual,
+            Table::Values(Cond::NotEqual),
             "0 5 2  1 5 2
             -5 0 0  -5 -1 0
             -5 5 0  -5 5 0
             0 0 3",
         ),
         (
-            Cond::Negative,
+            Table::Values(Cond::Negative),
             "-5 5 1  -5 -1 1
             0 5 0",
         ),
         (
-            Cond::Positive,
+            Table::Values(Cond::Positive),
             "-5 5 1  0 5 1
             -5 -1 0",
         ),
-        (Cond::Less, "-5 5 0  -5 5 0"),
-        (Cond::CarrySet, "-5 5 0  -5 5 0"),
+        (Table::Values(Cond::Less), "-5 5 0  -5 5 0"),
+        (Table::Values(Cond::CarrySet), "-5 5 0  -5 5 0"),
     ];
-    for (cond, rows) in tables {
-        let wrong = wrong_value(cond, rows);
+    for (table, rows) in tables {
+        let wrong = wrong_row(table, rows);
         assert!(rt; wrong.is_empty(), "{wrong}");
     }
 }
 
+const LOW: Range = Range {
+    lo: 0,
+    hi: 9,
+    alignment: 1,
+};
+
+const HIGH: Range = Range {
+    lo: 4,
+    hi: 20,
+    alignment: 2,
+};
+
+const SHARED: Range = Range {
+    lo: 4,
+    hi: 9,
+    alignment: 2,
+};
+
 #[test]
 fn what_two_ranges_share(rt: HostRuntime) {
-    let low = Range {
-        lo: 0,
-        hi: 9,
-        alignment: 1,
-    };
-    let high = Range {
-        lo: 4,
-        hi: 20,
-        alignment: 2,
-    };
-    let shared = Range {
-        lo: 4,
-        hi: 9,
-        alignment: 2,
-    };
-    assert!(rt; common(low, high) == Some(shared));
+    assert!(rt; common(LOW, HIGH) == Some(SHARED));
 }

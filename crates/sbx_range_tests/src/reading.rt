@@ -1,63 +1,35 @@
 // Rows of numbers between blanks, a row a line. A range is three numbers: its ends and its alignment.
-use sbx_range::{Pair, Range, range_of, range_of_division, refine, refine_by_value};
+use sbx_range::{
+    Pair, Range, range_of, range_of_division, range_of_tagged, refine, refine_by_value, tagged_fits,
+};
 use std::str::SplitWhitespace;
-use v8_alu::Op;
+use v8_alu::{Op, TaggedOp};
 use v8_word::Cond;
 
+/// What a table's rows tell of.
+#[derive(Clone, Copy)]
+pub enum Table {
+    /// Two operands' ranges, and the result's.
+    Results(Op),
+    /// The same where every word of the operands has a result.
+    Tagged(TaggedOp),
+    /// The same of quotients where Y is 0.
+    Quotients,
+    /// Two compared ranges, and the two that are left, or nothing.
+    Pairs(Cond),
+    /// A range, and the one that is left, or nothing.
+    Values(Cond),
+}
+
+fn next_number(pieces: &mut SplitWhitespace<'_>) -> Option<i32> {
+    pieces.next()?.parse().ok()
+}
+
 fn next_range(pieces: &mut SplitWhitespace<'_>) -> Option<Range> {
-    let lo = pieces.next()?.parse().ok()?;
-    let hi = pieces.next()?.parse().ok()?;
-    let alignment = pieces.next()?.parse().ok()?;
+    let lo = next_number(pieces)?;
+    let hi = next_number(pieces)?;
+    let alignment = u8::try_from(next_number(pieces)?).ok()?;
     Some(Range { lo, hi, alignment })
-}
-
-/// The first three ranges of a line.
-fn three_ranges(line: &str) -> Option<(Range, Range, Range)> {
-    let mut pieces = line.split_whitespace();
-    Some((
-        next_range(&mut pieces)?,
-        next_range(&mut pieces)?,
-        next_range(&mut pieces)?,
-    ))
-}
-
-fn gives(op: Op, line: &str) -> bool {
-    match three_ranges(line) {
-        Some((a, b, want)) => range_of(op, a, b) == want,
-        None => false,
-    }
-}
-
-/// The first row that an operation fails, a row being its operands' ranges and the result's; empty where there is none.
-pub fn wrong_row<'a>(op: Op, rows: &'a str) -> &'a str {
-    for line in rows.lines() {
-        if !gives(op, line) {
-            return line;
-        }
-    }
-    ""
-}
-
-fn divides(line: &str) -> bool {
-    let zero = Range {
-        lo: 0,
-        hi: 0,
-        alignment: 3,
-    };
-    match three_ranges(line) {
-        Some((a, b, want)) => range_of_division(zero, a, b) == want,
-        None => false,
-    }
-}
-
-/// The same of divisions where Y is 0.
-pub fn wrong_quotient(rows: &str) -> &str {
-    for line in rows.lines() {
-        if !divides(line) {
-            return line;
-        }
-    }
-    ""
 }
 
 fn is_pair(got: Option<Pair>, left: Option<Range>, right: Option<Range>) -> bool {
@@ -67,40 +39,47 @@ fn is_pair(got: Option<Pair>, left: Option<Range>, right: Option<Range>) -> bool
     }
 }
 
-fn leaves(cond: Cond, line: &str) -> bool {
-    let mut pieces = line.split_whitespace();
-    match (next_range(&mut pieces), next_range(&mut pieces)) {
-        (Some(x), Some(y)) => is_pair(
-            refine(cond, x, y),
-            next_range(&mut pieces),
-            next_range(&mut pieces),
-        ),
+/// Whether these are the ranges of a row: what is left of the first, of the first two, or what an operation makes of them.
+fn agrees(
+    table: Table,
+    x: Range,
+    y: Option<Range>,
+    want: Option<Range>,
+    last: Option<Range>,
+) -> bool {
+    let zero = Range {
+        lo: 0,
+        hi: 0,
+        alignment: 3,
+    };
+    match (table, y) {
+        (Table::Results(op), Some(y)) => Some(range_of(op, x, y)) == want,
+        (Table::Tagged(op), Some(y)) => {
+            tagged_fits(op, x, y) && Some(range_of_tagged(op, x, y)) == want
+        }
+        (Table::Quotients, Some(y)) => Some(range_of_division(zero, x, y)) == want,
+        (Table::Pairs(cond), Some(y)) => is_pair(refine(cond, x, y), want, last),
+        (Table::Values(cond), left) => refine_by_value(cond, x) == left,
         _ => false,
     }
 }
 
-/// The first row that a condition fails: two ranges, and the two that it leaves, or none.
-pub fn wrong_pair<'a>(cond: Cond, rows: &'a str) -> &'a str {
-    for line in rows.lines() {
-        if !leaves(cond, line) {
-            return line;
-        }
-    }
-    ""
-}
-
-fn leaves_value(cond: Cond, line: &str) -> bool {
+fn holds(table: Table, line: &str) -> bool {
     let mut pieces = line.split_whitespace();
     match next_range(&mut pieces) {
-        Some(x) => refine_by_value(cond, x) == next_range(&mut pieces),
+        Some(x) => {
+            let y = next_range(&mut pieces);
+            let want = next_range(&mut pieces);
+            agrees(table, x, y, want, next_range(&mut pieces))
+        }
         None => false,
     }
 }
 
-/// The same of refinement by value: a range, and the one that is left, or none.
-pub fn wrong_value<'a>(cond: Cond, rows: &'a str) -> &'a str {
+/// The first row that isn't so; empty where there is none.
+pub fn wrong_row<'a>(table: Table, rows: &'a str) -> &'a str {
     for line in rows.lines() {
-        if !leaves_value(cond, line) {
+        if !holds(table, line) {
             return line;
         }
     }

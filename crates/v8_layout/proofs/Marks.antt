@@ -85,6 +85,7 @@ mark_keeps_tables g ram place t store l h =
     record {
       size = length-marked_ram ram place store ∙ l.size;
       context = kept_elsewhere ram place t store h 0x2000 (inl (omega arith)) ∙ l.context;
+      contexts = λ i one small. kept_elsewhere ram place t store h (0x2000 + 4 * i) (inl (omega arith)) ∙ l.contexts i one small;
       regions = λ i small. kept_elsewhere ram place t store h (0x2400 + 4 * i) (inl (omega arith)) ∙ l.regions i small;
       programs = λ i small. kept_elsewhere ram place t store h (0x2800 + 4 * i) (inl (omega arith)) ∙ l.programs i small;
       systems = λ i small. kept_elsewhere ram place t store h (0x2900 + 4 * i) (inl (omega arith)) ∙ l.systems i small;
@@ -169,6 +170,7 @@ loaded_by n g words ram new few same kept l =
       tables = record {
         size = same ∙ t.size;
         context = kept 0x2000 (omega arith) ∙ t.context;
+        contexts = λ i one small. kept (0x2000 + 4 * i) (omega arith) ∙ t.contexts i one small;
         regions = λ i small. kept (0x2400 + 4 * i) (omega arith) ∙ t.regions i small;
         programs = λ i small. kept (0x2800 + 4 * i) (omega arith) ∙ t.programs i small;
         systems = λ i small. kept (0x2900 + 4 * i) (omega arith) ∙ t.systems i small;

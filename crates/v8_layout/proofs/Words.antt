@@ -59,6 +59,10 @@ system_word g i small =
     rw (not_first (832 + i) (omega arith)) (rw (high_test (832 + i) 256 (omega arith)) (rw (high_test (832 + i) 512 (omega arith)) (rw (high_test (832 + i) 576 (omega arith)) (rw (high_test (832 + i) 640 (omega arith))
     (rw (high_test (832 + i) 704 (omega arith)) (rw (high_test (832 + i) 768 (omega arith)) (rw (high_test (832 + i) 832 (omega arith)) (ap system_entry (beyond (832 + i) 832 i refl)))))))))
 
+context_word : (g : Pages) (i : ℕ) → 0 < i → i < 256 → table_word g i ≡ 0
+unfolding table_word
+context_word g i one small = rw (not_first i one) (rw (low_test i 256 small) refl)
+
 -- entries as they are written have no marks
 plain_one : (w : ℕ) → w % 128 < 32 → unmarked w ≡ w
 plain_one w small = by_kind (w % 4 == 2)
@@ -82,6 +86,7 @@ words_make_tables g ram size words =
     record {
       size = size;
       context = words 0 (omega arith);
+      contexts = λ i one small. words i (omega arith) ∙ ap Some (context_word g i one small);
       regions = λ i small. at 256 i (0x2400 + 4 * i) (omega arith) (omega arith) ∙ ap Some (region_word g i small);
       programs = λ i small. at 512 i (0x2800 + 4 * i) (omega arith) (omega arith) ∙ ap Some (program_word g i small);
       systems = λ i small. at 576 i (0x2900 + 4 * i) (omega arith) (omega arith) ∙ ap Some (system_region_word g i small);

@@ -54,10 +54,11 @@ system_entry i = if i == 0 then 0x1A else (if i == 1 then 0x11A else (if i == 16
 abbrev pub HasEntry : List ℕ → ℕ → ℕ → Type 0
 HasEntry ram place t = IsSomeAnd (entry_of ram place) (λ w. unmarked w ≡ t)
 
--- RAM of 1 MiB with the tables, R and M aside
+-- RAM of 1 MiB with the tables, R and M aside. Of the 256 contexts only the first maps anything.
 pub record HasTables (g : Pages) (ram : List ℕ) : Type 0 where
   pub size : length ram ≡ 0x100000
   pub context : entry_of ram 0x2000 ≡ Some 0x241
+  pub contexts : (i : ℕ) → 0 < i → i < 256 → entry_of ram (0x2000 + 4 * i) ≡ Some 0
   pub regions : (i : ℕ) → i < 256 → entry_of ram (0x2400 + 4 * i) ≡ Some (region_entry i)
   pub programs : (i : ℕ) → i < 64 → entry_of ram (0x2800 + 4 * i) ≡ Some (program_entry i)
   pub systems : (i : ℕ) → i < 64 → entry_of ram (0x2900 + 4 * i) ≡ Some (system_region_entry i)

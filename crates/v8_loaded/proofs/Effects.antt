@@ -43,14 +43,15 @@ pub record Does (n : ℕ) (cpu : Cpu n) (i : Operation) (new : Cpu n) : Type 0 w
   pub is : effect n cpu i ≡ new
 
 module _ (n : ℕ) (c : Control) (w : ℕ) (x : Inside) where
-  -- ---- results
+  -- an operation that leads to the next word, where the trap's window is the current one
+  abbrev Next : Operation → Inside → Type 0
+  Next i y = Does n (stage n c w w x) i (stage n c w w (onward y))
 
   abbrev own : ℕ → ℕ
   own r = reg_of n (registers w w x) r
 
   pub computes_local : (op : Op) (rd rs1 : ℕ) (o : Operand) (a b v : ℕ) → w < length x.rows → 16 ≤ rd → rd < 24 →
-      own rs1 ≡ a → second own o ≡ b → outcome op a b c.icc c.y ≡ out v c.icc c.y →
-      Does n (stage n c w w x) (Compute op (fields rd rs1 o)) (stage n c w w (onward (record x { row = slice_set x.row (rd - 8) v })))
+      own rs1 ≡ a → second own o ≡ b → outcome op a b c.icc c.y ≡ out v c.icc c.y → Next (Compute op (fields rd rs1 o)) (record x { row = slice_set x.row (rd - 8) v })
   unfolding effect applies
   computes_local op rd rs1 o a b v there low high first other is =
       let s = stage n c w w x in
@@ -66,8 +67,8 @@ module _ (n : ℕ) (c : Control) (w : ℕ) (x : Inside) where
             ∙ local_computed n c w x rd v there low high;
       }
 
-  pub computes_global : (op : Op) (rs1 : ℕ) (o : Operand) (a b v : ℕ) → own rs1 ≡ a → second own o ≡ b → outcome op a b c.icc c.y ≡ out v c.icc c.y →
-      Does n (stage n c w w x) (Compute op (fields 1 rs1 o)) (stage n c w w (onward (record x { globals = slice_set x.globals 1 v })))
+  pub computes_global : (op : Op) (rs1 : ℕ) (o : Operand) (a b v : ℕ) → own rs1 ≡ a → second own o ≡ b →
+      outcome op a b c.icc c.y ≡ out v c.icc c.y → Next (Compute op (fields 1 rs1 o)) (record x { globals = slice_set x.globals 1 v })
   unfolding effect applies
   computes_global op rs1 o a b v first other is =
       let s = stage n c w w x in
@@ -94,13 +95,13 @@ module _ (n : ℕ) (c : Control) (w : ℕ) (x : Inside) where
   local_is r there low high = read_own n x.rows w x.globals x.row x.mask r there low high
 
   -- rd %wim,%l3
-  pub reads_mask_does : w < length x.rows → Does n (stage n c w w x) (ReadState Wim 19) (stage n c w w (onward (record x { row = slice_set x.row 11 x.mask })))
+  pub reads_mask_does : w < length x.rows → Next (ReadState Wim 19) (record x { row = slice_set x.row 11 x.mask })
   unfolding effect applies
   reads_mask_does there = record { system = refl; sane = refl; straight = refl; calm = refl; plain = λ mmu y. refl; is = local_written n c w x 19 x.mask there (omega arith) (omega arith) }
 
   -- or %g0,%g1,%l4
   pub saves_global_does : w < length x.rows →
-      Does n (stage n c w w x) (Compute ops.Or (fields 20 0 (Register 1))) (stage n c w w (onward (record x { row = slice_set x.row 12 (slice_index x.globals 1) })))
+      Next (Compute ops.Or (fields 20 0 (Register 1))) (record x { row = slice_set x.row 12 (slice_index x.globals 1) })
   unfolding outcome
   saves_global_does there =
       let g1 = slice_index x.globals 1 in
@@ -108,7 +109,7 @@ module _ (n : ℕ) (c : Control) (w : ℕ) (x : Inside) where
 
   -- or %g0,%l4,%g1
   pub gives_global_does : w < length x.rows →
-      Does n (stage n c w w x) (Compute ops.Or (fields 1 0 (Register 20))) (stage n c w w (onward (record x { globals = slice_set x.globals 1 (slice_index x.row 12) })))
+      Next (Compute ops.Or (fields 1 0 (Register 20))) (record x { globals = slice_set x.globals 1 (slice_index x.row 12) })
   unfolding outcome
   gives_global_does there =
       let l4 = slice_index x.row 12 in
@@ -116,7 +117,7 @@ module _ (n : ℕ) (c : Control) (w : ℕ) (x : Inside) where
 
   -- srl %l3,1,%g1
   pub shifts_mask_right_does : w < length x.rows →
-      Does n (stage n c w w x) (Compute ops.Srl (fields 1 19 (Immediate 1))) (stage n c w w (onward (record x { globals = slice_set x.globals 1 (shifted_right (slice_index x.row 11) 1) })))
+      Next (Compute ops.Srl (fields 1 19 (Immediate 1))) (record x { globals = slice_set x.globals 1 (shifted_right (slice_index x.row 11) 1) })
   unfolding outcome
   shifts_mask_right_does there =
       let l3 = slice_index x.row 11 in
@@ -124,7 +125,7 @@ module _ (n : ℕ) (c : Control) (w : ℕ) (x : Inside) where
 
   -- sll %l3,k,%l5
   pub shifts_left_does : (k : ℕ) → w < length x.rows →
-      Does n (stage n c w w x) (Compute ops.Sll (fields 21 19 (Immediate k))) (stage n c w w (onward (record x { row = slice_set x.row 13 (shifted_left (slice_index x.row 11) k) })))
+      Next (Compute ops.Sll (fields 21 19 (Immediate k))) (record x { row = slice_set x.row 13 (shifted_left (slice_index x.row 11) k) })
   unfolding outcome
   shifts_left_does k there =
       let l3 = slice_index x.row 11 in
@@ -132,7 +133,7 @@ module _ (n : ℕ) (c : Control) (w : ℕ) (x : Inside) where
 
   -- srl %l3,k,%l5
   pub shifts_right_does : (k : ℕ) → w < length x.rows →
-      Does n (stage n c w w x) (Compute ops.Srl (fields 21 19 (Immediate k))) (stage n c w w (onward (record x { row = slice_set x.row 13 (shifted_right (slice_index x.row 11) k) })))
+      Next (Compute ops.Srl (fields 21 19 (Immediate k))) (record x { row = slice_set x.row 13 (shifted_right (slice_index x.row 11) k) })
   unfolding outcome
   shifts_right_does k there =
       let l3 = slice_index x.row 11 in
@@ -140,7 +141,7 @@ module _ (n : ℕ) (c : Control) (w : ℕ) (x : Inside) where
 
   -- sll %l3,1,%l4
   pub shifts_mask_left_does : w < length x.rows →
-      Does n (stage n c w w x) (Compute ops.Sll (fields 20 19 (Immediate 1))) (stage n c w w (onward (record x { row = slice_set x.row 12 (shifted_left (slice_index x.row 11) 1) })))
+      Next (Compute ops.Sll (fields 20 19 (Immediate 1))) (record x { row = slice_set x.row 12 (shifted_left (slice_index x.row 11) 1) })
   unfolding outcome
   shifts_mask_left_does there =
       let l3 = slice_index x.row 11 in
@@ -148,7 +149,7 @@ module _ (n : ℕ) (c : Control) (w : ℕ) (x : Inside) where
 
   -- or %l5,%g1,%g1
   pub joins_does : w < length x.rows →
-      Does n (stage n c w w x) (Compute ops.Or (fields 1 21 (Register 1))) (stage n c w w (onward (record x { globals = slice_set x.globals 1 (bit_or (slice_index x.row 13) (slice_index x.globals 1)) })))
+      Next (Compute ops.Or (fields 1 21 (Register 1))) (record x { globals = slice_set x.globals 1 (bit_or (slice_index x.row 13) (slice_index x.globals 1)) })
   unfolding outcome
   joins_does there =
       let l5 = slice_index x.row 13 in
@@ -157,7 +158,7 @@ module _ (n : ℕ) (c : Control) (w : ℕ) (x : Inside) where
 
   -- or %l5,%l4,%l4
   pub joins_local_does : w < length x.rows →
-      Does n (stage n c w w x) (Compute ops.Or (fields 20 21 (Register 20))) (stage n c w w (onward (record x { row = slice_set x.row 12 (bit_or (slice_index x.row 13) (slice_index x.row 12)) })))
+      Next (Compute ops.Or (fields 20 21 (Register 20))) (record x { row = slice_set x.row 12 (bit_or (slice_index x.row 13) (slice_index x.row 12)) })
   unfolding outcome
   joins_local_does there =
       let l5 = slice_index x.row 13 in
@@ -168,7 +169,8 @@ module _ (n : ℕ) (c : Control) (w : ℕ) (x : Inside) where
   -- ---- the others
 
   -- sethi 0,%g0
-  pub nothing_does : (u : ℕ) → Does n (stage n c w u x) (SetHigh (record { rd = 0; imm22 = 0 })) (stage n c w u (onward x))
+  pub nothing_does : (u : ℕ) →
+      Does n (stage n c w u x) (SetHigh (record { rd = 0; imm22 = 0 })) (stage n c w u (onward x))
   unfolding effect written with_reg advanced applies
   nothing_does u = record { system = refl; sane = refl; straight = refl; calm = refl; plain = λ mmu y. refl; is = refl }
 
@@ -179,12 +181,14 @@ module _ (n : ℕ) (c : Control) (w : ℕ) (x : Inside) where
   goes_does u d = record { system = refl; sane = refl; straight = refl; calm = refl; plain = λ mmu y. refl; is = refl }
 
   -- save %g0,%g0,%g0
-  pub saves_does : (u : ℕ) → is_masked x.mask (below n u) ≡ false → Does n (stage n c w u x) (Save (fields 0 0 (Register 0))) (stage n c w (below n u) (onward x))
+  pub saves_does : (u : ℕ) → is_masked x.mask (below n u) ≡ false →
+      Does n (stage n c w u x) (Save (fields 0 0 (Register 0))) (stage n c w (below n u) (onward x))
   unfolding effect written with_reg advanced applies can_enter
   saves_does u free = record { system = refl; sane = refl; straight = refl; calm = rw free refl; plain = λ mmu y. refl; is = refl }
 
   -- restore %g0,%g0,%g0
-  pub restores_does : (u : ℕ) → is_masked x.mask (above n u) ≡ false → Does n (stage n c w u x) (Restore (fields 0 0 (Register 0))) (stage n c w (above n u) (onward x))
+  pub restores_does : (u : ℕ) → is_masked x.mask (above n u) ≡ false →
+      Does n (stage n c w u x) (Restore (fields 0 0 (Register 0))) (stage n c w (above n u) (onward x))
   unfolding effect written with_reg advanced applies can_enter
   restores_does u free = record { system = refl; sane = refl; straight = refl; calm = rw free refl; plain = λ mmu y. refl; is = refl }
 
@@ -196,7 +200,7 @@ module _ (n : ℕ) (c : Control) (w : ℕ) (x : Inside) where
 
   -- wr %l4,%g0,%wim
   pub writes_mask_local_does : w < length x.rows →
-      Does n (stage n c w w x) (WriteState Wim (source 20 (Register 0))) (stage n c w w (onward (record x { mask = bit_xor (slice_index x.row 12) 0 % 2 ^ n })))
+      Next (WriteState Wim (source 20 (Register 0))) (record x { mask = bit_xor (slice_index x.row 12) 0 % 2 ^ n })
   unfolding effect advanced applies
   writes_mask_local_does there =
       let with_mask : ℕ → Cpu n = λ m. stage n c w w (onward (record x { mask = m % 2 ^ n })) in
@@ -206,7 +210,8 @@ module _ (n : ℕ) (c : Control) (w : ℕ) (x : Inside) where
         straight = refl;
         calm = refl;
         plain = λ mmu y. refl;
-        is = ap (λ v. with_mask (bit_xor v (own 0))) (local_is 20 there (omega arith) (omega arith)) ∙ ap (λ z. with_mask (bit_xor (slice_index x.row 12) z)) zero_is;
+        is = ap (λ v. with_mask (bit_xor v (own 0))) (local_is 20 there (omega arith) (omega arith))
+            ∙ ap (λ z. with_mask (bit_xor (slice_index x.row 12) z)) zero_is;
       }
 
   -- jmpl to an address, %g0
@@ -225,7 +230,8 @@ module _ (n : ℕ) (c : Control) (w : ℕ) (x : Inside) where
       }
 
   -- rett to an address
-  pub returns_does : (rs1 : ℕ) (o : Operand) (to : ℕ) → is_masked x.mask (above n w) ≡ false → address_of n (stage n c w w x) rs1 o ≡ to → to % 4 ≡ 0 →
+  pub returns_does : (rs1 : ℕ) (o : Operand) (to : ℕ) → is_masked x.mask (above n w) ≡ false →
+      address_of n (stage n c w w x) rs1 o ≡ to → to % 4 ≡ 0 →
       Does n (stage n c w w x) (ReturnFromTrap (source rs1 o)) (finished n c w (record x { pc = x.npc; npc = to }))
   unfolding effect returned jumped applies can_enter
   returns_does rs1 o to free is whole =
@@ -242,7 +248,8 @@ module _ (n : ℕ) (c : Control) (w : ℕ) (x : Inside) where
   -- ---- addresses
 
   -- the address that a local of the trap's window holds
-  pub address_of_local : (r v : ℕ) → w < length x.rows → 16 ≤ r → r < 24 → slice_index x.row (r - 8) ≡ v → v < 2 ^ 32 → address_of n (stage n c w w x) r (Register 0) ≡ v
+  pub address_of_local : (r v : ℕ) → w < length x.rows → 16 ≤ r → r < 24 → slice_index x.row (r - 8) ≡ v →
+      v < 2 ^ 32 → address_of n (stage n c w w x) r (Register 0) ≡ v
   unfolding address_of
   address_of_local r v there low high is word =
       let none : v + 0 ≡ v = omega arith in
@@ -252,10 +259,14 @@ module _ (n : ℕ) (c : Control) (w : ℕ) (x : Inside) where
 
   -- ---- double words on the stack
 
-  pub store_double_calm : (u rd offset : ℕ) → rd % 2 ≡ 0 → address_of n (stage n c w u x) 14 (Immediate offset) % 8 ≡ 0 → first_trap n (stage n c w u x) (store Double (at_stack rd offset)) ≡ None
+  pub store_double_calm : (u rd offset : ℕ) → rd % 2 ≡ 0 →
+      address_of n (stage n c w u x) 14 (Immediate offset) % 8 ≡ 0 →
+      first_trap n (stage n c w u x) (store Double (at_stack rd offset)) ≡ None
   unfolding applies memory_applies
   store_double_calm u rd offset even aligned = rw even (rw aligned refl)
 
-  pub load_double_calm : (u rd offset : ℕ) → rd % 2 ≡ 0 → address_of n (stage n c w u x) 14 (Immediate offset) % 8 ≡ 0 → first_trap n (stage n c w u x) (load loadings.Double (at_stack rd offset)) ≡ None
+  pub load_double_calm : (u rd offset : ℕ) → rd % 2 ≡ 0 →
+      address_of n (stage n c w u x) 14 (Immediate offset) % 8 ≡ 0 →
+      first_trap n (stage n c w u x) (load loadings.Double (at_stack rd offset)) ≡ None
   unfolding applies memory_applies
   load_double_calm u rd offset even aligned = rw even (rw aligned refl)

@@ -32,7 +32,8 @@ by_supervisor k = record { user = false; kind = k }
 abbrev pub page : ℕ → ℕ → Page
 page p place = record { pa = p; level = 3; place = place }
 
-permitted : (a : Access) (pa acc place : ℕ) → permits (rights_of acc a.user) a.kind ≡ true → through a (mapped pa acc place) ≡ Ok (page pa place)
+permitted : (a : Access) (pa acc place : ℕ) → permits (rights_of acc a.user) a.kind ≡ true →
+    through a (mapped pa acc place) ≡ Ok (page pa place)
 permitted a pa acc place may = rw may refl
 
 pub walk_at : (g : Pages) (ram : List ℕ) (mmu : MmuRegs) (va : ℕ) (a : Access) (pa acc place : ℕ) →
@@ -40,7 +41,8 @@ pub walk_at : (g : Pages) (ram : List ℕ) (mmu : MmuRegs) (va : ℕ) (a : Acces
     walked ram (root_of mmu) va a ≡ Ok (page pa place)
 unfolding translated
 walk_at g ram mmu va a pa acc place tables few root word is may =
-    ap (λ r. walked ram r va a) root ∙ tables_map g ram few tables va a word ∙ ap (reached va a) is ∙ permitted a pa acc place may
+    ap (λ r. walked ram r va a) root ∙ tables_map g ram few tables va a word ∙ ap (reached va a) is
+    ∙ permitted a pa acc place may
 
 -- the entry of a code page, but for marks
 abbrev pub code_entry_word : ℕ → ℕ
@@ -76,7 +78,8 @@ module _ (n : ℕ) (g : Pages) (words ram : List ℕ) (few : AreFew g) (loaded :
 -- ---- fetches
 
 module _ (n : ℕ) (g : Pages) (words ram : List ℕ) (mmu : MmuRegs) (few : AreFew g) (loaded : IsLoaded n g words ram) (root : root_of mmu ≡ 0x2000) where
-  code_walk : (i : ℕ) → i < 1024 * g.code_count → walked ram (root_of mmu) (0x40000 + 4 * i) user_fetch ≡ Ok (page (0x10000 + 4 * i) (code_entry_place i))
+  code_walk : (i : ℕ) → i < 1024 * g.code_count →
+      walked ram (root_of mmu) (0x40000 + 4 * i) user_fetch ≡ Ok (page (0x10000 + 4 * i) (code_entry_place i))
   code_walk i less =
       let most = few.code in
       let there : 0x40000 + 4 * i - 0x30000 ≡ 0x10000 + 4 * i = omega arith in
@@ -87,29 +90,34 @@ module _ (n : ℕ) (g : Pages) (words ram : List ℕ) (mmu : MmuRegs) (few : Are
       ∙ ap (λ k. Some (mapped (0x10000 + 4 * i) 4 (0x2A00 + 4 * k))) number)
       refl
 
-  table_walk : (k : ℕ) → k < 1024 → walked ram (root_of mmu) (0xF0000000 + 4 * k) (by_supervisor Fetch) ≡ Ok (page (4 * k) 0x2D00)
+  table_walk : (k : ℕ) → k < 1024 →
+      walked ram (root_of mmu) (0xF0000000 + 4 * k) (by_supervisor Fetch) ≡ Ok (page (4 * k) 0x2D00)
   table_walk k less =
       let there : 0xF0000000 + 4 * k - 0xF0000000 ≡ 4 * k = omega arith in
       walk_at g ram mmu (0xF0000000 + 4 * k) (by_supervisor Fetch) (4 * k) 6 0x2D00 loaded.tables few root (omega arith)
       (table_at g (0xF0000000 + 4 * k) few (omega arith) (omega arith) ∙ ap (λ p. Some (mapped p 6 0x2D00)) there) refl
 
-  handlers_walk : (k : ℕ) → k < 1024 → walked ram (root_of mmu) (0xF0001000 + 4 * k) (by_supervisor Fetch) ≡ Ok (page (0x1000 + 4 * k) 0x2D04)
+  handlers_walk : (k : ℕ) → k < 1024 →
+      walked ram (root_of mmu) (0xF0001000 + 4 * k) (by_supervisor Fetch) ≡ Ok (page (0x1000 + 4 * k) 0x2D04)
   handlers_walk k less =
       let there : 0xF0001000 + 4 * k - 0xF0000000 ≡ 0x1000 + 4 * k = omega arith in
       walk_at g ram mmu (0xF0001000 + 4 * k) (by_supervisor Fetch) (0x1000 + 4 * k) 6 0x2D04 loaded.tables few root (omega arith)
       (handlers_at g (0xF0001000 + 4 * k) few (omega arith) (omega arith) ∙ ap (λ p. Some (mapped p 6 0x2D04)) there) refl
 
-  pub fetches_code : (i : ℕ) → i < 1024 * g.code_count → fetches mmu (0x40000 + 4 * i) user_fetch ram ≡ (Ok (slice_index words i), code_marked i ram)
+  pub fetches_code : (i : ℕ) → i < 1024 * g.code_count →
+      fetches mmu (0x40000 + 4 * i) user_fetch ram ≡ (Ok (slice_index words i), code_marked i ram)
   fetches_code i less =
       fetched mmu (0x40000 + 4 * i) user_fetch ram (page (0x10000 + 4 * i) (code_entry_place i)) (slice_index words i) (slice_index words i)
       (code_walk i less) (loaded.code i less) ((code_kept n g words ram few loaded i less).code i less)
 
-  pub fetches_table : (k : ℕ) → k < 1024 → fetches mmu (0xF0000000 + 4 * k) (by_supervisor Fetch) ram ≡ (Ok (trap_word k), table_marked ram)
+  pub fetches_table : (k : ℕ) → k < 1024 →
+      fetches mmu (0xF0000000 + 4 * k) (by_supervisor Fetch) ram ≡ (Ok (trap_word k), table_marked ram)
   fetches_table k less =
       fetched mmu (0xF0000000 + 4 * k) (by_supervisor Fetch) ram (page (4 * k) 0x2D00) (trap_word k) (trap_word k)
       (table_walk k less) (loaded.trap k less) ((table_kept n g words ram few loaded).trap k less)
 
-  pub fetches_handlers : (k : ℕ) → k < 1024 → fetches mmu (0xF0001000 + 4 * k) (by_supervisor Fetch) ram ≡ (Ok (handler_word n k), handlers_marked ram)
+  pub fetches_handlers : (k : ℕ) → k < 1024 →
+      fetches mmu (0xF0001000 + 4 * k) (by_supervisor Fetch) ram ≡ (Ok (handler_word n k), handlers_marked ram)
   fetches_handlers k less =
       fetched mmu (0xF0001000 + 4 * k) (by_supervisor Fetch) ram (page (0x1000 + 4 * k) 0x2D04) (handler_word n k) (handler_word n k)
       (handlers_walk k less) (loaded.handler k less) ((handlers_kept n g words ram few loaded).handler k less)
@@ -121,6 +129,7 @@ module _ (n : ℕ) (g : Pages) (words ram : List ℕ) (mmu : MmuRegs) (few : Are
       walk_at g ram mmu 0xF0010000 (by_supervisor Load) 0x100000000 7 0x2D40 loaded.tables few root (omega arith)
       (device_at g 0xF0010000 few (omega arith) (omega arith)) refl
 
-  pub reaches_device : (va : ℕ) → 0xF0010000 ≤ va → va < 0xF0011000 → walked ram (root_of mmu) va (by_supervisor Store) ≡ Ok (page (va - 0xF0010000 + 0x100000000) 0x2D40)
+  pub reaches_device : (va : ℕ) → 0xF0010000 ≤ va → va < 0xF0011000 →
+      walked ram (root_of mmu) va (by_supervisor Store) ≡ Ok (page (va - 0xF0010000 + 0x100000000) 0x2D40)
   reaches_device va low high =
       walk_at g ram mmu va (by_supervisor Store) (va - 0xF0010000 + 0x100000000) 7 0x2D40 loaded.tables few root (omega arith) (device_at g va few low high) refl

@@ -27,7 +27,8 @@ use Rattle.v8_loaded.proofs.Leading.{shifted, turn_later}
 use Rattle.v8_loaded.proofs.Turns.{Area, Comes, Setting, marked_byte}
 use Rattle.v8_loaded.proofs.Users.{user_page, user_traps}
 
-pub setting : (n : ℕ) (g : Pages) (words : List ℕ) (mmu : MmuRegs) (x : World n Device) (i : ℕ) → RunsUser n g words mmu x i → Setting n g mmu x.memory.device
+pub setting : (n : ℕ) (g : Pages) (words : List ℕ) (mmu : MmuRegs) (x : World n Device) (i : ℕ) →
+    RunsUser n g words mmu x i → Setting n g mmu x.memory.device
 setting n g words mmu x i u = record { root = u.root; running = u.running; few = u.file.few; many = u.file.many; pages = u.few }
 
 -- the handler's first state, after a trap of type t where WIM is this mask
@@ -68,6 +69,7 @@ module _ (n : ℕ) (g : Pages) (words : List ℕ) (mmu : MmuRegs) (x : World n D
         let high = page.high in
         record {
           bytes = λ p above apart. c.keeps.bytes p above apart ∙ marked_byte x.memory.ram place word false page p above;
-          words = λ p above apart. c.keeps.words p above apart ∙ kept_elsewhere x.memory.ram place word false page p (inr (omega arith));
+          words = λ p above apart. c.keeps.words p above apart
+              ∙ kept_elsewhere x.memory.ram place word false page p (inr (omega arith));
           entries = λ p low whole apart. c.keeps.entries p low whole (λ j less. apart j (omega arith));
         }

@@ -13,6 +13,7 @@
 --   Windows                  below and above, and the mask of one bit: right_bit (overflow), left_bit (underflow), not_masked
 --   Turns.Keeps              what RAM is after them
 --   Handled                  the trap's turn and the handler's together
+--   Frames                   RAM of bytes holds words: a save area that may be loaded
 pub mod Upto
 pub mod Windows
 pub mod Words
@@ -26,3 +27,4 @@ pub mod Vectors
 pub mod Turns
 pub mod Stack
 pub mod Handled
+pub mod Frames

@@ -56,17 +56,21 @@ use Rattle.v8_loaded.proofs.Turns.{Setting, saving, filling, Keeps, keeps_marked
 abbrev pub word_in : List ℕ → ℕ → ℕ
 word_in ram p = from_be_bytes w32 (take 4 (drop p ram))
 
-pub word_there : (ram : List ℕ) (p : ℕ) → length ram ≡ 0x100000 → p % 4 ≡ 0 → p + 4 ≤ 0x100000 → entry_of ram p ≡ Some (word_in ram p)
+pub word_there : (ram : List ℕ) (p : ℕ) → length ram ≡ 0x100000 → p % 4 ≡ 0 → p + 4 ≤ 0x100000 →
+    entry_of ram p ≡ Some (word_in ram p)
 word_there ram p size aligned fits = within_entry ram p (record { aligned = aligned; fits = omega (arith, size) })
 
 in_ram : (pa : ℕ) → pa + 8 ≤ 0x100000 → nat_lt pa 0x100000000 ≡ true
 in_ram pa low = grind (arith, nat_tests)
 
-double_loaded : (ram : List ℕ) (device : Device) (pa x y : ℕ) → pa % 8 ≡ 0 → pa + 8 ≤ 0x100000 → entry_of ram pa ≡ Some x → entry_of ram (pa + 4) ≡ Some y → board_load ram device pa Double ≡ Some (x * 2 ^ 32 + y, device)
+double_loaded : (ram : List ℕ) (device : Device) (pa x y : ℕ) → pa % 8 ≡ 0 → pa + 8 ≤ 0x100000 →
+    entry_of ram pa ≡ Some x → entry_of ram (pa + 4) ≡ Some y →
+    board_load ram device pa Double ≡ Some (x * 2 ^ 32 + y, device)
 unfolding board_load
 double_loaded ram device pa x y whole fits first second = rw (in_ram pa fits) (ap (λ o. beside device o) (has_double ram pa x y whole first second))
 
-double_stored : (ram : List ℕ) (device : Device) (pa v : ℕ) → length ram ≡ 0x100000 → pa % 8 ≡ 0 → pa + 8 ≤ 0x100000 → board_store ram device pa Double v ≡ Some (with_double ram pa v, device)
+double_stored : (ram : List ℕ) (device : Device) (pa v : ℕ) → length ram ≡ 0x100000 → pa % 8 ≡ 0 → pa + 8 ≤ 0x100000 →
+    board_store ram device pa Double v ≡ Some (with_double ram pa v, device)
 unfolding board_store
 double_stored ram device pa v size whole fits =
     rw (in_ram pa fits) (ap (λ o. overwritten ram device pa Double v o)
@@ -79,7 +83,8 @@ high_of x y small = omega arith
 low_of : (x y : ℕ) → y < 2 ^ 32 → (x * 2 ^ 32 + y) % 2 ^ 32 ≡ y
 low_of x y small = omega arith
 
-double_is : (ram : List ℕ) (p x y : ℕ) → y < 2 ^ 32 → with_double ram p (x * 2 ^ 32 + y) ≡ with_entry (with_entry ram p x) (p + 4) y
+double_is : (ram : List ℕ) (p x y : ℕ) → y < 2 ^ 32 →
+    with_double ram p (x * 2 ^ 32 + y) ≡ with_entry (with_entry ram p x) (p + 4) y
 unfolding with_double
 double_is ram p x y small =
     ap (λ a. with_entry (with_entry ram p a) (p + 4) ((x * 2 ^ 32 + y) % 2 ^ 32)) (high_of x y small)
@@ -123,7 +128,8 @@ module _ (n : ℕ) (g : Pages) (words ram : List ℕ) (mmu : MmuRegs) (few : Are
       let high = on.high in
       stack_markable g ram loaded.tables few ((va - 0xC0000) / 4096) (omega arith) (omega arith)
 
-  pub stack_walk : (a : Access) → permits (rights_of 1 a.user) a.kind ≡ true → walked ram (root_of mmu) va a ≡ Ok (page (area_of va) (stack_entry_place va))
+  pub stack_walk : (a : Access) → permits (rights_of 1 a.user) a.kind ≡ true →
+      walked ram (root_of mmu) va a ≡ Ok (page (area_of va) (stack_entry_place va))
   stack_walk a may =
       let most = few.stack in
       let low = on.low in
@@ -146,7 +152,8 @@ module _ (n : ℕ) (g : Pages) (words ram : List ℕ) (mmu : MmuRegs) (few : Are
       ∙ ap (λ o. move_answered (memory_of ram device) (page (area_of va) (stack_entry_place va)) store_access (stored_after 0 o))
       (double_stored marks device (area_of va) v (stack_kept true).tables.size (omega arith) (omega arith))
 
-  loads_there : (device : Device) (x y : ℕ) → entry_of ram (area_of va) ≡ Some x → entry_of ram (area_of va + 4) ≡ Some y →
+  loads_there : (device : Device) (x y : ℕ) → entry_of ram (area_of va) ≡ Some x →
+      entry_of ram (area_of va + 4) ≡ Some y →
       moves board mmu va load_access (Load loadings.Double) 0 (memory_of ram device) ≡ (Done (x * 2 ^ 32 + y) (area_of va), memory_of (marked_ram ram (stack_entry_place va) false) device)
   unfolding moves
   loads_there device x y first second =
@@ -167,12 +174,15 @@ module _ (n : ℕ) (g : Pages) (words : List ℕ) (mmu : MmuRegs) (device : Devi
   cpu = stage n c w u x
 
   -- the address of a double word at %sp of another window
-  pub stack_address : (offset sp : ℕ) → u ≢ w → slice_index (get_or x.rows u []) 6 ≡ sp → sp + offset < 2 ^ 32 → address_of n cpu 14 (Immediate offset) ≡ sp + offset
+  pub stack_address : (offset sp : ℕ) → u ≢ w → slice_index (get_or x.rows u []) 6 ≡ sp → sp + offset < 2 ^ 32 →
+      address_of n cpu 14 (Immediate offset) ≡ sp + offset
   unfolding address_of
   stack_address offset sp other is small =
-      ap (λ a. (a + offset) % 2 ^ 32) (read_other n x.rows w x.globals x.row u x.mask 14 other (omega arith) (omega arith) ∙ is) ∙ mod-eq_of_lt small
+      ap (λ a. (a + offset) % 2 ^ 32) (read_other n x.rows w x.globals x.row u x.mask 14 other (omega arith) (omega arith) ∙ is)
+      ∙ mod-eq_of_lt small
 
-  store_acts : (rd offset va a b : ℕ) (ram new : List ℕ) → address_of n cpu 14 (Immediate offset) ≡ va → reg n cpu rd ≡ a → reg n cpu (odd_of rd) ≡ b →
+  store_acts : (rd offset va a b : ℕ) (ram new : List ℕ) → address_of n cpu 14 (Immediate offset) ≡ va →
+      reg n cpu rd ≡ a → reg n cpu (odd_of rd) ≡ b →
       moves board mmu va store_access (Store Double) (a * 2 ^ 32 + b) (memory_of ram device) ≡ (Done 0 (area_of va), memory_of new device) →
       acts board n mmu (store Double (at_stack rd offset)) (world n cpu ram device) ≡ (record { access = Some (access_of va true); trap = None }, world n (stage n c w u (onward x)) new device)
   unfolding transfers taken advanced
@@ -182,9 +192,11 @@ module _ (n : ℕ) (g : Pages) (words : List ℕ) (mmu : MmuRegs) (device : Devi
       let second_word = reg n cpu (odd_of rd) in
       let to : ℕ → ℕ → ℕ → Moved × Memory Device = λ p v k. moves board mmu p store_access (Store Double) (v * 2 ^ 32 + k) mem in
       let end : ℕ → Moved × Memory Device → Outcome × World n Device = λ p l. transfer_ends n p (Store Double) rd cpu l.0 l.1 in
-      ap (λ p. end p (to p first_word second_word)) at ∙ ap (λ v. end va (to va v second_word)) first ∙ ap (λ k. end va (to va a k)) second ∙ ap (end va) there
+      ap (λ p. end p (to p first_word second_word)) at ∙ ap (λ v. end va (to va v second_word)) first
+      ∙ ap (λ k. end va (to va a k)) second ∙ ap (end va) there
 
-  load_acts : (rd offset va a b : ℕ) (ram new : List ℕ) (next_cpu : Cpu n) → address_of n cpu 14 (Immediate offset) ≡ va → b < 2 ^ 32 →
+  load_acts : (rd offset va a b : ℕ) (ram new : List ℕ) (next_cpu : Cpu n) →
+      address_of n cpu 14 (Immediate offset) ≡ va → b < 2 ^ 32 →
       moves board mmu va load_access (Load loadings.Double) 0 (memory_of ram device) ≡ (Done (a * 2 ^ 32 + b) (area_of va), memory_of new device) → written_pair n cpu rd a b ≡ next_cpu →
       acts board n mmu (load loadings.Double (at_stack rd offset)) (world n cpu ram device) ≡ (record { access = Some (access_of va false); trap = None }, world n next_cpu new device)
   unfolding transfers taken
@@ -196,7 +208,8 @@ module _ (n : ℕ) (g : Pages) (words : List ℕ) (mmu : MmuRegs) (device : Devi
       ∙ ap (λ q. (record { access = Some (access_of va false); trap = None }, world n q new device))
       (ap (λ h. written_pair n cpu rd h ((a * 2 ^ 32 + b) % 2 ^ 32)) (high_of a b small) ∙ ap (λ k. written_pair n cpu rd a k) (low_of a b small) ∙ does)
 
-  pub in_store : (base : ℕ) (word : ℕ → ℕ) (stored : ℕ) (old : World n Device) (j k rd offset va : ℕ) → Comes n g words mmu device (saving base word stored) j old cpu →
+  pub in_store : (base : ℕ) (word : ℕ → ℕ) (stored : ℕ) (old : World n Device) (j k rd offset va : ℕ) →
+      Comes n g words mmu device (saving base word stored) j old cpu →
       k < 1024 → x.pc ≡ 0xF0001000 + 4 * k → Asks (handler_word n k) (store Double (at_stack rd offset)) → rd % 2 ≡ 0 →
       address_of n cpu 14 (Immediate offset) ≡ va → OnStack g va → va ≡ base + 0x60000 + 4 * stored →
       reg n cpu rd ≡ word stored → reg n cpu (odd_of rd) ≡ word (suc stored) → word stored < 2 ^ 32 → word (suc stored) < 2 ^ 32 →
@@ -232,7 +245,8 @@ module _ (n : ℕ) (g : Pages) (words : List ℕ) (mmu : MmuRegs) (device : Devi
       ∙ ap (λ q. (Done 0 (va - 0x60000), memory_of (with_double marks2 q (a * 2 ^ 32 + b)) device)) pa
       ∙ ap (λ m. (Done 0 (va - 0x60000), memory_of m device)) (double_is marks2 p a b fits_too) in
       let new = stage n c w u (onward x) in
-      let fetch = ap (λ q. fetches mmu q (by_supervisor Fetch) before.ram) at ∙ fetches_handlers n g words before.ram mmu s.pages before.loaded s.root k small in
+      let fetch = ap (λ q. fetches mmu q (by_supervisor Fetch) before.ram) at
+      ∙ fetches_handlers n g words before.ram mmu s.pages before.loaded s.root k small in
       one_more n g words mmu device s area r r j old cpu new final (turn_of n cpu Ran (Some (handler_word n k)) (Some (access_of va true))) before
       (runs_to board n mmu cpu before.ram marks device (handler_word n k) (store Double (at_stack rd offset)) (Some (access_of va true)) (world n new final device)
       (record { running = s.running; sane = refl; straight = refl }) fetch is
@@ -243,7 +257,8 @@ module _ (n : ℕ) (g : Pages) (words : List ℕ) (mmu : MmuRegs) (device : Devi
       (subst (λ q. Keeps (saving base word r) old.memory.ram (with_entry mid q b)) (sym next_place) kept2)
       (store_keeps n g words mid (p + 4) b s.pages mid_loaded (omega arith) (omega arith) (omega arith))
 
-  pub in_load : (base reached i r : ℕ) (old : World n Device) (j k rd offset va a b : ℕ) (new : Cpu n) → Comes n g words mmu device (filling base reached) j old cpu →
+  pub in_load : (base reached i r : ℕ) (old : World n Device) (j k rd offset va a b : ℕ) (new : Cpu n) →
+      Comes n g words mmu device (filling base reached) j old cpu →
       k < 1024 → x.pc ≡ 0xF0001000 + 4 * k → Asks (handler_word n k) (load loadings.Double (at_stack rd offset)) → rd % 2 ≡ 0 →
       address_of n cpu 14 (Immediate offset) ≡ va → OnStack g va → va ≡ base + 0x60000 + 4 * i → i < r → reached ≤ r →
       entry_of old.memory.ram (area_of va) ≡ Some a → entry_of old.memory.ram (area_of va + 4) ≡ Some b → b < 2 ^ 32 → written_pair n cpu rd a b ≡ new →
@@ -260,9 +275,12 @@ module _ (n : ℕ) (g : Pages) (words : List ℕ) (mmu : MmuRegs) (device : Devi
       let marks2 = marked_ram marks (stack_entry_place va) false in
       let area = filling base reached in
       let kept = keeps_marked area old.memory.ram before.ram 0x2D04 0x11A false before.keeps handlers (omega arith) in
-      let first_there : entry_of marks (va - 0x60000) ≡ Some a = kept.words (va - 0x60000) (omega arith) (inl refl) ∙ first in
-      let second_there : entry_of marks (va - 0x60000 + 4) ≡ Some b = kept.words (va - 0x60000 + 4) (omega arith) (inl refl) ∙ second in
-      let fetch = ap (λ q. fetches mmu q (by_supervisor Fetch) before.ram) at ∙ fetches_handlers n g words before.ram mmu s.pages before.loaded s.root k small in
+      let first_there : entry_of marks (va - 0x60000) ≡ Some a = kept.words (va - 0x60000) (omega arith) (inl refl)
+      ∙ first in
+      let second_there : entry_of marks (va - 0x60000 + 4) ≡ Some b = kept.words (va - 0x60000 + 4) (omega arith) (inl refl)
+      ∙ second in
+      let fetch = ap (λ q. fetches mmu q (by_supervisor Fetch) before.ram) at
+      ∙ fetches_handlers n g words before.ram mmu s.pages before.loaded s.root k small in
       one_more n g words mmu device s area 0 r j old cpu new marks2 (turn_of n cpu Ran (Some (handler_word n k)) (Some (access_of va false))) before
       (runs_to board n mmu cpu before.ram marks device (handler_word n k) (load loadings.Double (at_stack rd offset)) (Some (access_of va false)) (world n new marks2 device)
       (record { running = s.running; sane = refl; straight = refl }) fetch is

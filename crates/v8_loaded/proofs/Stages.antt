@@ -55,31 +55,37 @@ finished n c w x = record {
 
 -- ---- reading
 
-pub read_zero : (n : ℕ) (rows : List (List ℕ)) (w : ℕ) (globals row : List ℕ) (current mask : ℕ) → reg_of n (inside rows w globals row current mask) 0 ≡ 0
+pub read_zero : (n : ℕ) (rows : List (List ℕ)) (w : ℕ) (globals row : List ℕ) (current mask : ℕ) →
+    reg_of n (inside rows w globals row current mask) 0 ≡ 0
 unfolding reg_of
 read_zero n rows w globals row current mask = refl
 
-pub read_global : (n : ℕ) (rows : List (List ℕ)) (w : ℕ) (globals row : List ℕ) (current mask : ℕ) → reg_of n (inside rows w globals row current mask) 1 ≡ slice_index globals 1
+pub read_global : (n : ℕ) (rows : List (List ℕ)) (w : ℕ) (globals row : List ℕ) (current mask : ℕ) →
+    reg_of n (inside rows w globals row current mask) 1 ≡ slice_index globals 1
 unfolding reg_of
 read_global n rows w globals row current mask = refl
 
-pub read_own : (n : ℕ) (rows : List (List ℕ)) (w : ℕ) (globals row : List ℕ) (mask r : ℕ) → w < length rows → 8 ≤ r → r < 24 → reg_of n (inside rows w globals row w mask) r ≡ slice_index row (r - 8)
+pub read_own : (n : ℕ) (rows : List (List ℕ)) (w : ℕ) (globals row : List ℕ) (mask r : ℕ) → w < length rows → 8 ≤ r →
+    r < 24 → reg_of n (inside rows w globals row w mask) r ≡ slice_index row (r - 8)
 unfolding reg_of
 read_own n rows w globals row mask r there low high =
     let same : get_or (slice_set rows w row) w [] ≡ row = get_or-set_same rows w row [] there in
     grind (arith, nat_tests, same)
 
-pub read_other : (n : ℕ) (rows : List (List ℕ)) (w : ℕ) (globals row : List ℕ) (u mask r : ℕ) → u ≢ w → 8 ≤ r → r < 24 → reg_of n (inside rows w globals row u mask) r ≡ slice_index (get_or rows u []) (r - 8)
+pub read_other : (n : ℕ) (rows : List (List ℕ)) (w : ℕ) (globals row : List ℕ) (u mask r : ℕ) → u ≢ w → 8 ≤ r →
+    r < 24 → reg_of n (inside rows w globals row u mask) r ≡ slice_index (get_or rows u []) (r - 8)
 unfolding reg_of
 read_other n rows w globals row u mask r other low high =
     let same : get_or (slice_set rows w row) u [] ≡ get_or rows u [] = get_or-set_other rows w u row [] other in
     let t : slice_index (get_or (slice_set rows w row) u []) (r - 8) ≡ slice_index (get_or rows u []) (r - 8) = ap (λ (xs : List ℕ). slice_index xs (r - 8)) same in
     grind (arith, nat_tests, t)
 
-pub read_trap_ins : (n : ℕ) (rows : List (List ℕ)) (w : ℕ) (globals row : List ℕ) (u mask r : ℕ) → w < length rows → above n u ≡ w → 24 ≤ r → r < 32 → reg_of n (inside rows w globals row u mask) r ≡ slice_index row (r - 24)
+pub read_trap_ins : (n : ℕ) (rows : List (List ℕ)) (w : ℕ) (globals row : List ℕ) (u mask r : ℕ) → w < length rows →
+    above n u ≡ w → 24 ≤ r → r < 32 → reg_of n (inside rows w globals row u mask) r ≡ slice_index row (r - 24)
 unfolding reg_of
 read_trap_ins n rows w globals row u mask r there is low high =
-    let same : get_or (slice_set rows w row) (above n u) [] ≡ row = ap (λ x. get_or (slice_set rows w row) x []) is ∙ get_or-set_same rows w row [] there in
+    let same : get_or (slice_set rows w row) (above n u) [] ≡ row = ap (λ x. get_or (slice_set rows w row) x []) is
+    ∙ get_or-set_same rows w row [] there in
     let t : slice_index (get_or (slice_set rows w row) (above n u) []) (r - 24) ≡ slice_index row (r - 24) = ap (λ (xs : List ℕ). slice_index xs (r - 24)) same in
     grind (arith, nat_tests, t)
 
@@ -90,12 +96,14 @@ abbrev pub with_cell : List (List ℕ) → ℕ → ℕ → ℕ → List (List �
 with_cell rows v k x = slice_set rows v (slice_set (get_or rows v []) k x)
 
 -- a register of window v, where the trap's window is another
-cell_beside : (rows : List (List ℕ)) (w : ℕ) (row : List ℕ) (v k x : ℕ) → v ≢ w → with_cell (slice_set rows w row) v k x ≡ slice_set (with_cell rows v k x) w row
+cell_beside : (rows : List (List ℕ)) (w : ℕ) (row : List ℕ) (v k x : ℕ) → v ≢ w →
+    with_cell (slice_set rows w row) v k x ≡ slice_set (with_cell rows v k x) w row
 cell_beside rows w row v k x other =
     ap (λ (xs : List ℕ). slice_set (slice_set rows w row) v (slice_set xs k x)) (get_or-set_other rows w v row [] other)
     ∙ set_comm rows w v row (slice_set (get_or rows v []) k x) (λ e. other (sym e))
 
-cell_in_it : (rows : List (List ℕ)) (w : ℕ) (row : List ℕ) (k x : ℕ) → w < length rows → with_cell (slice_set rows w row) w k x ≡ slice_set rows w (slice_set row k x)
+cell_in_it : (rows : List (List ℕ)) (w : ℕ) (row : List ℕ) (k x : ℕ) → w < length rows →
+    with_cell (slice_set rows w row) w k x ≡ slice_set rows w (slice_set row k x)
 cell_in_it rows w row k x there =
     ap (λ (xs : List ℕ). slice_set (slice_set rows w row) w (slice_set xs k x)) (get_or-set_same rows w row [] there)
     ∙ set-set rows w row (slice_set row k x)
@@ -103,25 +111,32 @@ cell_in_it rows w row k x there =
 abbrev re_worded : Windows → List (List ℕ) → Windows
 re_worded v words = record v { words = words }
 
-pub write_own : (n : ℕ) (rows : List (List ℕ)) (w : ℕ) (globals row : List ℕ) (mask r x : ℕ) → w < length rows → 8 ≤ r → r < 24 → with_reg n (inside rows w globals row w mask) r x ≡ inside rows w globals (slice_set row (r - 8) x) w mask
+pub write_own : (n : ℕ) (rows : List (List ℕ)) (w : ℕ) (globals row : List ℕ) (mask r x : ℕ) → w < length rows →
+    8 ≤ r → r < 24 →
+    with_reg n (inside rows w globals row w mask) r x ≡ inside rows w globals (slice_set row (r - 8) x) w mask
 unfolding with_reg
 write_own n rows w globals row mask r x there low high =
     let t : re_worded (inside rows w globals row w mask) (with_cell (slice_set rows w row) w (r - 8) x) ≡ inside rows w globals (slice_set row (r - 8) x) w mask = ap (re_worded (inside rows w globals row w mask)) (cell_in_it rows w row (r - 8) x there) in
     grind (arith, nat_tests, t)
 
-pub write_other : (n : ℕ) (rows : List (List ℕ)) (w : ℕ) (globals row : List ℕ) (u mask r x : ℕ) → u ≢ w → 8 ≤ r → r < 24 → with_reg n (inside rows w globals row u mask) r x ≡ inside (with_cell rows u (r - 8) x) w globals row u mask
+pub write_other : (n : ℕ) (rows : List (List ℕ)) (w : ℕ) (globals row : List ℕ) (u mask r x : ℕ) → u ≢ w → 8 ≤ r →
+    r < 24 →
+    with_reg n (inside rows w globals row u mask) r x ≡ inside (with_cell rows u (r - 8) x) w globals row u mask
 unfolding with_reg
 write_other n rows w globals row u mask r x other low high =
     let t : re_worded (inside rows w globals row u mask) (with_cell (slice_set rows w row) u (r - 8) x) ≡ inside (with_cell rows u (r - 8) x) w globals row u mask = ap (re_worded (inside rows w globals row u mask)) (cell_beside rows w row u (r - 8) x other) in
     grind (arith, nat_tests, t)
 
-pub write_other_ins : (n : ℕ) (rows : List (List ℕ)) (w : ℕ) (globals row : List ℕ) (u mask r x : ℕ) → above n u ≢ w → 24 ≤ r → r < 32 → with_reg n (inside rows w globals row u mask) r x ≡ inside (with_cell rows (above n u) (r - 24) x) w globals row u mask
+pub write_other_ins : (n : ℕ) (rows : List (List ℕ)) (w : ℕ) (globals row : List ℕ) (u mask r x : ℕ) → above n u ≢ w →
+    24 ≤ r → r < 32 →
+    with_reg n (inside rows w globals row u mask) r x ≡ inside (with_cell rows (above n u) (r - 24) x) w globals row u mask
 unfolding with_reg
 write_other_ins n rows w globals row u mask r x other low high =
     let t : re_worded (inside rows w globals row u mask) (with_cell (slice_set rows w row) (above n u) (r - 24) x) ≡ inside (with_cell rows (above n u) (r - 24) x) w globals row u mask = ap (re_worded (inside rows w globals row u mask)) (cell_beside rows w row (above n u) (r - 24) x other) in
     grind (arith, nat_tests, t)
 
-pub fit_written : (xs : List ℕ) (k x : ℕ) → ((j : ℕ) → slice_index xs j < 2 ^ 32) → k < length xs → x < 2 ^ 32 → (i : ℕ) → slice_index (slice_set xs k x) i < 2 ^ 32
+pub fit_written : (xs : List ℕ) (k x : ℕ) → ((j : ℕ) → slice_index xs j < 2 ^ 32) → k < length xs → x < 2 ^ 32 →
+    (i : ℕ) → slice_index (slice_set xs k x) i < 2 ^ 32
 fit_written xs k x fit there small i = by_place (i == k) refl
   where
     by_place : (t : Bool) → (i == k) ≡ t → slice_index (slice_set xs k x) i < 2 ^ 32
@@ -157,7 +172,8 @@ module _ (n : ℕ) (c : Control) (w : ℕ) (x : Inside) where
   local_computed rd v there low high = ap (with_regs n then_control) (write_own n x.rows w x.globals x.row x.mask rd v there (omega arith) high)
 
   -- the first global
-  pub global_computed : (u v : ℕ) → computed n (stage n c w u x) 1 (out v c.icc c.y) ≡ stage n c w u (onward (record x { globals = slice_set x.globals 1 v }))
+  pub global_computed : (u v : ℕ) →
+      computed n (stage n c w u x) 1 (out v c.icc c.y) ≡ stage n c w u (onward (record x { globals = slice_set x.globals 1 v }))
   unfolding computed advanced with_reg
   global_computed u v = refl
 

@@ -72,7 +72,8 @@ pub record Keeps (a : Area) (old new : List ℕ) : Type 0 where
   pub stored : (i : ℕ) → i < a.stored → entry_of new (a.base + 4 * i) ≡ Some (a.word i)
   pub words : (p : ℕ) → 0x2E00 ≤ p → IsBeside p 4 a.base (4 * a.stored) → entry_of new p ≡ entry_of old p
   pub bytes : (p : ℕ) → 0x2E00 ≤ p → IsBeside p 1 a.base (4 * a.stored) → slice_index new p ≡ slice_index old p
-  pub entries : (p : ℕ) → p < 0x2D00 → p % 4 ≡ 0 → ((i : ℕ) → i < a.reached → p ≢ stack_entry_place (a.base + 0x60000 + 4 * i)) → entry_of new p ≡ entry_of old p
+  pub entries : (p : ℕ) → p < 0x2D00 → p % 4 ≡ 0 → ((i : ℕ) → i < a.reached →
+      p ≢ stack_entry_place (a.base + 0x60000 + 4 * i)) → entry_of new p ≡ entry_of old p
 
 pub keeps_all : (a : Area) (ram : List ℕ) → 0x2E00 ≤ a.base → a.stored ≡ 0 → Keeps a ram ram
 keeps_all a ram high none = record {
@@ -84,7 +85,8 @@ keeps_all a ram high none = record {
 }
 
 -- the bytes above the tables after a mark
-pub marked_byte : (ram : List ℕ) (place t : ℕ) (store : Bool) → Markable ram place t → (p : ℕ) → 0x2E00 ≤ p → slice_index (marked_ram ram place store) p ≡ slice_index ram p
+pub marked_byte : (ram : List ℕ) (place t : ℕ) (store : Bool) → Markable ram place t → (p : ℕ) → 0x2E00 ≤ p →
+    slice_index (marked_ram ram place store) p ≡ slice_index ram p
 marked_byte ram place t store h p above =
     let high = h.high in
     let aligned = h.aligned in
@@ -92,7 +94,8 @@ marked_byte ram place t store h p above =
     ∙ byte_beside_entry ram place (marked h.entry.word store) p (entry_is ram place h.entry.word h.entry.there).0.fits (inr (omega arith))
 
 -- a mark of a system page
-pub keeps_marked : (a : Area) (old ram : List ℕ) (place t : ℕ) (store : Bool) → Keeps a old ram → Markable ram place t → 0x2D00 ≤ place → Keeps a old (marked_ram ram place store)
+pub keeps_marked : (a : Area) (old ram : List ℕ) (place t : ℕ) (store : Bool) → Keeps a old ram →
+    Markable ram place t → 0x2D00 ≤ place → Keeps a old (marked_ram ram place store)
 keeps_marked a old ram place t store k h system =
     let high = h.high in
     let aligned = h.aligned in
@@ -102,7 +105,8 @@ keeps_marked a old ram place t store k h system =
       stored = λ i less. kept_elsewhere ram place t store h (a.base + 4 * i) (inr (omega arith)) ∙ k.stored i less;
       words = λ p above apart. kept_elsewhere ram place t store h p (inr (omega arith)) ∙ k.words p above apart;
       bytes = λ p above apart. marked_byte ram place t store h p above ∙ k.bytes p above apart;
-      entries = λ p low whole apart. kept_elsewhere ram place t store h p (inl (omega arith)) ∙ k.entries p low whole apart;
+      entries = λ p low whole apart. kept_elsewhere ram place t store h p (inl (omega arith))
+          ∙ k.entries p low whole apart;
     }
 
 -- a mark of the page in which word i of the save area lies, i < r
@@ -118,7 +122,8 @@ keeps_reached a r i old ram place t store k h is within more =
       words = λ p above apart. kept_elsewhere ram place t store h p (inr (omega arith)) ∙ k.words p above apart;
       bytes = λ p above apart. marked_byte ram place t store h p above ∙ k.bytes p above apart;
       entries = λ p low whole apart.
-          kept_elsewhere ram place t store h p (sides p place whole aligned (λ e. apart i within (e ∙ is))) ∙ k.entries p low whole (λ q less. apart q (omega arith));
+          kept_elsewhere ram place t store h p (sides p place whole aligned (λ e. apart i within (e ∙ is)))
+          ∙ k.entries p low whole (λ q less. apart q (omega arith));
     }
 
 -- beside one word more is beside the words before it, and beside that word
@@ -127,7 +132,8 @@ beside_fewer p size at stored (inl none) = absurd (omega arith)
 beside_fewer p size at stored (inr (inl under)) = inr (inl under)
 beside_fewer p size at stored (inr (inr over)) = inr (inr (omega arith))
 
-beside_last : (p size at stored : ℕ) → IsBeside p size at (4 * suc stored) → (p + size ≤ at + 4 * stored) ⊎ (at + 4 * stored + 4 ≤ p)
+beside_last : (p size at stored : ℕ) → IsBeside p size at (4 * suc stored) →
+    (p + size ≤ at + 4 * stored) ⊎ (at + 4 * stored + 4 ≤ p)
 beside_last p size at stored (inl none) = absurd (omega arith)
 beside_last p size at stored (inr (inl under)) = inl (omega arith)
 beside_last p size at stored (inr (inr over)) = inr (omega arith)
@@ -149,12 +155,17 @@ keeps_stored base word stored reached store old ram k whole fits small =
       stored = λ i less.
           let split : (i < stored) ⊎ (i ≡ stored) = search arith in
           elim split [
-            | inl before ↦ entry_elsewhere ram spot (base + 4 * i) (word stored) there (inl (omega arith)) ∙ k.stored i before
-            | inr same ↦ ap (λ j. entry_of (with_entry ram spot (word stored)) (base + 4 * j)) same ∙ entry_of-with_entry ram spot (word stored) there small ∙ ap (λ j. Some (word j)) (sym same)
+            | inl before ↦ entry_elsewhere ram spot (base + 4 * i) (word stored) there (inl (omega arith))
+                ∙ k.stored i before
+            | inr same ↦ ap (λ j. entry_of (with_entry ram spot (word stored)) (base + 4 * j)) same
+                ∙ entry_of-with_entry ram spot (word stored) there small ∙ ap (λ j. Some (word j)) (sym same)
           ];
-      words = λ p above apart. entry_elsewhere ram spot p (word stored) there (beside_last p 4 base stored apart) ∙ k.words p above (beside_fewer p 4 base stored apart);
-      bytes = λ p above apart. byte_beside_entry ram spot (word stored) p fits (byte_side p spot (beside_last p 1 base stored apart)) ∙ k.bytes p above (beside_fewer p 1 base stored apart);
-      entries = λ p low four apart. entry_elsewhere ram spot p (word stored) there (inl (omega arith)) ∙ k.entries p low four apart;
+      words = λ p above apart. entry_elsewhere ram spot p (word stored) there (beside_last p 4 base stored apart)
+          ∙ k.words p above (beside_fewer p 4 base stored apart);
+      bytes = λ p above apart. byte_beside_entry ram spot (word stored) p fits (byte_side p spot (beside_last p 1 base stored apart))
+          ∙ k.bytes p above (beside_fewer p 1 base stored apart);
+      entries = λ p low four apart. entry_elsewhere ram spot p (word stored) there (inl (omega arith))
+          ∙ k.entries p low four apart;
     }
 
 -- ---- turns
@@ -170,7 +181,8 @@ pub record Comes (n : ℕ) (g : Pages) (words : List ℕ) (mmu : MmuRegs) (devic
   pub is : after board n mmu j old ≡ world n new ram device
   pub turns : (i : ℕ) → i < j → IsWithin a (turn_at board n mmu i old)
 
-reaches_more : (from few many : ℕ) (store : Bool) (o : Option DataAccess) → few ≤ many → ReachesArea from few store o → ReachesArea from many store o
+reaches_more : (from few many : ℕ) (store : Bool) (o : Option DataAccess) → few ≤ many →
+    ReachesArea from few store o → ReachesArea from many store o
 reaches_more from few many store None more h = tt
 reaches_more from few many store (Some access) more (low, high, eight, double, kind) = (low, omega arith, eight, double, kind)
 
@@ -181,10 +193,12 @@ module _ (n : ℕ) (g : Pages) (words : List ℕ) (mmu : MmuRegs) (device : Devi
   abbrev At : Area → ℕ → World n Device → Cpu n → Type 0
   At a j old cpu = Comes n g words mmu device a j old cpu
 
-  pub starts : (a : Area) (cpu : Cpu n) (ram : List ℕ) → 0x2E00 ≤ a.base → a.stored ≡ 0 → IsLoaded n g words ram → At a 0 (world n cpu ram device) cpu
+  pub starts : (a : Area) (cpu : Cpu n) (ram : List ℕ) → 0x2E00 ≤ a.base → a.stored ≡ 0 → IsLoaded n g words ram →
+      At a 0 (world n cpu ram device) cpu
   starts a cpu ram high none loaded = record { ram = ram; keeps = keeps_all a ram high none; loaded = loaded; is = refl; turns = λ i less. absurd (omega arith) }
 
-  pub one_more : (a : Area) (stored r j : ℕ) (old : World n Device) (cpu new : Cpu n) (ram : List ℕ) (t : Turn) → (before : At a j old cpu) →
+  pub one_more : (a : Area) (stored r j : ℕ) (old : World n Device) (cpu new : Cpu n) (ram : List ℕ) (t : Turn) →
+      (before : At a j old cpu) →
       next board n mmu (world n cpu before.ram device) ≡ (t, world n new ram device) → IsWithin (reaching a r) t → a.reached ≤ r →
       Keeps (record a { stored = stored; reached = r }) old.memory.ram ram → IsLoaded n g words ram → At (record a { stored = stored; reached = r }) (suc j) old new
   one_more a stored r j old cpu new ram t before turn here more keeps loaded = record {
@@ -197,13 +211,15 @@ module _ (n : ℕ) (g : Pages) (words : List ℕ) (mmu : MmuRegs) (device : Devi
         elim split [
           | inl earlier ↦ wider a r (turn_at board n mmu i old) more (before.turns i earlier)
           | inr last ↦
-              let same : turn_at board n mmu i old ≡ t = ap (λ k. turn_at board n mmu k old) last ∙ ap (λ x. (next board n mmu x).0) before.is ∙ ap (λ p. p.0) turn in
+              let same : turn_at board n mmu i old ≡ t = ap (λ k. turn_at board n mmu k old) last
+              ∙ ap (λ x. (next board n mmu x).0) before.is ∙ ap (λ p. p.0) turn in
               subst (IsWithin (reaching a r)) (sym same) here
         ];
   }
 
   -- a word of a system page that reaches no memory
-  quiet_turn : {cpu new : Cpu n} {i : Operation} (ram marks : List ℕ) (word : ℕ) → fetches mmu cpu.control.pc (by_supervisor Fetch) ram ≡ (Ok word, marks) → Asks word i → Does n cpu i new →
+  quiet_turn : {cpu new : Cpu n} {i : Operation} (ram marks : List ℕ) (word : ℕ) →
+      fetches mmu cpu.control.pc (by_supervisor Fetch) ram ≡ (Ok word, marks) → Asks word i → Does n cpu i new →
       next board n mmu (world n cpu ram device) ≡ (turn_of n cpu Ran (Some word) None, world n new marks device)
   quiet_turn {cpu} {new} {i} ram marks word fetch asks d =
       runs_to board n mmu cpu ram marks device word i None (world n new marks device)
@@ -212,22 +228,27 @@ module _ (n : ℕ) (g : Pages) (words : List ℕ) (mmu : MmuRegs) (device : Devi
       (d.plain mmu (world n cpu marks device) ∙ ap (λ (c : Cpu n). (quiet, world n c marks device)) d.is)
       ∙ ap (λ e. (turn_of n cpu (ran_event e) (Some word) None, world n new marks device)) s.running
 
-  pub handler : {a : Area} {old : World n Device} {cpu new : Cpu n} {i : Operation} (j k : ℕ) → At a j old cpu → k < 1024 → cpu.control.pc ≡ 0xF0001000 + 4 * k → Asks (handler_word n k) i → Does n cpu i new → At a (suc j) old new
+  pub handler : {a : Area} {old : World n Device} {cpu new : Cpu n} {i : Operation} (j k : ℕ) → At a j old cpu →
+      k < 1024 → cpu.control.pc ≡ 0xF0001000 + 4 * k → Asks (handler_word n k) i → Does n cpu i new →
+      At a (suc j) old new
   handler {a} {old} {cpu} {new} {i} j k before small at asks d =
       let marks = handlers_marked before.ram in
       let page = handlers_page n g words before.ram s.pages before.loaded in
-      let fetch = ap (λ p. fetches mmu p (by_supervisor Fetch) before.ram) at ∙ fetches_handlers n g words before.ram mmu s.pages before.loaded s.root k small in
+      let fetch = ap (λ p. fetches mmu p (by_supervisor Fetch) before.ram) at
+      ∙ fetches_handlers n g words before.ram mmu s.pages before.loaded s.root k small in
       one_more a a.stored a.reached j old cpu new marks (turn_of n cpu Ran (Some (handler_word n k)) None) before
       (quiet_turn before.ram marks (handler_word n k) fetch asks d)
       (record { event = refl; system = ap not d.system; page = inr (omega arith); access = tt }) (omega arith)
       (keeps_marked a old.memory.ram before.ram 0x2D04 0x11A false before.keeps page (omega arith))
       (handlers_kept n g words before.ram s.pages before.loaded)
 
-  pub table : {a : Area} {old : World n Device} {cpu new : Cpu n} {i : Operation} (j k : ℕ) → At a j old cpu → k < 1024 → cpu.control.pc ≡ 0xF0000000 + 4 * k → Asks (trap_word k) i → Does n cpu i new → At a (suc j) old new
+  pub table : {a : Area} {old : World n Device} {cpu new : Cpu n} {i : Operation} (j k : ℕ) → At a j old cpu →
+      k < 1024 → cpu.control.pc ≡ 0xF0000000 + 4 * k → Asks (trap_word k) i → Does n cpu i new → At a (suc j) old new
   table {a} {old} {cpu} {new} {i} j k before small at asks d =
       let marks = table_marked before.ram in
       let page = table_page n g words before.ram s.pages before.loaded in
-      let fetch = ap (λ p. fetches mmu p (by_supervisor Fetch) before.ram) at ∙ fetches_table n g words before.ram mmu s.pages before.loaded s.root k small in
+      let fetch = ap (λ p. fetches mmu p (by_supervisor Fetch) before.ram) at
+      ∙ fetches_table n g words before.ram mmu s.pages before.loaded s.root k small in
       one_more a a.stored a.reached j old cpu new marks (turn_of n cpu Ran (Some (trap_word k)) None) before
       (quiet_turn before.ram marks (trap_word k) fetch asks d)
       (record { event = refl; system = ap not d.system; page = inl (omega arith); access = tt }) (omega arith)

@@ -23,7 +23,8 @@ all_below_at (suc k) p h i lt = by_here (p k) refl (all_below_at k p)
 abbrev pub windows_pass : (ℕ → ℕ → Bool) → ℕ → Bool
 windows_pass p n = if nat_lt n 4 then true else all_below n (p n)
 
-pub each_window : (p : ℕ → ℕ → Bool) → all_below 33 (windows_pass p) ≡ true → (n w : ℕ) → 4 ≤ n → n ≤ 32 → w < n → p n w ≡ true
+pub each_window : (p : ℕ → ℕ → Bool) → all_below 33 (windows_pass p) ≡ true → (n w : ℕ) → 4 ≤ n → n ≤ 32 → w < n →
+    p n w ≡ true
 each_window p h n w few many within =
     let row : windows_pass p n ≡ true = all_below_at 33 (windows_pass p) h n (omega arith) in
     let some : nat_lt n 4 ≡ false = grind (arith, nat_tests) in

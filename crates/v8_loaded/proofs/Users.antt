@@ -55,7 +55,8 @@ module _ (n : ℕ) (g : Pages) (words : List ℕ) (mmu : MmuRegs) (x : World n D
   pub user_ready : Ready board n x.cpu x.memory.device
   user_ready = record { running = u.running; sane = u.sane; straight = u.straight }
 
-  pub user_runs : (op : Operation) (access : Option DataAccess) (new : World n Device) → AsksFor words i op → first_trap n x.cpu op ≡ None →
+  pub user_runs : (op : Operation) (access : Option DataAccess) (new : World n Device) → AsksFor words i op →
+      first_trap n x.cpu op ≡ None →
       acts board n mmu op (world n x.cpu marks x.memory.device) ≡ (record { access = access; trap = None }, new) →
       next board n mmu x ≡ (turn_of n x.cpu (ran_event new.memory.device.stopped) (Some word) access, new)
   user_runs op access new is calm does = runs_to board n mmu x.cpu x.memory.ram marks x.memory.device word op access new user_ready user_fetches is calm does
@@ -68,7 +69,8 @@ module _ (n : ℕ) (g : Pages) (words : List ℕ) (mmu : MmuRegs) (x : World n D
       ∙ ap (λ (b : Bool). (turn_of n x.cpu (if b then Trapped t else ErrorMode t) (Some word) None, new)) u.traps
 
   -- user code is fetched from the code's pages
-  user_touches : (t : Turn) (event : Event) → t ≡ turn_of n x.cpu event (Some word) None → Touches g t.user t.pc t.access
+  user_touches : (t : Turn) (event : Event) → t ≡ turn_of n x.cpu event (Some word) None →
+      Touches g t.user t.pc t.access
   user_touches t event is =
       let less = u.within in
       let at = u.place in
@@ -78,7 +80,8 @@ module _ (n : ℕ) (g : Pages) (words : List ℕ) (mmu : MmuRegs) (x : World n D
       subst (λ (o : Turn). Touches g o.user o.pc o.access) (sym is) (subst (λ b. Touches g (not b) x.cpu.control.pc None) (sym u.user) here)
 
   -- a turn with this event that reaches no data
-  quiet_turn : (event : Event) (new : World n Device) → next board n mmu x ≡ (turn_of n x.cpu event (Some word) None, new) → TurnsTo n g mmu x event new
+  quiet_turn : (event : Event) (new : World n Device) →
+      next board n mmu x ≡ (turn_of n x.cpu event (Some word) None, new) → TurnsTo n g mmu x event new
   quiet_turn event new turn = record {
     running = u.running;
     sane = u.sane;
@@ -94,7 +97,8 @@ module _ (n : ℕ) (g : Pages) (words : List ℕ) (mmu : MmuRegs) (x : World n D
       quiet_turn (Trapped t) _ (user_traps op t is meets ∙ ap (λ (c : Cpu n). (turn_of n x.cpu (Trapped t) (Some word) None, to c)) (vector_entered n x.cpu t u.traps u.table))
 
 -- an operation that reaches no memory: the processor goes on as it says
-pub plain_turn : (n : ℕ) (g : Pages) (words : List ℕ) (mmu : MmuRegs) (x : World n Device) (i : ℕ) (op : Operation) → RunsUser n g words mmu x i →
+pub plain_turn : (n : ℕ) (g : Pages) (words : List ℕ) (mmu : MmuRegs) (x : World n Device) (i : ℕ) (op : Operation) →
+    RunsUser n g words mmu x i →
     AsksFor words i op → first_trap n x.cpu op ≡ None → ((y : World n Device) → acts board n mmu op y ≡ (quiet, record y { cpu = effect n y.cpu op })) →
     TurnsTo n g mmu x Ran (world n (effect n x.cpu op) (code_marked i x.memory.ram) x.memory.device)
 plain_turn n g words mmu x i op u is calm plain =

@@ -22,7 +22,8 @@ use Rattle.v8_loaded.proofs.Fetches.{by_supervisor, fetches_table}
 use Rattle.v8_loaded.proofs.Words.{Asks}
 
 -- `regs`, `pc`, `npc` are those of the vector, `k` is the word's number in the table
-pub vector_turn : (n : ℕ) (g : Pages) (words : List ℕ) (mmu : MmuRegs) (x : World n Device) (i : ℕ) → RunsUser n g words mmu x i → (t : ℕ) (regs : Windows) (pc npc k : ℕ) (ram : List ℕ) (d : Device)
+pub vector_turn : (n : ℕ) (g : Pages) (words : List ℕ) (mmu : MmuRegs) (x : World n Device) (i : ℕ) →
+    RunsUser n g words mmu x i → (t : ℕ) (regs : Windows) (pc npc k : ℕ) (ram : List ℕ) (d : Device)
     (op : Operation) (access : Option DataAccess) (new : World n Device) (event : Event) →
     IsLoaded n g words ram → d.stopped ≡ None → k < 1024 → pc ≡ 0xF0000000 + 4 * k →
     Asks (trap_word k) op → first_trap n (in_vector n x.cpu t regs pc npc) op ≡ None →
@@ -31,7 +32,8 @@ pub vector_turn : (n : ℕ) (g : Pages) (words : List ℕ) (mmu : MmuRegs) (x : 
     TurnsTo n g mmu (world n (in_vector n x.cpu t regs pc npc) ram d) event new
 vector_turn n g words mmu x i u t regs pc npc k ram d op access new event loaded running small at is calm does tells device =
     let cpu = in_vector n x.cpu t regs pc npc in
-    let fetch = ap (λ p. fetches mmu p (by_supervisor Fetch) ram) at ∙ fetches_table n g words ram mmu u.few loaded u.root k small in
+    let fetch = ap (λ p. fetches mmu p (by_supervisor Fetch) ram) at
+    ∙ fetches_table n g words ram mmu u.few loaded u.root k small in
     let ready : Ready board n cpu d = record { running = running; sane = u.sane; straight = refl } in
     let page : pc / 4096 ≡ 0xF0000 = omega arith in
     let turn = runs_to board n mmu cpu ram (table_marked ram) d (trap_word k) op access new ready fetch is calm does in

@@ -69,7 +69,8 @@ unfolding meaning operation_of
 shifts_mask_right = refl
 
 -- a shift by a count
-shift_is : (w d s c : ℕ) → bits_of w 25 5 ≡ d → bits_of w 14 5 ≡ s → bits_of w 13 1 ≡ 1 → bits_of w 0 5 ≡ c → shift w ≡ fields d s (Immediate c)
+shift_is : (w d s c : ℕ) → bits_of w 25 5 ≡ d → bits_of w 14 5 ≡ s → bits_of w 13 1 ≡ 1 → bits_of w 0 5 ≡ c →
+    shift w ≡ fields d s (Immediate c)
 shift_is w d s c p q i r =
     ap (λ x. fields x (bits_of w 14 5) (short_operand 5 w)) p
     ∙ ap (λ x. fields d x (short_operand 5 w)) q
@@ -77,13 +78,15 @@ shift_is w d s c p q i r =
     ∙ ap (λ x. fields d s (Immediate x)) r
 
 -- the words that hold the number of windows
-pub shifts_left : (n : ℕ) → 4 ≤ n → n ≤ 32 → Asks (0xAB2CE000 + (n - 1)) (Compute ops.Sll (fields 21 19 (Immediate (n - 1))))
+pub shifts_left : (n : ℕ) → 4 ≤ n → n ≤ 32 →
+    Asks (0xAB2CE000 + (n - 1)) (Compute ops.Sll (fields 21 19 (Immediate (n - 1))))
 unfolding operation_of
 shifts_left n few many =
     ap operation_of (by_opcodes (0xAB2CE000 + (n - 1)) 2 37 (omega arith) (omega arith) (omega arith))
     ∙ ap (λ f. Compute ops.Sll f) (shift_is (0xAB2CE000 + (n - 1)) 21 19 (n - 1) (omega arith) (omega arith) (omega arith) (omega arith))
 
-pub shifts_right : (n : ℕ) → 4 ≤ n → n ≤ 32 → Asks (0xAB34E000 + (n - 1)) (Compute ops.Srl (fields 21 19 (Immediate (n - 1))))
+pub shifts_right : (n : ℕ) → 4 ≤ n → n ≤ 32 →
+    Asks (0xAB34E000 + (n - 1)) (Compute ops.Srl (fields 21 19 (Immediate (n - 1))))
 unfolding operation_of
 shifts_right n few many =
     ap operation_of (by_opcodes (0xAB34E000 + (n - 1)) 2 38 (omega arith) (omega arith) (omega arith))

@@ -60,4 +60,5 @@ pub record TurnsTo (n : ℕ) (g : Pages) (mmu : MmuRegs) (old : World n Device) 
 -- turns with these events, one after the other
 pub record Leads (n : ℕ) (g : Pages) (mmu : MmuRegs) (old : World n Device) (events : List Event) (new : World n Device) : Type 0 where
   pub is : after board n mmu (length events) old ≡ new
-  pub turns : (k : ℕ) (event : Event) → slice_get events k ≡ Some event → TurnsTo n g mmu (after board n mmu k old) event (after board n mmu (suc k) old)
+  pub turns : (k : ℕ) (event : Event) → slice_get events k ≡ Some event →
+      TurnsTo n g mmu (after board n mmu k old) event (after board n mmu (suc k) old)

@@ -59,14 +59,16 @@ spot_within k few =
       | inr big ↦ let e = spot_high k big in omega arith
     ]
 
-pub are_rows : (n : ℕ) (rows : List (List ℕ)) (m a : ℕ) (v : ℕ → ℕ) (k : ℕ) → Loading n rows m a v → k ≤ 16 → AreRows n (refilled rows m a v k)
+pub are_rows : (n : ℕ) (rows : List (List ℕ)) (m a : ℕ) (v : ℕ → ℕ) (k : ℕ) → Loading n rows m a v → k ≤ 16 →
+    AreRows n (refilled rows m a v k)
 are_rows n rows m a v zero l few = l.shape
 are_rows n rows m a v (suc k) l few =
     rows_written n (refilled rows m a v k) (home m a k) (spot k) (v k) (are_rows n rows m a v k l (omega arith))
     (home_within n m a k l.first l.second) (spot_within k (omega arith)) (l.fit k (omega arith))
 
 -- the word itself
-cell_on : (n : ℕ) (rows : List (List ℕ)) (u j x : ℕ) → AreRows n rows → u < n → j < 16 → slice_index (get_or (with_cell rows u j x) u []) j ≡ x
+cell_on : (n : ℕ) (rows : List (List ℕ)) (u j x : ℕ) → AreRows n rows → u < n → j < 16 →
+    slice_index (get_or (with_cell rows u j x) u []) j ≡ x
 cell_on n rows u j x shape less small =
     let count = shape.count in
     let long = shape.each u less in
@@ -74,7 +76,8 @@ cell_on n rows u j x shape less small =
     ∙ get_or-set_same (get_or rows u []) j x 0 (omega (arith, long))
 
 -- any other
-cell_off : (n : ℕ) (rows : List (List ℕ)) (w i x u j : ℕ) → AreRows n rows → w < n → (u ≢ w) ⊎ (j ≢ i) → slice_index (get_or (with_cell rows w i x) u []) j ≡ slice_index (get_or rows u []) j
+cell_off : (n : ℕ) (rows : List (List ℕ)) (w i x u j : ℕ) → AreRows n rows → w < n → (u ≢ w) ⊎ (j ≢ i) →
+    slice_index (get_or (with_cell rows w i x) u []) j ≡ slice_index (get_or rows u []) j
 cell_off n rows w i x u j shape less apart =
     let row = slice_set (get_or rows w []) i x in
     elim apart [
@@ -82,7 +85,8 @@ cell_off n rows w i x u j shape less apart =
       | inr other ↦ by_window (u == w) refl other
     ]
   where
-    by_window : (t : Bool) → (u == w) ≡ t → j ≢ i → slice_index (get_or (with_cell rows w i x) u []) j ≡ slice_index (get_or rows u []) j
+    by_window : (t : Bool) → (u == w) ≡ t → j ≢ i →
+        slice_index (get_or (with_cell rows w i x) u []) j ≡ slice_index (get_or rows u []) j
     by_window true e other =
         let same : u ≡ w = grind (arith, nat_tests) in
         let count = shape.count in
@@ -94,7 +98,8 @@ cell_off n rows w i x u j shape less apart =
         let beside : u ≢ w = grind (arith, nat_tests) in
         ap (λ (xs : List ℕ). slice_index xs j) (get_or-set_other rows w u (slice_set (get_or rows w []) i x) [] beside)
 
-pub kept_word : (n : ℕ) (rows : List (List ℕ)) (m a : ℕ) (v : ℕ → ℕ) (k u j : ℕ) → Loading n rows m a v → k ≤ 16 → ((i : ℕ) → i < k → (u ≢ home m a i) ⊎ (j ≢ spot i)) →
+pub kept_word : (n : ℕ) (rows : List (List ℕ)) (m a : ℕ) (v : ℕ → ℕ) (k u j : ℕ) → Loading n rows m a v → k ≤ 16 →
+    ((i : ℕ) → i < k → (u ≢ home m a i) ⊎ (j ≢ spot i)) →
     slice_index (get_or (refilled rows m a v k) u []) j ≡ slice_index (get_or rows u []) j
 kept_word n rows m a v zero u j l few apart = refl
 kept_word n rows m a v (suc k) u j l few apart =
@@ -114,7 +119,8 @@ two_places m a i k apart less few =
       ]
     ]
 
-pub loaded_word : (n : ℕ) (rows : List (List ℕ)) (m a : ℕ) (v : ℕ → ℕ) (k i : ℕ) → Loading n rows m a v → k ≤ 16 → i < k →
+pub loaded_word : (n : ℕ) (rows : List (List ℕ)) (m a : ℕ) (v : ℕ → ℕ) (k i : ℕ) → Loading n rows m a v → k ≤ 16 →
+    i < k →
     slice_index (get_or (refilled rows m a v k) (home m a i) []) (spot i) ≡ v i
 loaded_word n rows m a v zero i l few less = absurd (omega arith)
 loaded_word n rows m a v (suc k) i l few less =
@@ -132,7 +138,8 @@ loaded_word n rows m a v (suc k) i l few less =
     ]
 
 -- another row for window w
-pub with_row : (n : ℕ) (rows : List (List ℕ)) (w : ℕ) (row : List ℕ) → AreRows n rows → w < n → length row ≡ 16 → ((j : ℕ) → slice_index row j < 2 ^ 32) → AreRows n (slice_set rows w row)
+pub with_row : (n : ℕ) (rows : List (List ℕ)) (w : ℕ) (row : List ℕ) → AreRows n rows → w < n → length row ≡ 16 →
+    ((j : ℕ) → slice_index row j < 2 ^ 32) → AreRows n (slice_set rows w row)
 with_row n rows w row shape less long fit =
     record {
       count = length-set rows w row ∙ shape.count;
@@ -140,7 +147,8 @@ with_row n rows w row shape less long fit =
       fit = λ u j. by_window u (λ xs. slice_index xs j < 2 ^ 32) (u == w) refl (fit j) (shape.fit u j);
     }
   where
-    by_window : (u : ℕ) (P : List ℕ → Type 0) (t : Bool) → (u == w) ≡ t → P row → P (get_or rows u []) → P (get_or (slice_set rows w row) u [])
+    by_window : (u : ℕ) (P : List ℕ → Type 0) (t : Bool) → (u == w) ≡ t → P row → P (get_or rows u []) →
+        P (get_or (slice_set rows w row) u [])
     by_window u P true e here elsewhere =
         let same : w ≡ u = grind (arith, nat_tests) in
         let count = shape.count in

@@ -70,7 +70,8 @@ free_loaded n cur four many within =
     let first = above_within n cur four many within in
     free_other n (above n (above n cur)) (above n cur) many (above_within n (above n cur) four many first) first (above_differs n (above n cur) four many first)
 
-pub loads_of : (n : ℕ) (g : Pages) (ram : List ℕ) (rows : List (List ℕ)) (cur : ℕ) (v : ℕ → ℕ) → 4 ≤ n → n ≤ 32 → Frame n g ram rows cur v → Loading n rows (above n cur) (above n (above n cur)) v
+pub loads_of : (n : ℕ) (g : Pages) (ram : List ℕ) (rows : List (List ℕ)) (cur : ℕ) (v : ℕ → ℕ) → 4 ≤ n → n ≤ 32 →
+    Frame n g ram rows cur v → Loading n rows (above n cur) (above n (above n cur)) v
 loads_of n g ram rows cur v four many f =
     let first = above_within n cur four many f.within in
     record {
@@ -83,7 +84,8 @@ loads_of n g ram rows cur v four many f =
 
 -- ---- %sp while the window is loaded
 
-pointer_kept : (n : ℕ) (rows : List (List ℕ)) (m a : ℕ) (v : ℕ → ℕ) (k : ℕ) → Loading n rows m a v → k ≤ 16 → pointer (refilled rows m a v k) m ≡ pointer rows m
+pointer_kept : (n : ℕ) (rows : List (List ℕ)) (m a : ℕ) (v : ℕ → ℕ) (k : ℕ) → Loading n rows m a v → k ≤ 16 →
+    pointer (refilled rows m a v k) m ≡ pointer rows m
 pointer_kept n rows m a v k l few = kept_word n rows m a v k m 6 l few (λ i less. beside i)
   where
     beside : (i : ℕ) → (m ≢ home m a i) ⊎ (6 ≢ spot i)
@@ -138,10 +140,12 @@ module _ (n : ℕ) (g : Pages) (words : List ℕ) (mmu : MmuRegs) (device : Devi
   abbrev At : ℕ → ℕ → Cpu n → Type 0
   At count j cpu = Comes n g words mmu device (filling (area_of sp) count) j old cpu
 
-  in_table : {count : ℕ} {cpu new : Cpu n} {i : Operation} (j k : ℕ) → At count j cpu → k < 1024 → cpu.control.pc ≡ 0xF0000000 + 4 * k → Asks (trap_word k) i → Does n cpu i new → At count (suc j) new
+  in_table : {count : ℕ} {cpu new : Cpu n} {i : Operation} (j k : ℕ) → At count j cpu → k < 1024 →
+      cpu.control.pc ≡ 0xF0000000 + 4 * k → Asks (trap_word k) i → Does n cpu i new → At count (suc j) new
   in_table j k before small at asks d = table n g words mmu device s j k before small at asks d
 
-  in_handler : {count : ℕ} {cpu new : Cpu n} {i : Operation} (j k : ℕ) → At count j cpu → k < 1024 → cpu.control.pc ≡ 0xF0001000 + 4 * k → Asks (handler_word n k) i → Does n cpu i new → At count (suc j) new
+  in_handler : {count : ℕ} {cpu new : Cpu n} {i : Operation} (j k : ℕ) → At count j cpu → k < 1024 →
+      cpu.control.pc ≡ 0xF0001000 + 4 * k → Asks (handler_word n k) i → Does n cpu i new → At count (suc j) new
   in_handler j k before small at asks d = handler n g words mmu device s j k before small at asks d
 
   up : above n w ≡ cur
@@ -188,7 +192,8 @@ module _ (n : ℕ) (g : Pages) (words : List ℕ) (mmu : MmuRegs) (device : Devi
   cells k = refilled rows u b v k
 
   -- ldd of words 2 j and 2 j + 1
-  loads : (t j pc npc rd : ℕ) (new : Cpu n) → At (2 * j) t (stage n c w u (on (cells (2 * j)) r5 marks pc npc)) → j < 8 → pc ≡ 0xF00010A0 + 4 * j → rd % 2 ≡ 0 →
+  loads : (t j pc npc rd : ℕ) (new : Cpu n) → At (2 * j) t (stage n c w u (on (cells (2 * j)) r5 marks pc npc)) →
+      j < 8 → pc ≡ 0xF00010A0 + 4 * j → rd % 2 ≡ 0 →
       Asks (handler_word n (40 + j)) (load loadings.Double (at_stack rd (8 * j))) → written_pair n (stage n c w u (on (cells (2 * j)) r5 marks pc npc)) rd (v (2 * j)) (v (2 * j + 1)) ≡ new →
       At (2 * j + 2) (suc t) new
   loads t j pc npc rd new before small at even asks written =
@@ -230,7 +235,8 @@ module _ (n : ℕ) (g : Pages) (words : List ℕ) (mmu : MmuRegs) (device : Devi
       (pair_written_ins n c w (on (cells 14) r5 marks 0xF00010BC 0xF00010C0) u 30 (v 14) (v 15) next (omega arith) (omega arith) refl)
 
   -- the whole handler, which ends at the place pc with npc after it
-  pub underflow : (pc npc : ℕ) → slice_index row 9 ≡ pc → slice_index row 10 ≡ npc → pc < 2 ^ 32 → npc < 2 ^ 32 → pc % 4 ≡ 0 → npc % 4 ≡ 0 → At 16 23 (finished n c w (on (cells 16) r5 marks pc npc))
+  pub underflow : (pc npc : ℕ) → slice_index row 9 ≡ pc → slice_index row 10 ≡ npc → pc < 2 ^ 32 → npc < 2 ^ 32 →
+      pc % 4 ≡ 0 → npc % 4 ≡ 0 → At 16 23 (finished n c w (on (cells 16) r5 marks pc npc))
   unfolding page_word
   underflow pc npc is_pc is_npc pc_word npc_word pc_whole npc_whole =
       let last = cells 16 in

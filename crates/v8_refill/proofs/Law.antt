@@ -30,24 +30,29 @@ use Rattle.v8_refill.proofs.Cells.{Loading, refilled, home, spot, home_low, home
 use Rattle.v8_refill.proofs.Rows.{row_5, low_kept, long, fit}
 use Rattle.v8_refill.proofs.Handler.{Frame, loads_of, underflow as handled_by, window_apart, next_apart}
 
-restore_traps : (n : ℕ) (cpu : Cpu n) (f : Three) → is_masked cpu.regs.mask (above n cpu.regs.current) ≡ true → first_trap n cpu (Restore f) ≡ Some 6
+restore_traps : (n : ℕ) (cpu : Cpu n) (f : Three) → is_masked cpu.regs.mask (above n cpu.regs.current) ≡ true →
+    first_trap n cpu (Restore f) ≡ Some 6
 unfolding applies can_enter
 restore_traps n cpu f forbidden = rw forbidden refl
 
 -- a word of another window than the one with a row of its own
-beside_row : (rows : List (List ℕ)) (w : ℕ) (row : List ℕ) (u j : ℕ) → u ≢ w → slice_index (get_or (slice_set rows w row) u []) j ≡ slice_index (get_or rows u []) j
+beside_row : (rows : List (List ℕ)) (w : ℕ) (row : List ℕ) (u j : ℕ) → u ≢ w →
+    slice_index (get_or (slice_set rows w row) u []) j ≡ slice_index (get_or rows u []) j
 beside_row rows w row u j other = ap (λ (xs : List ℕ). slice_index xs j) (get_or-set_other rows w u row [] other)
 
-in_row : (rows : List (List ℕ)) (w : ℕ) (row : List ℕ) (j : ℕ) → w < length rows → slice_index (get_or (slice_set rows w row) w []) j ≡ slice_index row j
+in_row : (rows : List (List ℕ)) (w : ℕ) (row : List ℕ) (j : ℕ) → w < length rows →
+    slice_index (get_or (slice_set rows w row) w []) j ≡ slice_index row j
 in_row rows w row j there = ap (λ (xs : List ℕ). slice_index xs j) (get_or-set_same rows w row [] there)
 
-local_loaded : (n : ℕ) (rows : List (List ℕ)) (m a : ℕ) (v : ℕ → ℕ) (j : ℕ) → Loading n rows m a v → j < 8 → slice_index (get_or (refilled rows m a v 16) m []) (8 + j) ≡ v j
+local_loaded : (n : ℕ) (rows : List (List ℕ)) (m a : ℕ) (v : ℕ → ℕ) (j : ℕ) → Loading n rows m a v → j < 8 →
+    slice_index (get_or (refilled rows m a v 16) m []) (8 + j) ≡ v j
 local_loaded n rows m a v j l small =
     ap (λ u. slice_index (get_or (refilled rows m a v 16) u []) (8 + j)) (sym (home_low m a j small))
     ∙ ap (λ k. slice_index (get_or (refilled rows m a v 16) (home m a j) []) k) (sym (spot_low j small))
     ∙ loaded_word n rows m a v 16 j l (omega arith) (omega arith)
 
-in_loaded : (n : ℕ) (rows : List (List ℕ)) (m a : ℕ) (v : ℕ → ℕ) (j : ℕ) → Loading n rows m a v → j < 8 → slice_index (get_or (refilled rows m a v 16) a []) j ≡ v (8 + j)
+in_loaded : (n : ℕ) (rows : List (List ℕ)) (m a : ℕ) (v : ℕ → ℕ) (j : ℕ) → Loading n rows m a v → j < 8 →
+    slice_index (get_or (refilled rows m a v 16) a []) j ≡ v (8 + j)
 in_loaded n rows m a v j l small =
     let at : j ≡ spot (8 + j) = (let e = spot_high (8 + j) (omega arith) in omega arith) in
     ap (λ u. slice_index (get_or (refilled rows m a v 16) u []) j) (sym (home_high m a (8 + j) (omega arith)))
@@ -73,7 +78,8 @@ kept : (n : ℕ) (rows : List (List ℕ)) (m a w : ℕ) (v : ℕ → ℕ) (row :
     slice_index (get_or (slice_set (refilled rows m a v 16) w row) u []) j ≡ slice_index (get_or rows u []) j
 kept n rows m a w v row u j l less outs first second third = by_window (u == w) refl
   where
-    by_window : (t : Bool) → (u == w) ≡ t → slice_index (get_or (slice_set (refilled rows m a v 16) w row) u []) j ≡ slice_index (get_or rows u []) j
+    by_window : (t : Bool) → (u == w) ≡ t →
+        slice_index (get_or (slice_set (refilled rows m a v 16) w row) u []) j ≡ slice_index (get_or rows u []) j
     by_window true e =
         let same : u ≡ w = grind (arith, nat_tests) in
         let count = (are_rows n rows m a v 16 l (omega arith)).count in
@@ -82,7 +88,8 @@ kept n rows m a w v row u j l less outs first second third = by_window (u == w) 
         ∙ ap (λ x. slice_index (get_or rows x []) j) (sym same)
     by_window false e =
         let other : u ≢ w = grind (arith, nat_tests) in
-        beside_row (refilled rows m a v 16) w row u j other ∙ kept_word n rows m a v 16 u j l (omega arith) (λ i small. not_loaded m a u j i first second small)
+        beside_row (refilled rows m a v 16) w row u j other
+        ∙ kept_word n rows m a v 16 u j l (omega arith) (λ i small. not_loaded m a u j i first second small)
 
 module _ (n : ℕ) (g : Pages) (words : List ℕ) (mmu : MmuRegs) (x : World n Device) (i : ℕ) (o : Underflows n g words mmu x i) (area : HasFrame g x.memory.ram (stack_pointer n x.cpu)) where
   abbrev op : Operation
@@ -155,7 +162,8 @@ module _ (n : ℕ) (g : Pages) (words : List ℕ) (mmu : MmuRegs) (x : World n D
       word_there x.memory.ram (at + 4 * k) size (omega arith) (omega arith)
 
   -- before and after the fetch the save area is the same
-  frame_in : (ram : List ℕ) → ((p : ℕ) → 0x2E00 ≤ p → entry_of ram p ≡ entry_of x.memory.ram p) → Frame n g ram rows cur saved
+  frame_in : (ram : List ℕ) → ((p : ℕ) → 0x2E00 ≤ p → entry_of ram p ≡ entry_of x.memory.ram p) →
+      Frame n g ram rows cur saved
   frame_in ram same =
       let low = area.room.low in
       let most = o.user.few.stack in

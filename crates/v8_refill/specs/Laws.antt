@@ -41,7 +41,8 @@ pub record Refills (n : ℕ) (old new : Cpu n) : Type 0 where
   pub mask : new.regs.mask ≡ 2 ^ next_window n old
   pub current : new.regs.current ≡ old.regs.current
   pub globals : new.regs.globals ≡ old.regs.globals
-  pub kept : (w j : ℕ) → (w ≡ refilled_window n old → j < 8) → (w ≡ next_window n old → 8 ≤ j) → (w ≡ entered_window n old → j < 8) →
+  pub kept : (w j : ℕ) → (w ≡ refilled_window n old → j < 8) → (w ≡ next_window n old → 8 ≤ j) →
+      (w ≡ entered_window n old → j < 8) →
       word_at new.regs w j ≡ word_at old.regs w j
   pub file : IsFile n new.regs
   pub control : new.control ≡ record old.control { ps = old.control.s; tt = 6 }

@@ -18,7 +18,8 @@ below_other n c few here same =
     above_other n (below n c) few (below_less n c few here) (up ∙ sym same)
 
 -- a register file with one word more
-pub file_with : (n : ℕ) (v : Windows) (w k x : ℕ) → IsFile n v → w < n → k < 16 → x < 2 ^ 32 → IsFile n (with_word v w k x)
+pub file_with : (n : ℕ) (v : Windows) (w k x : ℕ) → IsFile n v → w < n → k < 16 → x < 2 ^ 32 →
+    IsFile n (with_word v w k x)
 file_with n v w k x f less room small =
     record { few = f.few; many = f.many; current = f.current; mask = f.mask; globals = f.globals; rows = rows_written n v.words w k x f.rows less room small }
 
@@ -26,7 +27,8 @@ pub file_moved : (n : ℕ) (v : Windows) (w : ℕ) → IsFile n v → w < n → 
 file_moved n v w f less = record { few = f.few; many = f.many; current = less; mask = f.mask; globals = f.globals; rows = f.rows }
 
 -- a word of it
-pub word_of : (n : ℕ) (v : Windows) (w k x u j : ℕ) → IsFile n v → w < n → k < 16 → word_at (with_word v w k x) u j ≡ (if (u == w) && (j == k) then x else word_at v u j)
+pub word_of : (n : ℕ) (v : Windows) (w k x u j : ℕ) → IsFile n v → w < n → k < 16 →
+    word_at (with_word v w k x) u j ≡ (if (u == w) && (j == k) then x else word_at v u j)
 word_of n v w k x u j f less room =
     let there : w < length v.words = omega (arith, f.rows.count) in
     let wide : k < length (get_or v.words w []) = omega (arith, f.rows.each w less) in
@@ -36,14 +38,17 @@ pub word_there : (n : ℕ) (v : Windows) (w k x : ℕ) → IsFile n v → w < n 
 word_there n v w k x f less room =
     let one : (w == w) ≡ true = grind (arith, nat_tests) in
     let two : (k == k) ≡ true = grind (arith, nat_tests) in
-    word_of n v w k x w k f less room ∙ ap (λ b. if b && (k == k) then x else word_at v w k) one ∙ ap (λ b. if b then x else word_at v w k) two
+    word_of n v w k x w k f less room ∙ ap (λ b. if b && (k == k) then x else word_at v w k) one
+    ∙ ap (λ b. if b then x else word_at v w k) two
 
-pub word_beside : (n : ℕ) (v : Windows) (w k x u j : ℕ) → IsFile n v → w < n → k < 16 → j ≢ k → word_at (with_word v w k x) u j ≡ word_at v u j
+pub word_beside : (n : ℕ) (v : Windows) (w k x u j : ℕ) → IsFile n v → w < n → k < 16 → j ≢ k →
+    word_at (with_word v w k x) u j ≡ word_at v u j
 word_beside n v w k x u j f less room other =
     let no : ((u == w) && (j == k)) ≡ false = grind (arith, nat_tests) in
     word_of n v w k x u j f less room ∙ ap (λ b. if b then x else word_at v u j) no
 
-pub word_apart : (n : ℕ) (v : Windows) (w k x u j : ℕ) → IsFile n v → w < n → k < 16 → u ≢ w → word_at (with_word v w k x) u j ≡ word_at v u j
+pub word_apart : (n : ℕ) (v : Windows) (w k x u j : ℕ) → IsFile n v → w < n → k < 16 → u ≢ w →
+    word_at (with_word v w k x) u j ≡ word_at v u j
 word_apart n v w k x u j f less room other =
     let no : ((u == w) && (j == k)) ≡ false = grind (arith, nat_tests) in
     word_of n v w k x u j f less room ∙ ap (λ b. if b then x else word_at v u j) no
@@ -54,7 +59,8 @@ word_apart n v w k x u j f less room other =
 abbrev pub answered : ℕ → Windows → ℕ → ℕ → ℕ → Windows
 answered n v pc npc x = with_word (vector_registers n v pc npc) (above n (below n v.current)) 0 x
 
-pub answered_is : (n : ℕ) (v : Windows) (pc npc x : ℕ) → with_reg n (vector_registers n v pc npc) 24 x ≡ answered n v pc npc x
+pub answered_is : (n : ℕ) (v : Windows) (pc npc x : ℕ) →
+    with_reg n (vector_registers n v pc npc) 24 x ≡ answered n v pc npc x
 unfolding with_reg
 answered_is n v pc npc x = refl
 
@@ -79,7 +85,8 @@ module _ (n : ℕ) (v : Windows) (pc npc : ℕ) (f : IsFile n v) (pc_word : pc <
 
   -- %l3 is the device's address
   pub reads_address : reg_of n (vector_registers n v pc npc) 19 ≡ device_address
-  reads_address = reads_place n (vector_registers n v pc npc) 19 (omega arith) ∙ word_there n (trapped n v pc npc) w 11 device_address trapped_file inside (omega arith)
+  reads_address = reads_place n (vector_registers n v pc npc) 19 (omega arith)
+      ∙ word_there n (trapped n v pc npc) w 11 device_address trapped_file inside (omega arith)
 
   -- %l2 is nPC
   npc_there : word_at (vector_registers n v pc npc) w 10 ≡ npc
@@ -162,7 +169,8 @@ module _ (n : ℕ) (v : Windows) (pc npc : ℕ) (f : IsFile n v) (pc_word : pc <
       ∙ word_apart n (with_word v w 9 pc) w 10 npc u j one inside (omega arith) other
       ∙ word_apart n v w 9 pc u j f inside (omega arith) other
 
-  window_kept : (r : ℕ) → r < 32 → (b : Bool) → word_at (scratched n v pc npc) (if b then v.current else above n v.current) (if b then r - 8 else r - 24) ≡ word_at v (if b then v.current else above n v.current) (if b then r - 8 else r - 24)
+  window_kept : (r : ℕ) → r < 32 → (b : Bool) →
+      word_at (scratched n v pc npc) (if b then v.current else above n v.current) (if b then r - 8 else r - 24) ≡ word_at v (if b then v.current else above n v.current) (if b then r - 8 else r - 24)
   window_kept r small true = scratch_apart v.current (r - 8) apart
   window_kept r small false = scratch_beside (above n v.current) (r - 24) (omega arith)
 
@@ -172,5 +180,6 @@ module _ (n : ℕ) (v : Windows) (pc npc : ℕ) (f : IsFile n v) (pc_word : pc <
       let split : (r < 8) ⊎ (8 ≤ r) = search arith in
       elim split [
         | inl low ↦ globals_kept r low
-        | inr high ↦ reads_place n (scratched n v pc npc) r high ∙ window_kept r small (nat_lt r 24) ∙ sym (reads_place n v r high)
+        | inr high ↦ reads_place n (scratched n v pc npc) r high ∙ window_kept r small (nat_lt r 24)
+            ∙ sym (reads_place n v r high)
       ]

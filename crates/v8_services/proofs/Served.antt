@@ -94,7 +94,8 @@ put_traps n cpu = refl
 
 -- ---- back in user code
 
-control_back : (c : Control) (t : ℕ) → c.et ≡ true → c.annul ≡ false → record c { et = true; ps = c.s; annul = false; tt = t; pc = c.npc; npc = following c.npc } ≡ returned_from c t
+control_back : (c : Control) (t : ℕ) → c.et ≡ true → c.annul ≡ false →
+    record c { et = true; ps = c.s; annul = false; tt = t; pc = c.npc; npc = following c.npc } ≡ returned_from c t
 control_back c t traps straight =
     ap (λ (b : Bool). record c { et = b; ps = c.s; annul = false; tt = t; pc = c.npc; npc = following c.npc }) (sym traps)
     ∙ ap (λ (b : Bool). record c { ps = c.s; annul = b; tt = t; pc = c.npc; npc = following c.npc }) (sym straight)
@@ -173,18 +174,23 @@ module _ (n : ℕ) (g : Pages) (words : List ℕ) (mmu : MmuRegs) (x : World n D
       vector_turn n g words mmu x i u t (trapped n v pc npc) a (following a) k ram1 d set_device None (world n (in_vector n c t vector (following a) (following (following a))) ram2 d) Ran loaded1 u.running small at is
       (calm_set n (in_vector n c t (trapped n v pc npc) a (following a))) (sets_device n mmu c t v pc npc a (following a) ram2 d) (ap ran_event u.running) tt
 
-  device_at : (t a b offset va : ℕ) → (0xF0010000 + offset) % 2 ^ 32 ≡ va → address_of n (in_vector n c t vector a b) 19 (Immediate offset) ≡ va
-  device_at t a b offset va is = address_is n c t vector a b 19 0xF0010000 offset (reads_address n v pc npc u.file pc_word u.npc_word) ∙ is
+  device_at : (t a b offset va : ℕ) → (0xF0010000 + offset) % 2 ^ 32 ≡ va →
+      address_of n (in_vector n c t vector a b) 19 (Immediate offset) ≡ va
+  device_at t a b offset va is = address_is n c t vector a b 19 0xF0010000 offset (reads_address n v pc npc u.file pc_word u.npc_word)
+      ∙ is
 
   -- jmpl %l2,%g0 and rett %l2+4, in these registers
-  jump_turn : (t k a : ℕ) (regs : Windows) (ram : List ℕ) (e : Device) → IsLoaded n g words ram → e.stopped ≡ None → reg_of n regs 18 ≡ npc → k < 1024 → a ≡ 0xF0000000 + 4 * k → operation_of (meaning (trap_word k)) ≡ jump_back →
+  jump_turn : (t k a : ℕ) (regs : Windows) (ram : List ℕ) (e : Device) → IsLoaded n g words ram → e.stopped ≡ None →
+      reg_of n regs 18 ≡ npc → k < 1024 → a ≡ 0xF0000000 + 4 * k → operation_of (meaning (trap_word k)) ≡ jump_back →
       TurnsTo n g mmu (world n (in_vector n c t regs a (following a)) ram e) Ran (world n (in_vector n c t regs (following a) npc) (table_marked ram) e)
   jump_turn t k a regs ram e loaded running reads small at is =
       let to = register_address_is n c t regs a (following a) 18 npc reads u.npc_word in
       vector_turn n g words mmu x i u t regs a (following a) k ram e jump_back None (world n (in_vector n c t regs (following a) npc) (table_marked ram) e) Ran loaded running small at is
       (calm_jump n (in_vector n c t regs a (following a)) (record { rd = 0; rs1 = 18; operand2 = Register 0 }) npc to (whole_test npc u.npc_whole)) (jumps_back n mmu c t regs a (following a) npc (table_marked ram) e to) (ap ran_event running) tt
 
-  return_turn : (t k a : ℕ) (regs : Windows) (ram : List ℕ) (e : Device) → IsLoaded n g words ram → e.stopped ≡ None → reg_of n regs 18 ≡ npc → can_enter regs (above n regs.current) ≡ true → k < 1024 → a ≡ 0xF0000000 + 4 * k → operation_of (meaning (trap_word k)) ≡ return_back →
+  return_turn : (t k a : ℕ) (regs : Windows) (ram : List ℕ) (e : Device) → IsLoaded n g words ram → e.stopped ≡ None →
+      reg_of n regs 18 ≡ npc → can_enter regs (above n regs.current) ≡ true → k < 1024 → a ≡ 0xF0000000 + 4 * k →
+      operation_of (meaning (trap_word k)) ≡ return_back →
       TurnsTo n g mmu (world n (in_vector n c t regs a npc) ram e) Ran (world n (resumed n c t (moved regs (above n regs.current)) npc (following npc)) (table_marked ram) e)
   return_turn t k a regs ram e loaded running reads free small at is =
       let to = address_is n c t regs a npc 18 npc 4 reads in
@@ -192,7 +198,8 @@ module _ (n : ℕ) (g : Pages) (words : List ℕ) (mmu : MmuRegs) (x : World n D
       (calm_return n c t regs a npc (record { rs1 = 18; operand2 = Immediate 4 }) (following npc) free to (next_whole npc u.npc_whole)) (returns_back n mmu c t regs a npc (following npc) (table_marked ram) e to) (ap ran_event running) tt
 
   -- the end, with these registers
-  ends_with : (t : ℕ) (regs windows : Windows) (ram : List ℕ) (e : Device) → windows ≡ regs → world n (resumed n c t windows npc (following npc)) ram e ≡ world n (record { regs = regs; control = returned_from c.control t }) ram e
+  ends_with : (t : ℕ) (regs windows : Windows) (ram : List ℕ) (e : Device) → windows ≡ regs →
+      world n (resumed n c t windows npc (following npc)) ram e ≡ world n (record { regs = regs; control = returned_from c.control t }) ram e
   ends_with t regs windows ram e same =
       ap (λ (r : Windows). world n (resumed n c t r npc (following npc)) ram e) same
       ∙ ap (λ (k : Control). world n (record { regs = regs; control = k }) ram e) (control_back c.control t u.traps u.straight)
@@ -284,5 +291,6 @@ pub put_law : PutLaw
 put_law n g words mmu x i u may asks = puts_so n g words mmu x i u may asks
 
 -- what was loaded is loaded after a call too
-pub loaded_after : (n : ℕ) (g : Pages) (words : List ℕ) (mmu : MmuRegs) (x : World n Device) (i : ℕ) (store : Bool) → RunsUser n g words mmu x i → IsLoaded n g words (table_marked (table_marked (vector_marked i store x.memory.ram)))
+pub loaded_after : (n : ℕ) (g : Pages) (words : List ℕ) (mmu : MmuRegs) (x : World n Device) (i : ℕ) (store : Bool) →
+    RunsUser n g words mmu x i → IsLoaded n g words (table_marked (table_marked (vector_marked i store x.memory.ram)))
 loaded_after n g words mmu x i store u = table_kept n g words (table_marked (vector_marked i store x.memory.ram)) u.few (loaded4 n g words mmu x i u store)

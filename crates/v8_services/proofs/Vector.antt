@@ -63,43 +63,52 @@ load_input = load loadings.Word (at_device 0)
 abbrev pub store_word : ℕ → Operation
 store_word offset = store Word (at_device offset)
 
-pub calm_load : (n : ℕ) (cpu : Cpu n) (place : ℕ) → address_of n cpu 19 (Immediate 0) ≡ place → (place % 4 == 0) ≡ true → first_trap n cpu load_input ≡ None
+pub calm_load : (n : ℕ) (cpu : Cpu n) (place : ℕ) → address_of n cpu 19 (Immediate 0) ≡ place →
+    (place % 4 == 0) ≡ true → first_trap n cpu load_input ≡ None
 unfolding applies memory_applies
 calm_load n cpu place at whole = rw at (rw whole refl)
 
-pub calm_store : (n : ℕ) (cpu : Cpu n) (offset place : ℕ) → address_of n cpu 19 (Immediate offset) ≡ place → (place % 4 == 0) ≡ true → first_trap n cpu (store_word offset) ≡ None
+pub calm_store : (n : ℕ) (cpu : Cpu n) (offset place : ℕ) → address_of n cpu 19 (Immediate offset) ≡ place →
+    (place % 4 == 0) ≡ true → first_trap n cpu (store_word offset) ≡ None
 unfolding applies memory_applies
 calm_store n cpu offset place at whole = rw at (rw whole refl)
 
-pub calm_jump : (n : ℕ) (cpu : Cpu n) (f : Three) (place : ℕ) → address_of n cpu f.rs1 f.operand2 ≡ place → (place % 4 == 0) ≡ true → first_trap n cpu (JumpAndLink f) ≡ None
+pub calm_jump : (n : ℕ) (cpu : Cpu n) (f : Three) (place : ℕ) → address_of n cpu f.rs1 f.operand2 ≡ place →
+    (place % 4 == 0) ≡ true → first_trap n cpu (JumpAndLink f) ≡ None
 unfolding applies
 calm_jump n cpu f place at whole = rw at (rw whole refl)
 
-pub calm_return : (n : ℕ) (c : Cpu n) (t : ℕ) (regs : Windows) (pc npc : ℕ) (f : Two) (place : ℕ) → can_enter regs (above n regs.current) ≡ true → address_of n (in_vector n c t regs pc npc) f.rs1 f.operand2 ≡ place → (place % 4 == 0) ≡ true →
+pub calm_return : (n : ℕ) (c : Cpu n) (t : ℕ) (regs : Windows) (pc npc : ℕ) (f : Two) (place : ℕ) →
+    can_enter regs (above n regs.current) ≡ true →
+    address_of n (in_vector n c t regs pc npc) f.rs1 f.operand2 ≡ place → (place % 4 == 0) ≡ true →
     first_trap n (in_vector n c t regs pc npc) (ReturnFromTrap f) ≡ None
 unfolding applies
 calm_return n c t regs pc npc f place free at whole = rw free (rw at (rw whole refl))
 
 -- what the device gives, and takes
-pub input_loaded : (n : ℕ) (g : Pages) (words ram : List ℕ) (mmu : MmuRegs) (d : Device) → AreFew g → IsLoaded n g words ram → root_of mmu ≡ 0x2000 →
+pub input_loaded : (n : ℕ) (g : Pages) (words ram : List ℕ) (mmu : MmuRegs) (d : Device) → AreFew g →
+    IsLoaded n g words ram → root_of mmu ≡ 0x2000 →
     moves board mmu 0xF0010000 (by_supervisor kinds.Load) (transfer.Load loadings.Word) 0 (record { ram = ram; device = d }) ≡ (Done (gets d).0 0x100000000, record { ram = device_marked false ram; device = (gets d).1 })
 unfolding moves board_load device_load
 input_loaded n g words ram mmu d few loaded root =
     ap (λ r. move_through board (by_supervisor kinds.Load) (transfer.Load loadings.Word) 0 (record { ram = ram; device = d }) r) (reaches_input n g words ram mmu few loaded root)
 
-pub word_put : (n : ℕ) (g : Pages) (words ram : List ℕ) (mmu : MmuRegs) (d : Device) (v : ℕ) → AreFew g → IsLoaded n g words ram → root_of mmu ≡ 0x2000 →
+pub word_put : (n : ℕ) (g : Pages) (words ram : List ℕ) (mmu : MmuRegs) (d : Device) (v : ℕ) → AreFew g →
+    IsLoaded n g words ram → root_of mmu ≡ 0x2000 →
     moves board mmu 0xF0010004 (by_supervisor kinds.Store) (transfer.Store Word) v (record { ram = ram; device = d }) ≡ (Done 0 0x100000004, record { ram = device_marked true ram; device = record d { output = d.output ++ (v % 2 ^ 8) ∷ [] } })
 unfolding moves board_store device_store
 word_put n g words ram mmu d v few loaded root =
     ap (λ r. move_through board (by_supervisor kinds.Store) (transfer.Store Word) v (record { ram = ram; device = d }) r) (reaches_device n g words ram mmu few loaded root 0xF0010004 (omega arith) (omega arith))
 
-pub word_stopped : (n : ℕ) (g : Pages) (words ram : List ℕ) (mmu : MmuRegs) (d : Device) (v : ℕ) → AreFew g → IsLoaded n g words ram → root_of mmu ≡ 0x2000 →
+pub word_stopped : (n : ℕ) (g : Pages) (words ram : List ℕ) (mmu : MmuRegs) (d : Device) (v : ℕ) → AreFew g →
+    IsLoaded n g words ram → root_of mmu ≡ 0x2000 →
     moves board mmu 0xF0010008 (by_supervisor kinds.Store) (transfer.Store Word) v (record { ram = ram; device = d }) ≡ (Done 0 0x100000008, record { ram = device_marked true ram; device = record d { stopped = Some (Exit v) } })
 unfolding moves board_store device_store
 word_stopped n g words ram mmu d v few loaded root =
     ap (λ r. move_through board (by_supervisor kinds.Store) (transfer.Store Word) v (record { ram = ram; device = d }) r) (reaches_device n g words ram mmu few loaded root 0xF0010008 (omega arith) (omega arith))
 
-pub address_is : (n : ℕ) (c : Cpu n) (t : ℕ) (regs : Windows) (pc npc rs1 v offset : ℕ) → reg_of n regs rs1 ≡ v → address_of n (in_vector n c t regs pc npc) rs1 (Immediate offset) ≡ (v + offset) % 2 ^ 32
+pub address_is : (n : ℕ) (c : Cpu n) (t : ℕ) (regs : Windows) (pc npc rs1 v offset : ℕ) → reg_of n regs rs1 ≡ v →
+    address_of n (in_vector n c t regs pc npc) rs1 (Immediate offset) ≡ (v + offset) % 2 ^ 32
 unfolding address_of
 address_is n c t regs pc npc rs1 v offset reads = ap (λ a. (a + offset) % 2 ^ 32) reads
 
@@ -107,10 +116,12 @@ none_read : (n : ℕ) (regs : Windows) → reg_of n regs 0 ≡ 0
 unfolding reg_of
 none_read n regs = refl
 
-pub register_address_is : (n : ℕ) (c : Cpu n) (t : ℕ) (regs : Windows) (pc npc rs1 v : ℕ) → reg_of n regs rs1 ≡ v → v < 2 ^ 32 → address_of n (in_vector n c t regs pc npc) rs1 (Register 0) ≡ v
+pub register_address_is : (n : ℕ) (c : Cpu n) (t : ℕ) (regs : Windows) (pc npc rs1 v : ℕ) → reg_of n regs rs1 ≡ v →
+    v < 2 ^ 32 → address_of n (in_vector n c t regs pc npc) rs1 (Register 0) ≡ v
 unfolding address_of
 register_address_is n c t regs pc npc rs1 v reads small =
-    ap (λ a. (a + reg_of n regs 0) % 2 ^ 32) reads ∙ ap (λ b. (v + b) % 2 ^ 32) (none_read n regs) ∙ (let e : (v + 0) % 2 ^ 32 ≡ v = omega arith in e)
+    ap (λ a. (a + reg_of n regs 0) % 2 ^ 32) reads ∙ ap (λ b. (v + b) % 2 ^ 32) (none_read n regs)
+    ∙ (let e : (v + 0) % 2 ^ 32 ≡ v = omega arith in e)
 
 -- ---- what the words of a vector do
 
@@ -121,7 +132,8 @@ unfolding transfers taken advanced
 loads_input n mmu c t regs a b ram after d e va pa v at done =
     let cpu = in_vector n c t regs a b in
     let F : ℕ → Moved × Memory Device → Outcome × World n Device = λ p l. transfer_ends n p (transfer.Load loadings.Word) 24 cpu l.0 l.1 in
-    ap (λ p. F p (moves board mmu p (by_supervisor kinds.Load) (transfer.Load loadings.Word) 0 (record { ram = ram; device = d }))) at ∙ ap (F va) done
+    ap (λ p. F p (moves board mmu p (by_supervisor kinds.Load) (transfer.Load loadings.Word) 0 (record { ram = ram; device = d }))) at
+    ∙ ap (F va) done
 
 pub stores_word : (n : ℕ) (mmu : MmuRegs) (c : Cpu n) (t : ℕ) (regs : Windows) (a b offset : ℕ) (ram after : List ℕ) (d e : Device) (va pa v : ℕ) →
     address_of n (in_vector n c t regs a b) 19 (Immediate offset) ≡ va → reg_of n regs 24 ≡ v → moves board mmu va (by_supervisor kinds.Store) (transfer.Store Word) v (record { ram = ram; device = d }) ≡ (Done 0 pa, record { ram = after; device = e }) →
@@ -138,7 +150,8 @@ stores_word n mmu c t regs a b offset ram after d e va pa v at reads done =
 abbrev pub jump_back : Operation
 jump_back = JumpAndLink (record { rd = 0; rs1 = 18; operand2 = Register 0 })
 
-pub jumps_back : (n : ℕ) (mmu : MmuRegs) (c : Cpu n) (t : ℕ) (regs : Windows) (a b place : ℕ) (ram : List ℕ) (d : Device) → address_of n (in_vector n c t regs a b) 18 (Register 0) ≡ place →
+pub jumps_back : (n : ℕ) (mmu : MmuRegs) (c : Cpu n) (t : ℕ) (regs : Windows) (a b place : ℕ) (ram : List ℕ) (d : Device) →
+    address_of n (in_vector n c t regs a b) 18 (Register 0) ≡ place →
     acts board n mmu jump_back (world n (in_vector n c t regs a b) ram d) ≡ (quiet, world n (in_vector n c t regs b place) ram d)
 unfolding effect jumped with_reg
 jumps_back n mmu c t regs a b place ram d at = ap (λ p. (quiet, world n (in_vector n c t regs b p) ram d)) at
@@ -151,7 +164,8 @@ return_back = ReturnFromTrap (record { rs1 = 18; operand2 = Immediate 4 })
 abbrev pub resumed : (n : ℕ) → Cpu n → ℕ → Windows → ℕ → ℕ → Cpu n
 resumed n c t regs pc npc = record { regs = regs; control = record c.control { et = true; ps = c.control.s; annul = false; tt = t; pc = pc; npc = npc } }
 
-pub returns_back : (n : ℕ) (mmu : MmuRegs) (c : Cpu n) (t : ℕ) (regs : Windows) (a b place : ℕ) (ram : List ℕ) (d : Device) → address_of n (in_vector n c t regs a b) 18 (Immediate 4) ≡ place →
+pub returns_back : (n : ℕ) (mmu : MmuRegs) (c : Cpu n) (t : ℕ) (regs : Windows) (a b place : ℕ) (ram : List ℕ) (d : Device) →
+    address_of n (in_vector n c t regs a b) 18 (Immediate 4) ≡ place →
     acts board n mmu return_back (world n (in_vector n c t regs a b) ram d) ≡ (quiet, world n (resumed n c t (moved regs (above n regs.current)) b place) ram d)
 unfolding effect returned jumped
 returns_back n mmu c t regs a b place ram d at = ap (λ p. (quiet, world n (resumed n c t (moved regs (above n regs.current)) b p) ram d)) at

@@ -12,7 +12,8 @@ use Rattle.v8_spill.specs.Laws.{Spills}
 use Rattle.v8_spill.proofs.Rows.{row_5, globals_7, row_5_long, row_5_low, row_5_fits, globals_back}
 
 -- a fact about each window's words, where one window's are new
-row_by : (rows : List (List ℕ)) (w : ℕ) (row : List ℕ) (v : ℕ) (P : List ℕ → Type 0) → w < length rows → P row → P (get_or rows v []) → P (get_or (slice_set rows w row) v [])
+row_by : (rows : List (List ℕ)) (w : ℕ) (row : List ℕ) (v : ℕ) (P : List ℕ → Type 0) → w < length rows → P row →
+    P (get_or rows v []) → P (get_or (slice_set rows w row) v [])
 row_by rows w row v P there here elsewhere = by_window (v == w) refl
   where
     by_window : (t : Bool) → (v == w) ≡ t → P (get_or (slice_set rows w row) v [])
@@ -24,11 +25,13 @@ row_by rows w row v P there here elsewhere = by_window (v == w) refl
         subst P (sym (get_or-set_other rows w v row [] other)) elsewhere
 
 -- a word that neither the trap nor the handler changes
-kept_word : (rows : List (List ℕ)) (w : ℕ) (row : List ℕ) (v j : ℕ) → w < length rows → (v ≡ w → j < 8) → (j < 8 → slice_index row j ≡ slice_index (get_or rows w []) j) →
+kept_word : (rows : List (List ℕ)) (w : ℕ) (row : List ℕ) (v j : ℕ) → w < length rows → (v ≡ w → j < 8) → (j < 8 →
+    slice_index row j ≡ slice_index (get_or rows w []) j) →
     slice_index (get_or (slice_set rows w row) v []) j ≡ slice_index (get_or rows v []) j
 kept_word rows w row v j there low same = by_window (v == w) refl
   where
-    by_window : (t : Bool) → (v == w) ≡ t → slice_index (get_or (slice_set rows w row) v []) j ≡ slice_index (get_or rows v []) j
+    by_window : (t : Bool) → (v == w) ≡ t →
+        slice_index (get_or (slice_set rows w row) v []) j ≡ slice_index (get_or rows v []) j
     by_window true e =
         let is : v ≡ w = grind (arith, nat_tests) in
         ap (λ x. slice_index (get_or (slice_set rows w row) x []) j) is
@@ -55,10 +58,13 @@ last_cpu n cpu =
       npc = cpu.control.npc;
     })
 
-pub last_row_low : (n : ℕ) (cpu : Cpu n) (j : ℕ) → j < 8 → slice_index (last_row n cpu) j ≡ slice_index (get_or cpu.regs.words (below n cpu.regs.current) []) j
-last_row_low n cpu j low = row_5_low n cpu.regs.globals (first_row n cpu) (2 ^ below n cpu.regs.current) j (omega arith) ∙ first_row_kept n cpu j (λ e. omega arith) (λ e. omega arith)
+pub last_row_low : (n : ℕ) (cpu : Cpu n) (j : ℕ) → j < 8 →
+    slice_index (last_row n cpu) j ≡ slice_index (get_or cpu.regs.words (below n cpu.regs.current) []) j
+last_row_low n cpu j low = row_5_low n cpu.regs.globals (first_row n cpu) (2 ^ below n cpu.regs.current) j (omega arith)
+    ∙ first_row_kept n cpu j (λ e. omega arith) (λ e. omega arith)
 
-pub last_row_fits : (n : ℕ) (cpu : Cpu n) → IsFile n cpu.regs → cpu.control.pc < 2 ^ 32 → cpu.control.npc < 2 ^ 32 → (i : ℕ) → slice_index (last_row n cpu) i < 2 ^ 32
+pub last_row_fits : (n : ℕ) (cpu : Cpu n) → IsFile n cpu.regs → cpu.control.pc < 2 ^ 32 → cpu.control.npc < 2 ^ 32 →
+    (i : ℕ) → slice_index (last_row n cpu) i < 2 ^ 32
 last_row_fits n cpu file a b i =
     let few = file.few in
     let many = file.many in
@@ -68,7 +74,8 @@ last_row_fits n cpu file a b i =
     row_5_fits n cpu.regs.globals (first_row n cpu) (2 ^ w) (first_row_pcs n cpu sixteen).2 (mask_word w (omega arith)) (file.globals.fit 1)
     (first_row_fits n cpu sixteen a b (file.rows.fit w)) i
 
-pub spills : (n : ℕ) (cpu : Cpu n) → IsFile n cpu.regs → cpu.control.pc < 2 ^ 32 → cpu.control.npc < 2 ^ 32 → cpu.control.annul ≡ false → cpu.control.error ≡ None → cpu.control.et ≡ true →
+pub spills : (n : ℕ) (cpu : Cpu n) → IsFile n cpu.regs → cpu.control.pc < 2 ^ 32 → cpu.control.npc < 2 ^ 32 →
+    cpu.control.annul ≡ false → cpu.control.error ≡ None → cpu.control.et ≡ true →
     Spills n cpu (last_cpu n cpu)
 spills n cpu file pc_word npc_word straight sane enabled =
     let few = file.few in

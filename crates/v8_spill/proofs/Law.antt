@@ -27,17 +27,20 @@ use Rattle.v8_spill.proofs.Rows.{row_5_low}
 use Rattle.v8_spill.proofs.Overflow.{Frame, overflow, spilled_word}
 use Rattle.v8_spill.proofs.After.{last_cpu, last_row, last_row_low, last_row_fits, spills}
 
-save_traps : (n : ℕ) (cpu : Cpu n) (f : Three) → is_masked cpu.regs.mask (below n cpu.regs.current) ≡ true → first_trap n cpu (Save f) ≡ Some 5
+save_traps : (n : ℕ) (cpu : Cpu n) (f : Three) → is_masked cpu.regs.mask (below n cpu.regs.current) ≡ true →
+    first_trap n cpu (Save f) ≡ Some 5
 unfolding applies can_enter
 save_traps n cpu f forbidden = rw forbidden refl
 
 abbrev chosen : List (List ℕ) → ℕ → List ℕ → ℕ → Bool → ℕ
 chosen rows u row i t = if t then slice_index (get_or rows u []) (8 + i) else slice_index row (i - 8)
 
-spilled_low : (rows : List (List ℕ)) (u : ℕ) (row : List ℕ) (i : ℕ) → i < 8 → spilled_word rows u row i ≡ slice_index (get_or rows u []) (8 + i)
+spilled_low : (rows : List (List ℕ)) (u : ℕ) (row : List ℕ) (i : ℕ) → i < 8 →
+    spilled_word rows u row i ≡ slice_index (get_or rows u []) (8 + i)
 spilled_low rows u row i small = let test : nat_lt i 8 ≡ true = grind (arith, nat_tests) in ap (chosen rows u row i) test
 
-spilled_high : (rows : List (List ℕ)) (u : ℕ) (row : List ℕ) (i : ℕ) → 8 ≤ i → spilled_word rows u row i ≡ slice_index row (i - 8)
+spilled_high : (rows : List (List ℕ)) (u : ℕ) (row : List ℕ) (i : ℕ) → 8 ≤ i →
+    spilled_word rows u row i ≡ slice_index row (i - 8)
 spilled_high rows u row i big = let test : nat_lt i 8 ≡ false = grind (arith, nat_tests) in ap (chosen rows u row i) test
 
 module _ (n : ℕ) (g : Pages) (words : List ℕ) (mmu : MmuRegs) (x : World n Device) (i : ℕ) (o : Overflows n g words mmu x i) (room : HasRoom g (stack_pointer n x.cpu)) where

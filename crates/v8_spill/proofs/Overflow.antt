@@ -105,10 +105,12 @@ module _ (n : ℕ) (g : Pages) (words : List ℕ) (mmu : MmuRegs) (device : Devi
   abbrev At : ℕ → ℕ → Cpu n → Type 0
   At count j cpu = Comes n g words mmu device (saving (area_of sp) word count) j old cpu
 
-  in_table : {count : ℕ} {cpu new : Cpu n} {i : Operation} (j k : ℕ) → At count j cpu → k < 1024 → cpu.control.pc ≡ 0xF0000000 + 4 * k → Asks (trap_word k) i → Does n cpu i new → At count (suc j) new
+  in_table : {count : ℕ} {cpu new : Cpu n} {i : Operation} (j k : ℕ) → At count j cpu → k < 1024 →
+      cpu.control.pc ≡ 0xF0000000 + 4 * k → Asks (trap_word k) i → Does n cpu i new → At count (suc j) new
   in_table j k before small at asks d = table n g words mmu device s j k before small at asks d
 
-  in_handler : {count : ℕ} {cpu new : Cpu n} {i : Operation} (j k : ℕ) → At count j cpu → k < 1024 → cpu.control.pc ≡ 0xF0001000 + 4 * k → Asks (handler_word n k) i → Does n cpu i new → At count (suc j) new
+  in_handler : {count : ℕ} {cpu new : Cpu n} {i : Operation} (j k : ℕ) → At count j cpu → k < 1024 →
+      cpu.control.pc ≡ 0xF0001000 + 4 * k → Asks (handler_word n k) i → Does n cpu i new → At count (suc j) new
   in_handler j k before small at asks d = handler n g words mmu device s j k before small at asks d
 
   u_small : u < n
@@ -168,14 +170,16 @@ module _ (n : ℕ) (g : Pages) (words : List ℕ) (mmu : MmuRegs) (device : Devi
       stores 18 7 0xF000103C 0xF0001040 t18 (omega arith) refl stores_7
 
   -- the whole handler, which ends at the place pc with npc after it
-  pub overflow : (pc npc : ℕ) → slice_index r5 9 ≡ pc → slice_index r5 10 ≡ npc → pc < 2 ^ 32 → npc < 2 ^ 32 → pc % 4 ≡ 0 → npc % 4 ≡ 0 → At 16 23 (finished n c w (on g7 r5 (2 ^ u) pc npc))
+  pub overflow : (pc npc : ℕ) → slice_index r5 9 ≡ pc → slice_index r5 10 ≡ npc → pc < 2 ^ 32 → npc < 2 ^ 32 →
+      pc % 4 ≡ 0 → npc % 4 ≡ 0 → At 16 23 (finished n c w (on g7 r5 (2 ^ u) pc npc))
   unfolding page_word
   overflow pc npc pc_held npc_held pc_word npc_word pc_whole npc_whole =
       let few = s.few in
       let many = s.many in
       let less = u_small in
       let there = fr.there in
-      let free : is_masked (2 ^ u) (above n u) ≡ false = ap (is_masked (2 ^ u)) fr.back ∙ not_masked u w (omega arith) (omega arith) fr.other in
+      let free : is_masked (2 ^ u) (above n u) ≡ false = ap (is_masked (2 ^ u)) fr.back
+      ∙ not_masked u w (omega arith) (omega arith) fr.other in
       let t20 = in_handler 19 16 nineteen (omega arith) refl restores (restores_does n c w (on g6 r5 (2 ^ u) 0xF0001040 0xF0001044) u free) in
       let back = subst (λ q. At 16 20 (stage n c w q (on g6 r5 (2 ^ u) 0xF0001044 0xF0001048))) fr.back t20 in
       let t21 = in_handler 20 17 back (omega arith) refl gives_global (gives_global_does n c w (on g6 r5 (2 ^ u) 0xF0001044 0xF0001048) there) in

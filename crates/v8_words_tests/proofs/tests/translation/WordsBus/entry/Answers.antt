@@ -1,4 +1,4 @@
-use Rattle.std.proofs.Common.{◌≡◌, ℕ, ◌/◌, ◌*◌, sym, arith, rules}
+use Rattle.std.proofs.Common.{◌/◌, sym, arith, rules}
 use Rattle.v8_words_tests.proofs.WordBus.{word_there, no_word_aside, no_word_past, bytes_small}
 use Rattle.v8_words_tests.proofs.tests.translation.WordsBus.entry.Goals as goal
 

@@ -1,4 +1,4 @@
-use Rattle.std.proofs.Common.{ℕ, ◌/◌, sym}
+use Rattle.std.proofs.Common.{◌/◌, sym}
 use Rattle.v8_words_tests.proofs.WordBus.{has_number, with_word}
 use Rattle.v8_words_tests.proofs.tests.translation.WordsBus.set_entry.Goals as goal
 
