@@ -13,7 +13,7 @@
 --   Windows                  below and above, and the mask of one bit: right_bit (overflow), left_bit (underflow), not_masked
 --   Turns.Keeps              what RAM is after them
 --   Handled                  the trap's turn and the handler's together
---   Frames                   RAM of bytes holds words: a save area that may be loaded
+--   Frames                   what follows from a board's state (IsState)
 pub mod Upto
 pub mod Windows
 pub mod Words
