@@ -7,3 +7,6 @@ mod terms;
 
 pub use least::least_terms;
 pub use terms::{FormTerm, add_term};
+
+#[cfg(test)]
+mod tests;
