@@ -48,74 +48,77 @@ const GREATER_UNSIGNED: &str = "0 10 0  3 15 0  4 10 0  3 9 0
 const UNCHANGED: &str = "-1 5 0  2 3 0  -1 5 0  2 3 0
     5 4 0  2 3 0";
 
+const ROWS_OF_COMPARED: [(Table, &str); 10] = [
+    (Table::Pairs(Cond::Equal), EQUAL),
+    (Table::Pairs(Cond::NotEqual), NOT_EQUAL),
+    (Table::Pairs(Cond::Less), LESS),
+    (Table::Pairs(Cond::LessOrEqual), LESS_OR_EQUAL),
+    (Table::Pairs(Cond::Greater), GREATER),
+    (Table::Pairs(Cond::GreaterOrEqual), GREATER_OR_EQUAL),
+    (Table::Pairs(Cond::CarrySet), CARRY_SET),
+    (
+        Table::Pairs(Cond::LessOrEqualUnsigned),
+        LESS_OR_EQUAL_UNSIGNED,
+    ),
+    (Table::Pairs(Cond::CarryClear), CARRY_CLEAR),
+    (Table::Pairs(Cond::GreaterUnsigned), GREATER_UNSIGNED),
+];
+
 #[test]
 fn compared(rt: HostRuntime) {
-    let tables = [
-        (Table::Pairs(Cond::Equal), EQUAL),
-        (Table::Pairs(Cond::NotEqual), NOT_EQUAL),
-        (Table::Pairs(Cond::Less), LESS),
-        (Table::Pairs(Cond::LessOrEqual), LESS_OR_EQUAL),
-        (Table::Pairs(Cond::Greater), GREATER),
-        (Table::Pairs(Cond::GreaterOrEqual), GREATER_OR_EQUAL),
-        (Table::Pairs(Cond::CarrySet), CARRY_SET),
-        (
-            Table::Pairs(Cond::LessOrEqualUnsigned),
-            LESS_OR_EQUAL_UNSIGNED,
-        ),
-        (Table::Pairs(Cond::CarryClear), CARRY_CLEAR),
-        (Table::Pairs(Cond::GreaterUnsigned), GREATER_UNSIGNED),
-    ];
-    for (table, rows) in tables {
+    for (table, rows) in ROWS_OF_COMPARED {
         let wrong = wrong_row(table, rows);
         assert!(rt; wrong.is_empty(), "{wrong}");
     }
 }
+
+const ROWS_OF_OTHER_CONDITIONS: [(Table, &str); 6] = [
+    (Table::Pairs(Cond::Never), UNCHANGED),
+    (Table::Pairs(Cond::Negative), UNCHANGED),
+    (Table::Pairs(Cond::OverflowSet), UNCHANGED),
+    (Table::Pairs(Cond::Always), UNCHANGED),
+    (Table::Pairs(Cond::Positive), UNCHANGED),
+    (Table::Pairs(Cond::OverflowClear), UNCHANGED),
+];
 
 #[test]
 fn other_conditions(rt: HostRuntime) {
-    let tables = [
-        (Table::Pairs(Cond::Never), UNCHANGED),
-        (Table::Pairs(Cond::Negative), UNCHANGED),
-        (Table::Pairs(Cond::OverflowSet), UNCHANGED),
-        (Table::Pairs(Cond::Always), UNCHANGED),
-        (Table::Pairs(Cond::Positive), UNCHANGED),
-        (Table::Pairs(Cond::OverflowClear), UNCHANGED),
-    ];
-    for (table, rows) in tables {
+    for (table, rows) in ROWS_OF_OTHER_CONDITIONS {
         let wrong = wrong_row(table, rows);
         assert!(rt; wrong.is_empty(), "{wrong}");
     }
 }
 
-#[test]
-fn by_value(rt: HostRuntime) {
-    let tables = [
-        (
-            Table::Values(Cond::Equal),
-            "-5 5 0  0 0 3
+const ROWS_OF_BY_VALUE: [(Table, &str); 6] = [
+    (
+        Table::Values(Cond::Equal),
+        "-5 5 0  0 0 3
             1 5 0",
-        ),
-        (
-            Table::Values(Cond::NotEqual),
-            "0 5 2  1 5 2
+    ),
+    (
+        Table::Values(Cond::NotEqual),
+        "0 5 2  1 5 2
             -5 0 0  -5 -1 0
             -5 5 0  -5 5 0
             0 0 3",
-        ),
-        (
-            Table::Values(Cond::Negative),
-            "-5 5 1  -5 -1 1
+    ),
+    (
+        Table::Values(Cond::Negative),
+        "-5 5 1  -5 -1 1
             0 5 0",
-        ),
-        (
-            Table::Values(Cond::Positive),
-            "-5 5 1  0 5 1
+    ),
+    (
+        Table::Values(Cond::Positive),
+        "-5 5 1  0 5 1
             -5 -1 0",
-        ),
-        (Table::Values(Cond::Less), "-5 5 0  -5 5 0"),
-        (Table::Values(Cond::CarrySet), "-5 5 0  -5 5 0"),
-    ];
-    for (table, rows) in tables {
+    ),
+    (Table::Values(Cond::Less), "-5 5 0  -5 5 0"),
+    (Table::Values(Cond::CarrySet), "-5 5 0  -5 5 0"),
+];
+
+#[test]
+fn by_value(rt: HostRuntime) {
+    for (table, rows) in ROWS_OF_BY_VALUE {
         let wrong = wrong_row(table, rows);
         assert!(rt; wrong.is_empty(), "{wrong}");
     }

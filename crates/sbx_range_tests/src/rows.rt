@@ -116,82 +116,87 @@ const TAGGED_ADD: &str = "0 8 2  4 8 3  4 16 2
 
 const TAGGED_SUB: &str = "0 8 2  4 8 2  -8 4 2";
 
+const ROWS_OF_SUMS_AND_DIFFERENCES: [(Table, &str); 8] = [
+    (Table::Results(Op::Add), ADD),
+    (Table::Results(Op::AddCc), ADD),
+    (Table::Results(Op::TaddCc), TADD_CC),
+    (Table::Results(Op::Addx), ADDX),
+    (Table::Results(Op::Sub), SUB),
+    (Table::Results(Op::SubCc), SUB),
+    (Table::Results(Op::TsubCc), TSUB_CC),
+    (Table::Results(Op::SubxCc), SUBX_CC),
+];
+
 #[test]
 fn sums_and_differences(rt: HostRuntime) {
-    let tables = [
-        (Table::Results(Op::Add), ADD),
-        (Table::Results(Op::AddCc), ADD),
-        (Table::Results(Op::TaddCc), TADD_CC),
-        (Table::Results(Op::Addx), ADDX),
-        (Table::Results(Op::Sub), SUB),
-        (Table::Results(Op::SubCc), SUB),
-        (Table::Results(Op::TsubCc), TSUB_CC),
-        (Table::Results(Op::SubxCc), SUBX_CC),
-    ];
-    for (table, rows) in tables {
+    for (table, rows) in ROWS_OF_SUMS_AND_DIFFERENCES {
         let wrong = wrong_row(table, rows);
         assert!(rt; wrong.is_empty(), "{wrong}");
     }
 }
+
+const ROWS_OF_BITS: [(Table, &str); 6] = [
+    (Table::Results(Op::Or), OR),
+    (Table::Results(Op::OrCc), OR),
+    (Table::Results(Op::Xor), XOR),
+    (Table::Results(Op::XorCc), XOR),
+    (Table::Results(Op::And), AND),
+    (Table::Results(Op::AndCc), AND),
+];
 
 #[test]
 fn bits(rt: HostRuntime) {
-    let tables = [
-        (Table::Results(Op::Or), OR),
-        (Table::Results(Op::OrCc), OR),
-        (Table::Results(Op::Xor), XOR),
-        (Table::Results(Op::XorCc), XOR),
-        (Table::Results(Op::And), AND),
-        (Table::Results(Op::AndCc), AND),
-    ];
-    for (table, rows) in tables {
+    for (table, rows) in ROWS_OF_BITS {
         let wrong = wrong_row(table, rows);
         assert!(rt; wrong.is_empty(), "{wrong}");
     }
 }
+
+const ROWS_OF_COMPLEMENTS: [(Table, &str); 6] = [
+    (Table::Results(Op::Andn), ANDN),
+    (Table::Results(Op::AndnCc), ANDN),
+    (Table::Results(Op::Orn), ORN),
+    (Table::Results(Op::OrnCc), ORN),
+    (Table::Results(Op::Xnor), XNOR),
+    (Table::Results(Op::XnorCc), XNOR),
+];
 
 #[test]
 fn complements(rt: HostRuntime) {
-    let tables = [
-        (Table::Results(Op::Andn), ANDN),
-        (Table::Results(Op::AndnCc), ANDN),
-        (Table::Results(Op::Orn), ORN),
-        (Table::Results(Op::OrnCc), ORN),
-        (Table::Results(Op::Xnor), XNOR),
-        (Table::Results(Op::XnorCc), XNOR),
-    ];
-    for (table, rows) in tables {
+    for (table, rows) in ROWS_OF_COMPLEMENTS {
         let wrong = wrong_row(table, rows);
         assert!(rt; wrong.is_empty(), "{wrong}");
     }
 }
+
+const ROWS_OF_SHIFTS_AND_PRODUCTS: [(Table, &str); 8] = [
+    (Table::Results(Op::Sll), SLL),
+    (Table::Results(Op::Srl), SRL),
+    (Table::Results(Op::Sra), SRA),
+    (Table::Results(Op::Smul), SMUL),
+    (Table::Results(Op::SmulCc), SMUL),
+    (Table::Results(Op::Umul), UMUL),
+    (Table::Results(Op::UmulCc), UMUL),
+    (Table::Results(Op::MulsCc), MULS_CC),
+];
 
 #[test]
 fn shifts_and_products(rt: HostRuntime) {
-    let tables = [
-        (Table::Results(Op::Sll), SLL),
-        (Table::Results(Op::Srl), SRL),
-        (Table::Results(Op::Sra), SRA),
-        (Table::Results(Op::Smul), SMUL),
-        (Table::Results(Op::SmulCc), SMUL),
-        (Table::Results(Op::Umul), UMUL),
-        (Table::Results(Op::UmulCc), UMUL),
-        (Table::Results(Op::MulsCc), MULS_CC),
-    ];
-    for (table, rows) in tables {
+    for (table, rows) in ROWS_OF_SHIFTS_AND_PRODUCTS {
         let wrong = wrong_row(table, rows);
         assert!(rt; wrong.is_empty(), "{wrong}");
     }
 }
 
+const ROWS_OF_QUOTIENTS_AND_TAGGED_OPERATIONS: [(Table, &str); 3] = [
+    (Table::Quotients, QUOTIENTS),
+    (Table::Tagged(TaggedOp::TaggedAdd), TAGGED_ADD),
+    (Table::Tagged(TaggedOp::TaggedSub), TAGGED_SUB),
+];
+
 #[test]
 fn quotients_and_tagged_operations(rt: HostRuntime) {
-    let tables = [
-        (Table::Quotients, QUOTIENTS),
-        (Table::Tagged(TaggedOp::TaggedAdd), TAGGED_ADD),
-        (Table::Tagged(TaggedOp::TaggedSub), TAGGED_SUB),
-    ];
-    for (table, rows) in tables {
+    for (table, rows) in ROWS_OF_QUOTIENTS_AND_TAGGED_OPERATIONS {
         let wrong = wrong_row(table, rows);
         assert!(rt; wrong.is_empty(), "{wrong}");
     }

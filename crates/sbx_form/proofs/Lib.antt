@@ -1,0 +1,3 @@
+pub mod Values
+pub mod Places
+pub mod Ordered

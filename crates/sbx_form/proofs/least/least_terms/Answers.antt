@@ -1,0 +1,31 @@
+use Rattle.std.proofs.Common.{◌≡◌, ◌≤◌, ℤ, ◌+ℤ◌, arith, rules, pos, sym, ap, ◌∙◌, to_z, of_z, refl}
+use Rattle.std.specs.Int.{w128}
+use Rattle.std.proofs.lemmas.Int.{ints, to_z-of_z}
+use mir.Val.{SFits}
+use Rattle.sbx_form.specs.declared.terms.FormTerm.{FormTerm}
+use Rattle.sbx_form.specs.Forms.{ends_of, least_term, least_terms}
+use Rattle.std.proofs.Common.{drop, ◌+◌, get_or, ◌*◌, ◌^◌}
+use Rattle.std.specs.Prelude.{unsigned_abs}
+use Rattle.sbx_form.proofs.Places.{least_more, least_all}
+use Rattle.sbx_form.proofs.least.least_terms.Goals as goal
+
+pub loop-term-preserved : goal.loop-term-preserved
+loop-term-preserved c =
+    let f : SFits w128 c.plus-least.result = search rules in
+    let e : to_z w128 (of_z w128 c.plus-least.result) ≡ c.plus-least.result = to_z-of_z w128 c.plus-least.result f in
+    let g : SFits w128 c.least_term.result = search rules in
+    let h = to_z-of_z w128 c.least_term.result g in
+    let b = to_z w128 c.loop-term.least-bits in
+    let v : c.plus-least.result ≡ b +ℤ c.least_term.result = c.plus-least.ensures.value ∙ ap (λ (z : ℤ). b +ℤ z) h in
+    let ends = ends_of c.args.ranges.now in
+    let none : FormTerm = record { location = 0; coefficient = pos 0 } in
+    let here : c.least_term.result ≡ least_term ends (get_or c.args.terms.now c.loop-term.term-index none) = c.least_term.ensures.value in
+    let k = ap unsigned_abs h in
+    record {
+      value = ap (λ (z : ℤ). z +ℤ least_terms ends (drop (c.loop-term.term-index + 1) c.args.terms.now)) (e ∙ v)
+          ∙ least_more ends c.args.terms.now c.loop-term.term-index none b c.least_term.result (least_terms ends c.args.terms.now) (omega arith) here c.loop-term.invariant.value;
+      bound = rw e (omega (arith, c.plus-least.ensures.bound, c.least_term.ensures.bound, c.loop-term.invariant.bound));
+    }
+
+pub returns : goal.returns
+returns c = least_all (ends_of c.args.ranges.now) c.args.terms.now c.loop-term.term-index _ _ c.loop-term-test.false c.loop-term.invariant.value

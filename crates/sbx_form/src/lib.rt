@@ -1,0 +1,12 @@
+//! Linear forms: a constant plus multiples of the numbers that a block's cells start with.
+#![tactic(auto)]
+
+pub mod laws;
+mod least;
+mod terms;
+
+pub use least::least_terms;
+pub use terms::{FormTerm, add_term};
+
+#[cfg(test)]
+mod tests;
