@@ -1,10 +1,10 @@
-use Rattle.std.proofs.Common.{◌≡◌, ◌≤◌, ℤ, ◌+ℤ◌, arith, rules, pos, sym, ap, ◌∙◌, to_z, of_z, refl}
+use Rattle.std.proofs.Common.{◌≡◌, ℤ, ◌+ℤ◌, arith, rules, pos, ap, ◌∙◌, to_z, of_z}
 use Rattle.std.specs.Int.{w128}
-use Rattle.std.proofs.lemmas.Int.{ints, to_z-of_z}
+use Rattle.std.proofs.lemmas.Int.{to_z-of_z}
 use mir.Val.{SFits}
 use Rattle.sbx_form.specs.declared.terms.FormTerm.{FormTerm}
 use Rattle.sbx_form.specs.Forms.{ends_of, least_term, least_terms}
-use Rattle.std.proofs.Common.{drop, ◌+◌, get_or, ◌*◌, ◌^◌}
+use Rattle.std.proofs.Common.{drop, ◌+◌, get_or}
 use Rattle.std.specs.Prelude.{unsigned_abs}
 use Rattle.sbx_form.proofs.Places.{least_more, least_all}
 use Rattle.sbx_form.proofs.least.least_terms.Goals as goal

@@ -1,4 +1,4 @@
-use Rattle.std.proofs.Common.{◌≡◌, ◌<◌, arith, rules, get_or, ℤ, pos}
+use Rattle.std.proofs.Common.{arith, get_or, pos}
 use Rattle.std.proofs.lemmas.List.{get_or_default}
 use Rattle.sbx_form.specs.declared.terms.FormTerm.{FormTerm}
 use Rattle.sbx_form.proofs.Places.{skips_more}

@@ -1,10 +1,10 @@
-use Rattle.std.proofs.Common.{rules, ◌≡◌, ◌≢◌, ℕ, ◌+◌, ◌<◌, ◌≤◌, ◌++◌, ℤ, pos, ◌+ℤ◌, List, length, take, drop, get_or, ap, ◌∙◌, sym, arith, to_z, of_z, zero}
+use Rattle.std.proofs.Common.{rules, ◌≡◌, ℕ, ◌<◌, ◌++◌, ℤ, pos, ◌+ℤ◌, List, length, take, drop, get_or, ap, ◌∙◌, sym, arith, to_z, of_z}
 use Rattle.std.specs.Int.{w128}
 use Rattle.std.proofs.lemmas.Int.{to_z-of_z}
 use Rattle.std.proofs.lemmas.List.{get_or_default}
 use mir.Val.{SFits}
 use Rattle.sbx_form.specs.declared.terms.FormTerm.{FormTerm}
-use Rattle.sbx_form.specs.Forms.{keep, add_term}
+use Rattle.sbx_form.specs.Forms.{keep}
 use Rattle.sbx_form.proofs.Places.{meets_removed, misses_here}
 use Rattle.sbx_form.proofs.terms.take_at.Goals as goal
 use Rattle.sbx_form.proofs.terms.take_at.Goals.{else-place-len-via-then-place-len+else-deref-place, else-place-len-via-else-place-len}
