@@ -2,12 +2,11 @@
 --   word_fits, frame_of_bytes     RAM of bytes holds words, so that a save area with room is one that the handler of underflow may load
 --   state_frame                   and so it is in a board's state
 --   state_runs                    a board's state in user mode, where an image is loaded, runs user code
-use Rattle.std.proofs.Common.{◌≡◌, ℕ, ◌+◌, ◌*◌, ◌%◌, ◌^◌, ◌<◌, ◌≤◌, true, false, List, length, get_or, take, drop, Some, None, sym, ◌∙◌, subst, arith}
+use Rattle.std.proofs.Common.{◌≡◌, ℕ, ◌+◌, ◌*◌, ◌^◌, ◌<◌, true, false, List, length, get_or, take, drop, None, sym, ◌∙◌, subst, arith}
 use Rattle.std.specs.Int.{w32, from_be_bytes}
-use Rattle.std.specs.Prelude.{slice_index}
 use Rattle.std.proofs.lemmas.List.{get_or-take, get_or-drop}
 use Rattle.std.proofs.lemmas.Option.{same_Some}
-use Rattle.v8_mmu.specs.Ram.{AreBytes, entry_of}
+use Rattle.v8_mmu.specs.Ram.{AreBytes}
 use Rattle.v8_mmu.specs.declared.translation.MmuRegs.{MmuRegs}
 use Rattle.v8_core.specs.Accesses.{World}
 use Rattle.v8_layout.specs.Layout.{AreFew, IsLoaded, Pages}
