@@ -64,11 +64,7 @@ fn asm<'a>(alloc: Global) -> Result<Command<'a>, AllocError> {
 }
 
 /// A command on an image alone.
-fn on_image<'a>(
-    alloc: Global,
-    name: &'a str,
-    about: &'a str,
-) -> Result<Command<'a>, AllocError> {
+fn on_image<'a>(alloc: Global, name: &'a str, about: &'a str) -> Result<Command<'a>, AllocError> {
     Command::new(alloc, name)
         .about(about)
         .arg(path(alloc, "IMG"))
@@ -103,8 +99,14 @@ fn with<'a>(
 fn sandbox<'a>(alloc: Global) -> Result<Command<'a>, AllocError> {
     let command = with(bare(alloc)?, asm(alloc))?;
     let command = with(command, on_image(alloc, "verify", "Verifies an image"))?;
-    let command = with(command, on_image(alloc, "run", "Verifies an image and runs it"))?;
-    let command = with(command, on_image(alloc, "list", "Prints the code of an image"))?;
+    let command = with(
+        command,
+        on_image(alloc, "run", "Verifies an image and runs it"),
+    )?;
+    let command = with(
+        command,
+        on_image(alloc, "list", "Prints the code of an image"),
+    )?;
     with(command, trace(alloc))
 }
 
