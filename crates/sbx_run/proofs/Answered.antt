@@ -7,8 +7,10 @@ use Rattle.v8_board.specs.declared.outcome.Ending.{Ending}
 use Rattle.v8_board.specs.declared.outcome.Ending.TheVariants.{Exit}
 use Rattle.v8_board.specs.declared.outcome.Outcome.{Outcome}
 use Rattle.sbx_image.specs.declared.parts.Parts.{Parts}
-use Rattle.sbx_flat.specs.Runs.{AreBytes, Behaves, FlatSafe, Place, budget, weight, weight_at, weight_of, weight_of_word}
-use Rattle.sbx_flat.specs.Traffic.{Traffic, after_operation, after_place, after_word, no_traffic, traffic_from}
+use Rattle.sbx_flat.specs.Runs.{AreBytes, Behaves, FlatSafe, budget, weight, weight_at, weight_of, weight_of_word}
+use Rattle.sbx_flat.specs.declared.path.Place.{Place}
+use Rattle.sbx_flat.specs.declared.path.Traffic.{Traffic}
+use Rattle.sbx_flat.specs.Traffic.{after_operation, after_place, after_word, no_traffic, traffic_from}
 use Rattle.sbx_flat.specs.Turns.{asked, word_at}
 use Rattle.sbx_raw.specs.declared.raw.Raw.{Raw}
 use Rattle.sbx_raw.specs.Runs.{IsRaw}
