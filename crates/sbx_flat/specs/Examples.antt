@@ -1,6 +1,10 @@
--- A code of one SAVE and one RESTORE, for examples.
-use Rattle.std.specs.Prelude.{ℕ, false, List, [], ◌∷◌, None}
+-- Codes of one or two words, and what a step of them comes to, for examples.
+use Rattle.std.specs.Prelude.{ℕ, ◌%◌, ◌^◌, false, List, [], ◌∷◌, Option, None, Some}
+use Rattle.sbx_image.specs.declared.parts.Parts.{Parts}
+use Rattle.sbx_flat.specs.Registers.{Frame, Fresh}
 use Rattle.sbx_flat.specs.Runs.{Place}
+use Rattle.sbx_flat.specs.States.{State, Turn}
+use Rattle.sbx_flat.specs.Turns.{turn}
 
 -- save %sp,-96,%sp and restore
 abbrev pub save_and_restore : List ℕ
@@ -11,3 +15,33 @@ at_save = record { pc = 0x00040000; annulled = false; address = None }
 
 abbrev pub at_restore : Place
 at_restore = record { pc = 0x00040004; annulled = false; address = None }
+
+-- a state before the first word of the code, and the same before the second
+abbrev pub at_first : State → State
+at_first s = record s { pc = 0x00040000; npc = 0x00040004; annulled = false; exit = None }
+
+abbrev pub at_second : State → State
+at_second s = record s { pc = 0x00040004; npc = 0x00040008; annulled = false; exit = None }
+
+abbrev pub at_third : State → State
+at_third s = record s { pc = 0x00040008; npc = 0x0004000C; annulled = false; exit = None }
+
+-- what comes of the state where the code is this word alone
+abbrev pub step_of : ℕ → Parts → Fresh → State → Turn
+step_of word parts fresh s = turn (record parts { words = word ∷ [] }) fresh (at_first s)
+
+-- the state with a newest frame of this base
+abbrev pub based : ℕ → State → State
+based base s = record s { registers = record s.registers { newest = record s.registers.newest { outs = λ _. base } } }
+
+-- with these slots in the newest frame
+abbrev pub with_slots : (ℕ → Option ℕ) → State → State
+with_slots slots s = record s { registers = record s.registers { newest = record s.registers.newest { slots = slots } } }
+
+-- with the frame of a caller behind the newest
+abbrev pub called_by : Frame → List Frame → State → State
+called_by caller older s = record s { registers = record s.registers { older = caller ∷ older } }
+
+-- with memory whose every byte is its address's low one
+abbrev pub with_addresses : State → State
+with_addresses s = record s { memory = λ a. Some (a % 2 ^ 8) }

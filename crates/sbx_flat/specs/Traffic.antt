@@ -3,15 +3,9 @@ use Rattle.std.specs.Prelude.{ℕ, ◌+◌, ◌*◌, ◌-◌, Bool, ◌==◌, �
 use Rattle.v8_meaning.specs.declared.operation.Operation.{Operation}
 use Rattle.v8_meaning.specs.declared.operation.Operation.TheVariants.{Save, Restore}
 use Rattle.sbx_image.specs.declared.parts.Parts.{Parts}
+pub use Rattle.sbx_flat.specs.declared.path.Traffic.{Traffic}
 use Rattle.sbx_flat.specs.Runs.{Place, weight_of}
 use Rattle.sbx_flat.specs.Turns.{asked, word_at}
-
-pub record Traffic : Type 0 where
-  -- windows that hold a frame, from 1 to n - 1: one window stays free for traps
-  pub windows : ℕ
-  pub overflows : ℕ
-  pub underflows : ℕ
-  pub turns : ℕ
 
 abbrev pub no_traffic : Traffic
 no_traffic = record { windows = 1; overflows = 0; underflows = 0; turns = 0 }

@@ -1,19 +1,13 @@
 //! Laws of the flat machine's definitions. Each is the contract of a function that does nothing.
-ghost use Rattle.std.specs.Prelude.{◌≡◌, ◌≢◌, ℕ, ◌≤◌, ◌==◌, if◌then◌else◌, [], ◌∷◌, None, Some, false, true};
+ghost use Rattle.std.specs.Prelude.{◌≡◌, ◌≢◌, ℕ, ◌-◌, ◌<◌, ◌≤◌, ◌%◌, ◌^◌, ◌==◌, if◌then◌else◌, List, [], ◌∷◌, ◌++◌, Option, None, Some, false, true};
 ghost use Rattle.sbx_image.specs.declared.parts.Parts.{Parts};
-ghost use Rattle.v8_formats.specs.declared.instr.Operand.TheVariants.{Immediate};
-ghost use Rattle.v8_word.specs.declared.Cond.TheVariants.{Always};
-ghost use Rattle.v8_alu.specs.declared.Division.TheVariants.{Udiv};
-ghost use Rattle.v8_meaning.specs.declared.operation.Operation.TheVariants.{BranchOnCondition, Call, Divide, ReadY, Restore, Save};
-ghost use Rattle.v8_meaning.specs.Operations.{load};
-ghost use Rattle.v8_meaning.specs.declared.operation.Loading.TheVariants.{UnsignedHalf};
-ghost use Rattle.v8_meaning.specs.declared.operation.Space.TheVariants.{Normal};
-ghost use Rattle.sbx_flat.specs.Effects.{does};
-ghost use Rattle.sbx_flat.specs.Examples.{at_restore, at_save, save_and_restore};
-ghost use Rattle.sbx_flat.specs.Registers.{Fresh, Registers, popped, pushed};
-ghost use Rattle.sbx_flat.specs.Runs.{Place, weight_at};
-ghost use Rattle.sbx_flat.specs.States.{BadFrame, Fails, Goes, Misaligned, NoCaller, OutsideData, State, ZeroDivisor, reg, with_reg};
+ghost use Rattle.sbx_flat.specs.Examples.{at_first, at_restore, at_save, at_second, at_third, based, called_by, save_and_restore, step_of, with_addresses, with_slots};
+ghost use Rattle.sbx_flat.specs.Memory.{with_number};
+ghost use Rattle.sbx_flat.specs.Registers.{Frame, Fresh, Registers, popped, pushed, pushed_frame, word_in};
+ghost use Rattle.sbx_flat.specs.Runs.{Place, Run, weight, weight_at};
+ghost use Rattle.sbx_flat.specs.States.{BadFrame, Fails, Goes, Misaligned, NoCaller, NoService, NotAdmitted, OutsideCode, OutsideData, Over, StackPointer, State, TagOverflow, ZeroDivisor, reg, with_reg};
 ghost use Rattle.sbx_flat.specs.Traffic.{is_own_code_page, is_own_data_page, traffic};
+ghost use Rattle.sbx_flat.specs.Turns.{turn};
 
 /// A register reads what was written to it, and the others what they read before; register 0 reads 0.
 #[tactic(auto, using(crate::proofs::Registers::reg_with_reg, crate::proofs::Registers::reg_zero))]
@@ -25,6 +19,16 @@ pub fn registers_keep_words()
 /// A frame that is pushed and popped leaves the registers of its caller, whatever it held.
 pub fn frames_come_and_go()
     ensures { (fresh : Fresh) (base : ℕ) (file : Registers) → popped (pushed fresh base file) ≡ Some file }
+{}
+
+/// A frame that is pushed has its base as %sp, the caller's outs as its ins, and the globals; its locals and its other outs are open.
+#[tactic(auto, using(crate::proofs::Registers::base_pushed, crate::proofs::Registers::globals_pushed, crate::proofs::Registers::outs_pushed, crate::proofs::Registers::locals_pushed, crate::proofs::Registers::ins_pushed))]
+pub fn frames_share_registers()
+    ensures base { (fresh : Fresh) (base : ℕ) (file : Registers) → word_in (pushed fresh base file) 14 ≡ base }
+    ensures globals { (fresh : Fresh) (base : ℕ) (file : Registers) (r : ℕ) → r < 8 → word_in (pushed fresh base file) r ≡ word_in file r }
+    ensures outs { (fresh : Fresh) (base : ℕ) (file : Registers) (r : ℕ) → 8 ≤ r → r < 16 → r ≢ 14 → word_in (pushed fresh base file) r ≡ fresh.outs r }
+    ensures locals { (fresh : Fresh) (base : ℕ) (file : Registers) (r : ℕ) → 16 ≤ r → r < 24 → word_in (pushed fresh base file) r ≡ fresh.locals r }
+    ensures ins { (fresh : Fresh) (base : ℕ) (file : Registers) (r : ℕ) → 24 ≤ r → r < 32 → word_in (pushed fresh base file) r ≡ word_in file (r - 16) }
 {}
 
 /// Each step counts, annulled ones too: so a path within a budget ends.
@@ -54,21 +58,128 @@ pub fn pages_are_own_to_their_bounds()
     ensures after_stack { (parts : Parts) → is_own_data_page (record parts { bytes = []; stack_pages = 2 }) 0x100 ≡ false }
 {}
 
-/// What single steps do: a call keeps its place in register 15, BA,A annuls its delay slot, RDY reads Y; and a division by zero, a
-/// return from the only frame and a SAVE to another register than %sp are wrong.
-pub fn steps_do_this()
-    ensures call { (parts : Parts) (fresh : Fresh) (s : State) → does parts fresh (Call 2) (record s { pc = 0x40000; npc = 0x40004 }) ≡ Goes (with_reg 15 0x40000 (record s { pc = 0x40004; npc = 0x40008 })) }
-    ensures branch { (parts : Parts) (fresh : Fresh) (s : State) → does parts fresh (BranchOnCondition (record { annul = true; cond = Always; displacement = 4 })) (record s { pc = 0x40000; npc = 0x40004 }) ≡ Goes (record s { pc = 0x40004; npc = 0x40010; annulled = true }) }
-    ensures read_y { (parts : Parts) (fresh : Fresh) (s : State) → does parts fresh (ReadY 8) (record s { pc = 0x40000; npc = 0x40004; y = 7 }) ≡ Goes (with_reg 8 7 (record s { pc = 0x40004; npc = 0x40008; y = 7 })) }
-    ensures zero_divisor { (parts : Parts) (fresh : Fresh) (s : State) → does parts fresh (Divide Udiv (record { rd = 8; rs1 = 9; operand2 = Immediate 0 })) s ≡ Fails ZeroDivisor }
-    ensures no_caller { (parts : Parts) (fresh : Fresh) (s : State) (file : Registers) → does parts fresh (Restore (record { rd = 0; rs1 = 0; operand2 = Immediate 0 })) (record s { registers = record file { older = [] } }) ≡ Fails NoCaller }
-    ensures bad_frame { (parts : Parts) (fresh : Fresh) (s : State) → does parts fresh (Save (record { rd = 8; rs1 = 14; operand2 = Immediate 0xFFFFFFA0 })) s ≡ Fails BadFrame }
+/// SAVE opens a frame: `save %sp,-96,%sp` with %sp at 000FFFC0. The same with -56, -100 and, of one stack page, -4040: less than 64
+/// bytes, no multiple of 8, below the page. And a SAVE to %o0.
+#[tactic(auto, unfolding(crate::specs::Turns::turn, crate::specs::Turns::word_at, crate::specs::States::reg, crate::specs::Registers::written, v8_formats::specs::Table::meaning, v8_meaning::specs::Operations::operation_of, v8_meaning::specs::Admitted::is_admitted))]
+pub fn save_opens_a_frame()
+    ensures opens { (parts : Parts) (fresh : Fresh) (s : State) → step_of 0x9DE3BFA0 (record parts { stack_pages = 1 }) fresh (based 0xFFFC0 s) ≡ Goes (at_second (record s { registers = pushed fresh 0xFFF60 (based 0xFFFC0 s).registers })) }
+    ensures least { (parts : Parts) (fresh : Fresh) (s : State) → step_of 0x9DE3BFC0 (record parts { stack_pages = 1 }) fresh (based 0xFFFC0 s) ≡ Goes (at_second (record s { registers = pushed fresh 0xFFF80 (based 0xFFFC0 s).registers })) }
+    ensures near { (parts : Parts) (fresh : Fresh) (s : State) → step_of 0x9DE3BFC8 (record parts { stack_pages = 1 }) fresh (based 0xFFFC0 s) ≡ Fails BadFrame }
+    ensures odd { (parts : Parts) (fresh : Fresh) (s : State) → step_of 0x9DE3BF9C (record parts { stack_pages = 1 }) fresh (based 0xFFFC0 s) ≡ Fails BadFrame }
+    ensures low { (parts : Parts) (fresh : Fresh) (s : State) → step_of 0x9DE3B038 (record parts { stack_pages = 1 }) fresh (based 0xFFFC0 s) ≡ Fails BadFrame }
+    ensures another_register { (parts : Parts) (fresh : Fresh) (s : State) → step_of 0x91E3BFA0 (record parts { stack_pages = 1 }) fresh (based 0xFFFC0 s) ≡ Fails BadFrame }
 {}
 
-/// A load takes bytes in big-endian order, at a multiple of its size, and only where bytes are.
-#[tactic(auto, unfolding(crate::specs::States::reg))]
-pub fn halves_are_big_endian()
-    ensures half { (parts : Parts) (fresh : Fresh) (s : State) → does parts fresh (load UnsignedHalf (record { rd = 8; rs1 = 0; operand2 = Immediate 4; space = Normal })) (record s { pc = 0x40000; npc = 0x40004; memory = λ a. Some a }) ≡ Goes (with_reg 8 0x0405 (record s { pc = 0x40004; npc = 0x40008; memory = λ a. Some a })) }
-    ensures misaligned { (parts : Parts) (fresh : Fresh) (s : State) → does parts fresh (load UnsignedHalf (record { rd = 8; rs1 = 0; operand2 = Immediate 5; space = Normal })) s ≡ Fails Misaligned }
-    ensures outside { (parts : Parts) (fresh : Fresh) (s : State) → does parts fresh (load UnsignedHalf (record { rd = 8; rs1 = 0; operand2 = Immediate 4; space = Normal })) (record s { memory = λ a. None }) ≡ Fails OutsideData }
+/// A frame's slots are the words from 64 above its base up to its caller's base.
+#[tactic(auto, unfolding(crate::specs::Turns::turn, crate::specs::Turns::word_at, crate::specs::States::reg, crate::specs::Registers::written, v8_formats::specs::Table::meaning, v8_meaning::specs::Operations::operation_of, v8_meaning::specs::Admitted::is_admitted))]
+pub fn slots_lie_above_the_save_area()
+    ensures first { (fresh : Fresh) → (pushed_frame fresh 0xFFF60 0xFFFC0).slots 0xFFFA0 ≡ Some (fresh.slots 0xFFFA0) }
+    ensures last { (fresh : Fresh) → (pushed_frame fresh 0xFFF60 0xFFFC0).slots 0xFFFBC ≡ Some (fresh.slots 0xFFFBC) }
+    ensures below { (fresh : Fresh) → (pushed_frame fresh 0xFFF60 0xFFFC0).slots 0xFFF9C ≡ None }
+    ensures between { (fresh : Fresh) → (pushed_frame fresh 0xFFF60 0xFFFC0).slots 0xFFFA2 ≡ None }
+    ensures above { (fresh : Fresh) → (pushed_frame fresh 0xFFF60 0xFFFC0).slots 0xFFFC0 ≡ None }
+{}
+
+/// RESTORE goes back to the caller and then writes its register: `restore %g0,7,%o0`. The oldest frame has no caller.
+#[tactic(auto, unfolding(crate::specs::Turns::turn, crate::specs::Turns::word_at, crate::specs::States::reg, crate::specs::Registers::written, v8_formats::specs::Table::meaning, v8_meaning::specs::Operations::operation_of, v8_meaning::specs::Admitted::is_admitted))]
+pub fn restore_goes_back()
+    ensures back { (parts : Parts) (fresh : Fresh) (s : State) → (caller : Frame) (older : List Frame) → step_of 0x91E82007 parts fresh (called_by caller older s) ≡ Goes (at_second (with_reg 8 7 (record s { registers = record s.registers { newest = caller; older = older } }))) }
+    ensures oldest { (parts : Parts) (fresh : Fresh) (s : State) → step_of 0x81E80000 parts fresh (record s { registers = record s.registers { older = [] } }) ≡ Fails NoCaller }
+{}
+
+/// LD and ST of a slot: `ld [%sp+64],%o0` and `st %o1,[%sp+64]` with %sp at 000FFF60. A byte of a slot is out of reach.
+#[tactic(auto, unfolding(crate::specs::Turns::turn, crate::specs::Turns::word_at, crate::specs::States::reg, crate::specs::Registers::written, v8_formats::specs::Table::meaning, v8_meaning::specs::Operations::operation_of, v8_meaning::specs::Admitted::is_admitted))]
+pub fn slots_hold_words()
+    ensures loads { (parts : Parts) (fresh : Fresh) (s : State) → step_of 0xD003A040 parts fresh (with_slots (λ a. Some a) (based 0xFFF60 s)) ≡ Goes (at_second (with_reg 8 0xFFFA0 (with_slots (λ a. Some a) (based 0xFFF60 s)))) }
+    ensures stores { (parts : Parts) (fresh : Fresh) (s : State) → step_of 0xD223A040 parts fresh (with_slots (λ a. Some a) (based 0xFFF60 s)) ≡ Goes (at_second (with_slots (λ a. if a == 0xFFFA0 then Some 0xFFF60 else Some a) (based 0xFFF60 s))) }
+    ensures no_slot { (parts : Parts) (fresh : Fresh) (s : State) → step_of 0xD003A040 parts fresh (record (with_slots (λ a. None) (based 0xFFF60 s)) { memory = λ a. None }) ≡ Fails OutsideData }
+    ensures byte { (parts : Parts) (fresh : Fresh) (s : State) → step_of 0xD22BA040 parts fresh (record (with_slots (λ a. Some a) (based 0xFFF60 s)) { memory = λ a. None }) ≡ Fails OutsideData }
+{}
+
+/// Loads take bytes in big-endian order, at a multiple of their size, and only where bytes are: `lduh [4]`, `lduh [5]`, `ldsb [128]`,
+/// `ld [8]`, `ldd [8]` and `ldd [4]`, all into %o0, from memory whose every byte is its address.
+#[tactic(auto, unfolding(crate::specs::Turns::turn, crate::specs::Turns::word_at, crate::specs::States::reg, crate::specs::Registers::written, v8_formats::specs::Table::meaning, v8_meaning::specs::Operations::operation_of, v8_meaning::specs::Admitted::is_admitted))]
+pub fn loads_are_big_endian()
+    ensures half { (parts : Parts) (fresh : Fresh) (s : State) → step_of 0xD0102004 parts fresh (with_addresses s) ≡ Goes (at_second (with_reg 8 0x0405 (with_addresses s))) }
+    ensures signed { (parts : Parts) (fresh : Fresh) (s : State) → step_of 0xD0482080 parts fresh (with_addresses s) ≡ Goes (at_second (with_reg 8 0xFFFFFF80 (with_addresses s))) }
+    ensures word { (parts : Parts) (fresh : Fresh) (s : State) → step_of 0xD0002008 parts fresh (with_slots (λ a. None) (with_addresses s)) ≡ Goes (at_second (with_reg 8 0x08090A0B (with_slots (λ a. None) (with_addresses s)))) }
+    ensures double { (parts : Parts) (fresh : Fresh) (s : State) → step_of 0xD0182008 parts fresh (with_addresses s) ≡ Goes (at_second (with_reg 8 0x08090A0B (with_reg 9 0x0C0D0E0F (with_addresses s)))) }
+    ensures misaligned { (parts : Parts) (fresh : Fresh) (s : State) → step_of 0xD0102005 parts fresh s ≡ Fails Misaligned }
+    ensures double_misaligned { (parts : Parts) (fresh : Fresh) (s : State) → step_of 0xD0182004 parts fresh s ≡ Fails Misaligned }
+    ensures outside { (parts : Parts) (fresh : Fresh) (s : State) → step_of 0xD0102004 parts fresh (record s { memory = λ a. None }) ≡ Fails OutsideData }
+{}
+
+/// Stores, and the two accesses that load and store: `stb %o1,[5]`, `std %o0,[8]`, `ldstub [5],%o0`, `swap [8],%o0` and `swap [5],%o0`.
+#[tactic(auto, unfolding(crate::specs::Turns::turn, crate::specs::Turns::word_at, crate::specs::States::reg, crate::specs::Registers::written, v8_formats::specs::Table::meaning, v8_meaning::specs::Operations::operation_of, v8_meaning::specs::Admitted::is_admitted))]
+pub fn stores_are_big_endian()
+    ensures byte { (parts : Parts) (fresh : Fresh) (s : State) → step_of 0xD2282005 parts fresh (with_addresses s) ≡ Goes (at_second (record s { memory = with_number (with_addresses s).memory 5 1 (reg s 9 % 2 ^ 8) })) }
+    ensures double { (parts : Parts) (fresh : Fresh) (s : State) → step_of 0xD0382008 parts fresh (with_addresses s) ≡ Goes (at_second (record s { memory = with_number (with_number (with_addresses s).memory 8 4 (reg s 8)) 12 4 (reg s 9) })) }
+    ensures load_store { (parts : Parts) (fresh : Fresh) (s : State) → step_of 0xD0682005 parts fresh (with_addresses s) ≡ Goes (at_second (with_reg 8 5 (record s { memory = with_number (with_addresses s).memory 5 1 0xFF }))) }
+    ensures swap { (parts : Parts) (fresh : Fresh) (s : State) → step_of 0xD0782008 parts fresh (with_addresses s) ≡ Goes (at_second (with_reg 8 0x08090A0B (record s { memory = with_number (with_addresses s).memory 8 4 (reg s 8) }))) }
+    ensures misaligned { (parts : Parts) (fresh : Fresh) (s : State) → step_of 0xD0782005 parts fresh s ≡ Fails Misaligned }
+    ensures high { (bytes : ℕ → Option ℕ) → with_number bytes 8 4 0x01020304 8 ≡ Some 1 }
+    ensures low { (bytes : ℕ → Option ℕ) → with_number bytes 8 4 0x01020304 11 ≡ Some 4 }
+    ensures past { (bytes : ℕ → Option ℕ) → with_number bytes 8 4 0x01020304 12 ≡ bytes 12 }
+{}
+
+/// Transfers of control: `call .+8` keeps its place in %o7; `be .+16`, taken or not, with and without its annul bit; `ba,a .+16`; `ret`
+/// and `retl`; an annulled instruction is passed by.
+#[tactic(auto, unfolding(crate::specs::Turns::turn, crate::specs::Turns::word_at, crate::specs::States::reg, crate::specs::Registers::written, v8_formats::specs::Table::meaning, v8_meaning::specs::Operations::operation_of, v8_meaning::specs::Admitted::is_admitted))]
+pub fn transfers_have_delay_slots()
+    ensures call { (parts : Parts) (fresh : Fresh) (s : State) → step_of 0x40000002 parts fresh s ≡ Goes (with_reg 15 0x40000 (record (at_second s) { npc = 0x40008 })) }
+    ensures taken { (parts : Parts) (fresh : Fresh) (s : State) → step_of 0x22800004 parts fresh (record s { icc = record s.icc { z = true } }) ≡ Goes (record (at_second s) { npc = 0x40010; icc = record s.icc { z = true } }) }
+    ensures not_taken { (parts : Parts) (fresh : Fresh) (s : State) → step_of 0x02800004 parts fresh (record s { icc = record s.icc { z = false } }) ≡ Goes (record (at_second s) { icc = record s.icc { z = false } }) }
+    ensures annuls { (parts : Parts) (fresh : Fresh) (s : State) → step_of 0x22800004 parts fresh (record s { icc = record s.icc { z = false } }) ≡ Goes (record (at_second s) { annulled = true; icc = record s.icc { z = false } }) }
+    ensures always { (parts : Parts) (fresh : Fresh) (s : State) → step_of 0x30800004 parts fresh s ≡ Goes (record (at_second s) { npc = 0x40010; annulled = true }) }
+    ensures ret { (parts : Parts) (fresh : Fresh) (s : State) → (caller : Frame) (older : List Frame) → step_of 0x81C7E008 parts fresh (called_by (record caller { outs = λ _. 0x40100 }) older s) ≡ Goes (called_by (record caller { outs = λ _. 0x40100 }) older (record (at_second s) { npc = 0x40108 })) }
+    ensures retl { (parts : Parts) (fresh : Fresh) (s : State) → step_of 0x81C3E008 parts fresh (based 0x40100 s) ≡ Goes (based 0x40100 (record (at_second s) { npc = 0x40108 })) }
+    ensures misaligned { (parts : Parts) (fresh : Fresh) (s : State) → step_of 0x81C3E008 parts fresh (based 0x40102 s) ≡ Fails Misaligned }
+    ensures annulled { (parts : Parts) (fresh : Fresh) (s : State) → turn parts fresh (record s { pc = 0x40004; npc = 0x40010; annulled = true; exit = None }) ≡ Goes (record s { pc = 0x40010; npc = 0x40014; annulled = false; exit = None }) }
+{}
+
+/// The services: `ta 1` gets the next byte of the input, and all ones at its end; `ta 2` puts the low byte of %o0; `ta 0` exits with
+/// %o0. None that the image doesn't declare, and no other.
+#[tactic(auto, unfolding(crate::specs::Turns::turn, crate::specs::Turns::word_at, crate::specs::States::reg, crate::specs::Registers::written, v8_formats::specs::Table::meaning, v8_meaning::specs::Operations::operation_of, v8_meaning::specs::Admitted::is_admitted))]
+pub fn services_serve()
+    ensures get { (parts : Parts) (fresh : Fresh) (s : State) → (byte : ℕ) (rest : List ℕ) → step_of 0x91D02001 (record parts { services = record { 0 = 2 } }) fresh (record s { input = byte ∷ rest }) ≡ Goes (at_second (with_reg 8 byte (record s { input = rest }))) }
+    ensures end { (parts : Parts) (fresh : Fresh) (s : State) → step_of 0x91D02001 (record parts { services = record { 0 = 2 } }) fresh (record s { input = [] }) ≡ Goes (at_second (with_reg 8 0xFFFFFFFF (record s { input = [] }))) }
+    ensures put { (parts : Parts) (fresh : Fresh) (s : State) → step_of 0x91D02002 (record parts { services = record { 0 = 4 } }) fresh s ≡ Goes (at_second (record s { output = s.output ++ (reg s 8 % 2 ^ 8) ∷ [] })) }
+    ensures exit { (parts : Parts) (fresh : Fresh) (s : State) → step_of 0x91D02000 (record parts { services = record { 0 = 1 } }) fresh s ≡ Goes (record (at_second s) { exit = Some (reg s 8) }) }
+    ensures undeclared { (parts : Parts) (fresh : Fresh) (s : State) → step_of 0x91D02002 (record parts { services = record { 0 = 3 } }) fresh s ≡ Fails NoService }
+    ensures unknown { (parts : Parts) (fresh : Fresh) (s : State) → step_of 0x91D02003 (record parts { services = record { 0 = 7 } }) fresh s ≡ Fails NoService }
+    ensures of_a_register { (parts : Parts) (fresh : Fresh) (s : State) → step_of 0x91D00001 parts fresh s ≡ Fails NotAdmitted }
+{}
+
+/// Results: `addcc %g0,-1,%o0` and its codes; SETHI; Y written and read; no quotient by 0 and no tagged sum of an untagged number; and
+/// no write of %sp or %fp.
+#[tactic(auto, unfolding(crate::specs::Turns::turn, crate::specs::Turns::word_at, crate::specs::States::reg, crate::specs::Registers::written, v8_formats::specs::Table::meaning, v8_meaning::specs::Operations::operation_of, v8_meaning::specs::Admitted::is_admitted, v8_alu::specs::Outcomes::outcome, v8_alu::specs::Outcomes::tagged_outcome))]
+pub fn results_are_written()
+    ensures codes { (parts : Parts) (fresh : Fresh) (s : State) → step_of 0x90803FFF parts fresh s ≡ Goes (at_second (with_reg 8 0xFFFFFFFF (record s { icc = record { n = true; z = false; v = false; c = false } }))) }
+    ensures high { (parts : Parts) (fresh : Fresh) (s : State) → step_of 0x11000001 parts fresh s ≡ Goes (at_second (with_reg 8 0x400 s)) }
+    ensures write_y { (parts : Parts) (fresh : Fresh) (s : State) → step_of 0x81802005 parts fresh s ≡ Goes (at_second (record s { y = 5 })) }
+    ensures read_y { (parts : Parts) (fresh : Fresh) (s : State) → step_of 0x91400000 parts fresh (record s { y = 7 }) ≡ Goes (at_second (with_reg 8 7 (record s { y = 7 }))) }
+    ensures zero_divisor { (parts : Parts) (fresh : Fresh) (s : State) → step_of 0x90726000 parts fresh s ≡ Fails ZeroDivisor }
+    ensures tagged { (parts : Parts) (fresh : Fresh) (s : State) → step_of 0x91102001 parts fresh s ≡ Fails TagOverflow }
+    ensures stack_pointer { (parts : Parts) (fresh : Fresh) (s : State) → step_of 0x9C002005 parts fresh s ≡ Fails StackPointer }
+    ensures frame_pointer { (parts : Parts) (fresh : Fresh) (s : State) → step_of 0xBC002005 parts fresh s ≡ Fails StackPointer }
+{}
+
+/// Where there is no step: before and after the code and between its words, at a word that sandboxed code may not have, and once there
+/// is an exit word.
+#[tactic(auto, unfolding(crate::specs::Turns::turn, crate::specs::Turns::word_at, crate::specs::States::reg, crate::specs::Registers::written, v8_formats::specs::Table::meaning, v8_meaning::specs::Operations::operation_of, v8_meaning::specs::Admitted::is_admitted))]
+pub fn some_states_have_no_step()
+    ensures past { (parts : Parts) (fresh : Fresh) (s : State) → turn (record parts { words = 0x01000000 ∷ [] }) fresh (at_second s) ≡ Fails OutsideCode }
+    ensures before { (parts : Parts) (fresh : Fresh) (s : State) → turn (record parts { words = 0x01000000 ∷ [] }) fresh (record (at_first s) { pc = 0x3FFFC }) ≡ Fails OutsideCode }
+    ensures between { (parts : Parts) (fresh : Fresh) (s : State) → turn (record parts { words = 0x01000000 ∷ [] }) fresh (record (at_first s) { pc = 0x40002 }) ≡ Fails OutsideCode }
+    ensures undefined { (parts : Parts) (fresh : Fresh) (s : State) → step_of 0 parts fresh s ≡ Fails NotAdmitted }
+    ensures never { (parts : Parts) (fresh : Fresh) (s : State) → step_of 0x00800004 parts fresh s ≡ Fails NotAdmitted }
+    ensures over { (parts : Parts) (fresh : Fresh) (s : State) (word : ℕ) → turn parts fresh (record s { exit = Some word }) ≡ Over }
+{}
+
+/// A whole run: the SAVE and the RESTORE of `save_and_restore`, of one stack page, leave the caller's registers as they were. It weighs
+/// 50.
+#[tactic(auto, using(crate::proofs::Examples::run_of_two, crate::proofs::Examples::weight_of_two))]
+pub fn a_call_comes_back()
+    ensures run { (parts : Parts) (s : State) → Run (record parts { words = save_and_restore; stack_pages = 1 }) (at_first (based 0xFFFC0 s)) (at_save ∷ at_restore ∷ []) (at_third (based 0xFFFC0 s)) }
+    ensures weight { (parts : Parts) → weight (record parts { words = save_and_restore }) (at_save ∷ at_restore ∷ []) ≡ 50 }
 {}

@@ -5,5 +5,7 @@
 
 mod code;
 pub mod laws;
+mod path;
 
 pub use code::{asked, declares, service_of, weight_of, word_at};
+pub use path::{Place, Traffic, Wrong};

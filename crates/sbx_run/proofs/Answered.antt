@@ -1,4 +1,4 @@
--- What a board run of an accepted image answers.
+-- What a board run of a plain image that is flat-safe answers.
 use Rattle.std.proofs.Common.{◌≡◌, ℕ, ◌+◌, ◌^◌, ◌<◌, ◌≤◌, Bool, true, false, List, [], ◌∷◌, Option, Some, None, refl, sym, ap, ◌∙◌, subst, inl, arith}
 use Rattle.std.specs.Prelude.{if◌then◌else◌}
 use Rattle.v8_meaning.specs.declared.operation.Operation.{Operation}
@@ -7,32 +7,33 @@ use Rattle.v8_board.specs.declared.outcome.Ending.{Ending}
 use Rattle.v8_board.specs.declared.outcome.Ending.TheVariants.{Exit}
 use Rattle.v8_board.specs.declared.outcome.Outcome.{Outcome}
 use Rattle.sbx_image.specs.declared.parts.Parts.{Parts}
-use Rattle.sbx_flat.specs.Runs.{AreBytes, Behaves, FlatSafe, Place, budget, weight, weight_at, weight_of, weight_of_word}
-use Rattle.sbx_flat.specs.Traffic.{Traffic, after_operation, after_place, after_word, no_traffic, traffic_from}
+use Rattle.sbx_flat.specs.Runs.{AreBytes, Behaves, FlatSafe, budget, weight, weight_at, weight_of, weight_of_word}
+use Rattle.sbx_flat.specs.declared.path.Place.{Place}
+use Rattle.sbx_flat.specs.declared.path.Traffic.{Traffic}
+use Rattle.sbx_flat.specs.Traffic.{after_operation, after_place, after_word, no_traffic, traffic_from}
 use Rattle.sbx_flat.specs.Turns.{asked, word_at}
-use Rattle.sbx_verify.specs.Rules.{IsAccepted, is_accepted}
-use Rattle.sbx_verify.specs.declared.cause.Cause.TheVariants.{V2}
 use Rattle.sbx_raw.specs.declared.raw.Raw.{Raw}
 use Rattle.sbx_raw.specs.Runs.{IsRaw}
 use Rattle.sbx_run.specs.declared.runner.Finished.{Finished}
 use Rattle.sbx_run.specs.Answer.{IsAnswer}
+use Rattle.sbx_run.specs.Plain.{IsPlain, is_plain}
 use Rattle.sbx_run.specs.Turns.{OwnTurns}
 use Rattle.sbx_run.specs.Pages.{UsesOwnPages}
 use Rattle.sbx_run.proofs.Finish.{Told, told}
-use Rattle.sbx_run.proofs.Steps.{AreAccepted, located}
+use Rattle.sbx_run.proofs.Steps.{located}
 
--- ---- accepted code neither saves nor restores: its window traffic is its weight
+-- ---- plain code neither saves nor restores: its window traffic is its weight
 
 abbrev with_turns : Traffic → ℕ → Traffic
 with_turns t w = record t { turns = t.turns + w }
 
-quiet_operation : (n : ℕ) (op : Operation) (t : Traffic) → is_accepted op ≡ true → after_operation n op t ≡ with_turns t (weight_of op)
-unfolding is_accepted
+quiet_operation : (n : ℕ) (op : Operation) (t : Traffic) → is_plain op ≡ true → after_operation n op t ≡ with_turns t (weight_of op)
+unfolding is_plain
 quiet_operation n (Save f) t h = absurd (cc)
 quiet_operation n (Restore f) t h = absurd (cc)
 quiet_operation n _ t h = refl
 
-quiet_word : (n : ℕ) (o : Option ℕ) (t : Traffic) → ((word : ℕ) → o ≡ Some word → is_accepted (asked word) ≡ true) → after_word n o t ≡ with_turns t (weight_of_word o)
+quiet_word : (n : ℕ) (o : Option ℕ) (t : Traffic) → ((word : ℕ) → o ≡ Some word → is_plain (asked word) ≡ true) → after_word n o t ≡ with_turns t (weight_of_word o)
 quiet_word n None t h = refl
 quiet_word n (Some word) t h = quiet_operation n (asked word) t (h word refl)
 
@@ -40,47 +41,35 @@ quiet_or : (b : Bool) (w : ℕ) (t u : Traffic) → u ≡ with_turns t w → (if
 quiet_or true w t u e = refl
 quiet_or false w t u e = e
 
-fetched_accepted : (words : List ℕ) (address word : ℕ) → AreAccepted words → word_at words address ≡ Some word → is_accepted (asked word) ≡ true
-fetched_accepted words address word all e =
-    let l = located words address word e in
-    subst (λ w. is_accepted (asked w) ≡ true) l.is (all l.index l.within)
+fetched_plain : (parts : Parts) (address word : ℕ) → IsPlain parts → word_at parts.words address ≡ Some word → is_plain (asked word) ≡ true
+fetched_plain parts address word image e =
+    let l = located parts.words address word e in
+    subst (λ w. is_plain (asked w) ≡ true) l.is (image.words l.index l.within)
 
-quiet_place : (parts : Parts) (n : ℕ) (place : Place) (t : Traffic) → AreAccepted parts.words → after_place parts n place t ≡ with_turns t (weight_at parts place)
+quiet_place : (parts : Parts) (n : ℕ) (place : Place) (t : Traffic) → IsPlain parts → after_place parts n place t ≡ with_turns t (weight_at parts place)
 unfolding after_place weight_at
-quiet_place parts n place t all =
+quiet_place parts n place t image =
     let o = word_at parts.words place.pc in
-    quiet_or place.annulled (weight_of_word o) t (after_word n o t) (quiet_word n o t (λ word e. fetched_accepted parts.words place.pc word all e))
+    quiet_or place.annulled (weight_of_word o) t (after_word n o t) (quiet_word n o t (λ word e. fetched_plain parts place.pc word image e))
 
 more_turns : (t : Traffic) (a b : ℕ) → with_turns (with_turns t a) b ≡ with_turns t (a + b)
 more_turns t a b = let e : t.turns + a + b ≡ t.turns + (a + b) = omega arith in ap (λ x. record t { turns = x }) e
 
-quiet_path : (parts : Parts) (n : ℕ) (path : List Place) (t : Traffic) → AreAccepted parts.words → traffic_from parts n path t ≡ with_turns t (weight parts path)
-quiet_path parts n [] t all = let e : t.turns ≡ t.turns + 0 = omega arith in ap (λ x. record t { turns = x }) e
-quiet_path parts n (p ∷ path) t all =
-    ap (traffic_from parts n path) (quiet_place parts n p t all)
-    ∙ quiet_path parts n path (with_turns t (weight_at parts p)) all
+quiet_path : (parts : Parts) (n : ℕ) (path : List Place) (t : Traffic) → IsPlain parts → traffic_from parts n path t ≡ with_turns t (weight parts path)
+quiet_path parts n [] t image = let e : t.turns ≡ t.turns + 0 = omega arith in ap (λ x. record t { turns = x }) e
+quiet_path parts n (p ∷ path) t image =
+    ap (traffic_from parts n path) (quiet_place parts n p t image)
+    ∙ quiet_path parts n path (with_turns t (weight_at parts p)) image
     ∙ more_turns t (weight_at parts p) (weight parts path)
-
--- ---- in an accepted image each word is accepted
-
-right_way : (b : Bool) → (b ≡ false → ⊥) → b ≡ true
-right_way true h = refl
-right_way false h = absurd (h refl)
-
-all_accepted : (parts : Parts) → IsAccepted parts → AreAccepted parts.words
-all_accepted parts a i within = right_way _ (λ h. a.checked i V2 (within, inl h))
 
 -- ---- the answer
 
 one_status : (s t : ℕ) → Exit s ≡ Exit t → s ≡ t
 one_status s t e = cc
 
-module _ (parts : Parts) (n : ℕ) (input : List ℕ) (few : 4 ≤ n) (many : n ≤ 32) (safe : FlatSafe parts) (accepted : IsAccepted parts) (bytes : AreBytes input) (bound : budget parts < 2 ^ 64) (raw : Raw) (run : IsRaw n parts input (budget parts) raw) where
-  all : AreAccepted parts.words
-  all = all_accepted parts accepted
-
+module _ (parts : Parts) (n : ℕ) (input : List ℕ) (few : 4 ≤ n) (many : n ≤ 32) (safe : FlatSafe parts) (plain : IsPlain parts) (bytes : AreBytes input) (bound : budget parts < 2 ^ 64) (raw : Raw) (run : IsRaw n parts input (budget parts) raw) where
   abbrev told_so : Told n parts input run.start run.end
-  told_so = told n parts input run.begun.made run.start run.end few many safe bytes accepted.few all bound run.begun.new run.begun.loaded run.run
+  told_so = told n parts input run.begun.made run.start run.end few many safe bytes plain bound run.begun.new run.begun.loaded run.run
 
   abbrev outcome : Outcome
   outcome = record { ending = Exit told_so.status; turns = weight parts told_so.path; overflows = 0; underflows = 0 }
@@ -102,7 +91,7 @@ module _ (parts : Parts) (n : ℕ) (input : List ℕ) (few : 4 ≤ n) (many : n 
       let same_output : s.0 ≡ f.output.items = sym a.0 ∙ sym t.output ∙ sym run.output ∙ sym output in
       let same_status : s.1 ≡ f.status = sym a.1 ∙ sym status in
       let top = s.3.within_budget t.path t.state t.run in
-      let quiet = quiet_path parts n t.path no_traffic all in
+      let quiet = quiet_path parts n t.path no_traffic plain in
       let so_many : f.turns ≡ weight parts t.path = ap (λ (o : Outcome). o.turns) is in
       let weighs : weight parts t.path ≡ 0 + weight parts t.path = omega arith in
       record {
@@ -115,7 +104,7 @@ module _ (parts : Parts) (n : ℕ) (input : List ℕ) (few : 4 ≤ n) (many : n 
         board_run = record { raw = raw; run = run; told = outcome_told; output = output; pages = pages; own = subst (OwnTurns n parts run.start) (sym so_many) t.own; own_pages = subst (UsesOwnPages parts) (sym (pages ∙ run.pages)) t.pages };
       }
 
--- ---- the run of the image that was accepted, with its budget
+-- ---- the run of the image, with its budget
 
 pub run_of : (n : ℕ) (image parts : Parts) (input : List ℕ) (limit : ℕ) (raw : Raw) → image ≡ parts → limit ≡ budget parts → IsRaw n image input limit raw → IsRaw n parts input (budget parts) raw
 run_of n image parts input limit raw same most run =

@@ -9,3 +9,4 @@ pub mod Start
 pub mod Finish
 pub mod Answered
 pub mod Pages
+pub mod Premise

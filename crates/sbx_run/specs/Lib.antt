@@ -1,3 +1,4 @@
+pub mod Plain
 pub mod Turns
 pub mod Answer
 pub mod Pages

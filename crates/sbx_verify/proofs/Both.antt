@@ -19,7 +19,8 @@ use Rattle.sbx_image.specs.declared.services.Services.{Services}
 use Rattle.sbx_flat.specs.Effects.{writes, operand_value, gets, puts, exits, served, serves, declares, does, performs, service_in, service_of}
 use Rattle.sbx_flat.specs.Registers.{Fresh}
 use Rattle.sbx_flat.specs.Runs.{reached_by}
-use Rattle.sbx_flat.specs.States.{State, Turn, Goes, Fails, NoService, StackPointer, reg, with_reg, advanced}
+use Rattle.sbx_flat.specs.States.{State, Turn, Goes, Fails, reg, with_reg, advanced}
+use Rattle.sbx_flat.specs.declared.path.Wrong.TheVariants.{NoService, StackPointer}
 use Rattle.sbx_flat.proofs.Alike.{Alike, advanced_alike, coded_alike, write_alike}
 use Rattle.sbx_flat.proofs.Turns.{performs_admitted}
 use Rattle.sbx_verify.specs.Rules.{is_accepted, is_accepted_op, is_declared, is_exit, has, reads_of, second_reads, service_asked, service_reads, service_writes, writes_of}

@@ -12,7 +12,8 @@ use Rattle.sbx_image.specs.Rules.{code_start}
 use Rattle.sbx_image.specs.declared.parts.Parts.{Parts}
 use Rattle.sbx_flat.specs.Effects.{performs}
 use Rattle.sbx_flat.specs.Registers.{Fresh, still}
-use Rattle.sbx_flat.specs.Runs.{AreBytes, FlatSafe, IsStart, Place, budget, data_at, place_of, reached_by, weight_at, weight_of}
+use Rattle.sbx_flat.specs.Runs.{AreBytes, FlatSafe, IsStart, budget, data_at, place_of, reached_by, weight_at, weight_of}
+use Rattle.sbx_flat.specs.declared.path.Place.{Place}
 use Rattle.sbx_flat.specs.States.{State, Turn, Goes, reg}
 use Rattle.sbx_flat.specs.Turns.{asked, word_at}
 use Rattle.sbx_flat.proofs.Alike.{Alike}

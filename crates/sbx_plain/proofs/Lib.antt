@@ -1,0 +1,6 @@
+pub mod Shown
+pub mod Stored
+pub mod Went
+pub mod Accessed
+pub mod Starts
+pub mod Reached

@@ -1,0 +1,26 @@
+-- The images whose runs are followed on the board so far: code without windows, data and branches.
+use Rattle.std.specs.Prelude.{◌≡◌, ℕ, ◌<◌, ◌≤◌, Bool, true, false, length, slice_index}
+use Rattle.v8_alu.specs.declared.Op.{Op}
+use Rattle.v8_alu.specs.declared.Op.TheVariants.{Add, Or}
+use Rattle.v8_meaning.specs.Admitted.{is_service_call}
+use Rattle.v8_meaning.specs.declared.operation.Operation.{Operation}
+use Rattle.v8_meaning.specs.declared.operation.Operation.TheVariants.{Compute, SetHigh, TrapOnCondition}
+use Rattle.sbx_image.specs.declared.parts.Parts.{Parts}
+use Rattle.sbx_flat.specs.Turns.{asked}
+
+abbrev pub is_plain_op : Op → Bool
+is_plain_op Add = true
+is_plain_op Or = true
+is_plain_op _ = false
+
+-- SETHI, OR, ADD, and calls of services
+unfoldable pub is_plain : Operation → Bool
+is_plain (Compute op f) = is_plain_op op
+is_plain (SetHigh f) = true
+is_plain (TrapOnCondition t) = is_service_call t
+is_plain _ = false
+
+-- at most 65,536 words, each of which asks for one of these
+pub record IsPlain (parts : Parts) : Type 0 where
+  pub few : length parts.words ≤ 65536
+  pub words : (i : ℕ) → i < length parts.words → is_plain (asked (slice_index parts.words i)) ≡ true
