@@ -1,5 +1,5 @@
 //! Laws of the flat machine's definitions. Each is the contract of a function that does nothing.
-ghost use Rattle.std.specs.Prelude.{◌≡◌, ◌≢◌, ℕ, ◌-◌, ◌<◌, ◌≤◌, ◌%◌, ◌^◌, ◌==◌, if◌then◌else◌, List, [], ◌∷◌, ◌++◌, Option, None, Some, false, true};
+ghost use Rattle.std.specs.Prelude.{◌≡◌, ◌≢◌, ℕ, ◌+◌, ◌-◌, ◌<◌, ◌≤◌, ◌%◌, ◌*◌, ◌^◌, ◌==◌, if◌then◌else◌, List, [], ◌∷◌, ◌++◌, Option, None, Some, false, true};
 ghost use Rattle.sbx_image.specs.declared.parts.Parts.{Parts};
 ghost use Rattle.sbx_flat.specs.Examples.{at_first, at_restore, at_save, at_second, at_third, based, called_by, save_and_restore, step_of, with_addresses, with_slots};
 ghost use Rattle.sbx_flat.specs.Memory.{with_number};
@@ -113,13 +113,14 @@ pub fn loads_are_big_endian()
 #[tactic(auto, unfolding(crate::specs::Turns::turn, crate::specs::Turns::word_at, crate::specs::States::reg, crate::specs::Registers::written, v8_formats::specs::Table::meaning, v8_meaning::specs::Operations::operation_of, v8_meaning::specs::Admitted::is_admitted))]
 pub fn stores_are_big_endian()
     ensures byte { (parts : Parts) (fresh : Fresh) (s : State) → step_of 0xD2282005 parts fresh (with_addresses s) ≡ Goes (at_second (record s { memory = with_number (with_addresses s).memory 5 1 (reg s 9 % 2 ^ 8) })) }
-    ensures double { (parts : Parts) (fresh : Fresh) (s : State) → step_of 0xD0382008 parts fresh (with_addresses s) ≡ Goes (at_second (record s { memory = with_number (with_number (with_addresses s).memory 8 4 (reg s 8)) 12 4 (reg s 9) })) }
+    ensures double { (parts : Parts) (fresh : Fresh) (s : State) → step_of 0xD0382008 parts fresh (with_addresses s) ≡ Goes (at_second (record s { memory = with_number (with_addresses s).memory 8 8 (reg s 8 * 2 ^ 32 + reg s 9) })) }
     ensures load_store { (parts : Parts) (fresh : Fresh) (s : State) → step_of 0xD0682005 parts fresh (with_addresses s) ≡ Goes (at_second (with_reg 8 5 (record s { memory = with_number (with_addresses s).memory 5 1 0xFF }))) }
     ensures swap { (parts : Parts) (fresh : Fresh) (s : State) → step_of 0xD0782008 parts fresh (with_addresses s) ≡ Goes (at_second (with_reg 8 0x08090A0B (record s { memory = with_number (with_addresses s).memory 8 4 (reg s 8) }))) }
     ensures misaligned { (parts : Parts) (fresh : Fresh) (s : State) → step_of 0xD0782005 parts fresh s ≡ Fails Misaligned }
     ensures high { (bytes : ℕ → Option ℕ) → with_number bytes 8 4 0x01020304 8 ≡ Some 1 }
     ensures low { (bytes : ℕ → Option ℕ) → with_number bytes 8 4 0x01020304 11 ≡ Some 4 }
     ensures past { (bytes : ℕ → Option ℕ) → with_number bytes 8 4 0x01020304 12 ≡ bytes 12 }
+    ensures second_word { (bytes : ℕ → Option ℕ) → with_number bytes 8 8 (0x01020304 * 2 ^ 32 + 0x05060708) 12 ≡ Some 5 }
 {}
 
 /// Transfers of control: `call .+8` keeps its place in %o7; `be .+16`, taken or not, with and without its annul bit; `ba,a .+16`; `ret`

@@ -104,21 +104,3 @@ number_same f g address (suc c) same = ap (λ o. followed_by o (f (address + c))
 
 pub written_same : (f g : Bytes) (address count n a : ℕ) → f a ≡ g a → with_number f address count n a ≡ with_number g address count n a
 written_same f g address count n a same = ap (λ o. if nat_le address a && nat_lt a (address + count) then Some (byte_of count n (a - address)) else o) same
-
--- what was there is there after a store
-some_by : (b : Bool) (v : ℕ) (o : Option ℕ) → IsSome o → IsSome (if b then Some v else o)
-some_by true v o h = refl
-some_by false v o h = h
-
-both_some : (x y : Option ℕ) → IsSome x → IsSome y → IsSome (followed_by x y)
-both_some None y h k = absurd (cc)
-both_some (Some n) None h k = absurd (cc)
-both_some (Some n) (Some byte) h k = refl
-
-pub still_some : (f g : Bytes) (address count : ℕ) → ((a : ℕ) → IsSome (f a) → IsSome (g a)) → IsSome (number_at f address count) → IsSome (number_at g address count)
-still_some f g address zero more h = refl
-still_some f g address (suc c) more h =
-    both_some (number_at g address c) (g (address + c)) (still_some f g address c more (front_of (number_at f address c) (f (address + c)) h)) (more (address + c) (last_some (number_at f address c) (f (address + c)) h))
-
-pub some_written : (f : Bytes) (address count n a : ℕ) → IsSome (f a) → IsSome (with_number f address count n a)
-some_written f address count n a h = some_by (nat_le address a && nat_lt a (address + count)) (byte_of count n (a - address)) (f a) h

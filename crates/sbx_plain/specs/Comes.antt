@@ -1,12 +1,9 @@
 -- What the plain machine answers, against what comes of the flat state.
-use Rattle.std.specs.Prelude.{◌≡◌, ℕ, ◌+◌, ◌≤◌, List, length, Some, Result, Ok, Err}
-use Rattle.v8_meaning.specs.declared.operation.MemoryOperand.{MemoryOperand}
+use Rattle.std.specs.Prelude.{◌≡◌, ℕ, ◌≤◌, List, length, Some, Result, Ok, Err}
 use Rattle.sbx_image.specs.declared.parts.Parts.{Parts}
 use Rattle.sbx_flat.specs.declared.path.Place.{Place}
-use Rattle.sbx_flat.specs.Effects.{aligned, exchanges, loads_pair, stores_pair}
-use Rattle.sbx_flat.specs.Memory.{number_at}
 use Rattle.sbx_flat.specs.Runs.{Run}
-use Rattle.sbx_flat.specs.States.{State, Turn, Goes, Fails, reg}
+use Rattle.sbx_flat.specs.States.{State, Turn, Goes, Fails}
 use Rattle.sbx_flat.specs.Turns.{turn}
 use Rattle.sbx_plain.specs.Shows.{Shows, filled}
 use Rattle.sbx_plain.specs.declared.machine.Plain.{Plain}
@@ -33,17 +30,6 @@ TurnsOr f old new (Err refused) = Unit
 -- the machine goes from each state that it shows to this one
 abbrev pub Becomes : (State → State) → Plain → Plain → Type 0
 Becomes f old new = (s : State) → Shows old s → Shows new (f s)
-
--- ---- accesses of double words, and SWAP, at an address
-
-abbrev pub loads_double : MemoryOperand → ℕ → State → Turn
-loads_double m a s = aligned 8 a (loads_pair m.rd (number_at s.memory a 4) (number_at s.memory (a + 4) 4) s)
-
-abbrev pub stores_double : MemoryOperand → ℕ → State → Turn
-stores_double m a s = aligned 8 a (stores_pair (number_at s.memory a 4) (number_at s.memory (a + 4) 4) a (reg s m.rd) (reg s (m.rd + 1)) s)
-
-abbrev pub swaps : MemoryOperand → ℕ → State → Turn
-swaps m a s = aligned 4 a (exchanges m.rd (number_at s.memory a 4) a 4 (reg s m.rd) s)
 
 -- ---- runs
 

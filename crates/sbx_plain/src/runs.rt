@@ -36,12 +36,7 @@ impl Plain<'_> {
         ensures { (s : State) → Shows self.now s → result ≡ reached_by operation.now s }
     {
         match operation {
-            Operation::Load(_, operand)
-            | Operation::LoadDouble(operand)
-            | Operation::Store(_, operand)
-            | Operation::StoreDouble(operand)
-            | Operation::LoadStoreByte(operand)
-            | Operation::Swap(operand) => Some(self.address(operand)),
+            Operation::Transfer(_, operand) => Some(self.address(operand)),
             _ => None,
         }
     }
