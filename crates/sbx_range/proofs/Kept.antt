@@ -35,7 +35,7 @@ keeps-below d a b x y s u le =
 keeps-turned : (p : Pair) (x y : ℕ) → KeepsBoth p y x → KeepsBoth (turned p) x y
 keeps-turned p x y k = record { left = k.right; right = k.left }
 
-keeps-common : (a b : Range) (x : ℕ) → InInterval a x → InInterval b x → InInterval (common a b) x
+pub keeps-common : (a b : Range) (x : ℕ) → InInterval a x → InInterval b x → InInterval (common a b) x
 unfolding common
 keeps-common a b x s u =
     let l = s.low in let h = s.high in let m = u.low in let k = u.high in
@@ -220,14 +220,14 @@ narrowed-aligned OverflowClear a b x y p q t h g = record { left = h; right = g 
 
 -- ---- a range with a word is not empty
 
-some-word : (a : Range) (x : ℕ) → InInterval a x → some_range a ≡ Some a
+pub some-word : (a : Range) (x : ℕ) → InInterval a x → some_range a ≡ Some a
 unfolding some_range
 some-word a x s =
     let l = s.low in let h = s.high in
     let e : is_empty a ≡ false = grind (arith, ints) in
     ap (λ (t : Bool). if t then None else Some a) e
 
-refine-some : (cond : Cond) (a b : Range) (x y : ℕ) → KeepsBoth (narrowed cond a b) x y → refine cond a b ≡ Some (narrowed cond a b)
+pub refine-some : (cond : Cond) (a b : Range) (x y : ℕ) → KeepsBoth (narrowed cond a b) x y → refine cond a b ≡ Some (narrowed cond a b)
 unfolding refine some_pair both_of
 refine-some cond a b x y k =
     ap (λ o. both_of o (some_range (narrowed cond a b).right)) (some-word (narrowed cond a b).left x k.left)
@@ -308,7 +308,7 @@ not-not : (t : Bool) → t ≡ not (not t)
 not-not true = refl
 not-not false = refl
 
-holds-opposite : (c : Cond) (f : Icc) → holds (opposite c) f ≡ not (holds c f)
+pub holds-opposite : (c : Cond) (f : Icc) → holds (opposite c) f ≡ not (holds c f)
 holds-opposite Never f = refl
 holds-opposite Equal f = refl
 holds-opposite LessOrEqual f = refl
@@ -366,7 +366,7 @@ value-edge cond a r =
     (λ t. some-is Range _ _ (some-word (narrowed_by_value (opposite cond) a) (cast_unsigned w32 a.lo) (keeps-value (opposite cond) a (cast_unsigned w32 a.lo) _ i.1 i.0 signs (holds-opposite cond _ ∙ t))))
 
 pub one_edge_is_left : OneEdgeIsLeft
-one_edge_is_left = record { compared = compared-edge; by_value = value-edge }
+one_edge_is_left = record { denies = holds-opposite; compared = compared-edge; by_value = value-edge }
 
 -- ---- words and ranges
 

@@ -1,6 +1,6 @@
 -- The laws of ranges: each result of the result table lies in the range that the table of ranges gives.
 -- Intervals stay by the ends alone, whatever alignments the operands have; alignments stay by the alignments, at words of the intervals.
-use Rattle.std.specs.Prelude.{ℕ, ◌-◌, ◌<◌, ◌≤◌, ◌^◌, ◌≡◌, Bool, true, false, ◌==◌, ◌||◌, nat_le, pos, negsuc, ◌+ℤ◌, ◌-ℤ◌, ◌≤ℤ◌, Option, Some, None}
+use Rattle.std.specs.Prelude.{ℕ, ◌-◌, ◌<◌, ◌≤◌, ◌^◌, ◌≡◌, Bool, true, false, not, ◌==◌, ◌||◌, nat_le, pos, negsuc, ◌+ℤ◌, ◌-ℤ◌, ◌≤ℤ◌, Option, Some, None}
 use Rattle.v8_word.specs.Conditions.{holds}
 use Rattle.v8_word.specs.Word.{sign_extend}
 use Rattle.v8_word.specs.declared.Cond.{Cond}
@@ -136,7 +136,8 @@ pub record IsRange (a : Range) : Type 0 where
   pub high : a.hi ≤ℤ pos 2147483647
   pub some : a.lo ≤ℤ a.hi
 
--- of a condition and its opposite one is possible
+-- The opposite of a condition holds exactly where it doesn't, and of the two one is possible.
 pub record OneEdgeIsLeft : Type 0 where
+  pub denies : (cond : Cond) (f : Icc) → holds (opposite cond) f ≡ not (holds cond f)
   pub compared : (cond : Cond) (a b : Range) → IsRange a → IsRange b → (is_some Pair (refine cond a b) || is_some Pair (refine (opposite cond) a b)) ≡ true
   pub by_value : (cond : Cond) (a : Range) → IsRange a → (is_some Range (refine_by_value cond a) || is_some Range (refine_by_value (opposite cond) a)) ≡ true

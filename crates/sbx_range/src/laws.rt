@@ -69,7 +69,8 @@ pub fn refinement_keeps_words()
     ensures { RefinementKeepsWords }
 {}
 
-/// Of a condition and its opposite one at least is possible, of ranges that aren't empty.
+/// The opposite of a condition holds exactly where it doesn't; of the two one at least is possible, of ranges that aren't
+/// empty.
 pub fn one_edge_is_left()
     ensures { OneEdgeIsLeft }
 {}
