@@ -26,6 +26,13 @@ written_some : (o : Option ℕ) (v : ℕ) → IsSome o → if_some o v ≡ Some 
 written_some None v h = absurd (cc)
 written_some (Some w) v h = refl
 
+is_within : (low high a : ℕ) → low ≤ a → a < high → (nat_le low a && nat_lt a high) ≡ true
+is_within low high a from less = grind (arith, nat_tests)
+
+is_apart : (low high a : ℕ) → (a < low) ⊎ (high ≤ a) → (nat_le low a && nat_lt a high) ≡ false
+is_apart low high a (inl less) = grind (arith, nat_tests)
+is_apart low high a (inr past) = grind (arith, nat_tests)
+
 module _ (bytes mid new : Bytes) (address c n : ℕ) (there : IsSome (number_at bytes address (suc c))) (front : (a : ℕ) → mid a ≡ with_number bytes address c (n / 256) a) (last : (a : ℕ) → new a ≡ (if a == address + c then if_some (mid a) (n % 256) else mid a)) where
   -- outside of the number
   apart : (count m a : ℕ) → (nat_le address a && nat_lt a (address + count)) ≡ false → with_number bytes address count m a ≡ bytes a
@@ -42,8 +49,8 @@ module _ (bytes mid new : Bytes) (address c n : ℕ) (there : IsSome (number_at 
   at_last : (a : ℕ) → a ≡ address + c → new a ≡ with_number bytes address (suc c) n a
   at_last a e =
       let here : (a == address + c) ≡ true = grind (arith, nat_tests) in
-      let outside : (nat_le address a && nat_lt a (address + c)) ≡ false = grind (arith, nat_tests) in
-      let within : (nat_le address a && nat_lt a (address + suc c)) ≡ true = grind (arith, nat_tests) in
+      let outside : (nat_le address a && nat_lt a (address + c)) ≡ false = is_apart address (address + c) a (inr (omega arith)) in
+      let within : (nat_le address a && nat_lt a (address + suc c)) ≡ true = is_within address (address + suc c) a (omega arith) (omega arith) in
       let byte : IsSome (bytes a) = subst (λ k. IsSome (bytes k)) (sym e) (last_some (number_at bytes address c) (bytes (address + c)) there) in
       let none : 8 * (suc c - 1 - (a - address)) ≡ 0 = omega arith in
       let low_byte : n % 256 ≡ n / 2 ^ 0 % 2 ^ 8 = omega arith in
@@ -59,14 +66,14 @@ module _ (bytes mid new : Bytes) (address c n : ℕ) (there : IsSome (number_at 
 
   before : (a : ℕ) → address ≤ a → a < address + c → new a ≡ with_number bytes address (suc c) n a
   before a low high =
-      let within : (nat_le address a && nat_lt a (address + c)) ≡ true = grind (arith, nat_tests) in
-      let still_within : (nat_le address a && nat_lt a (address + suc c)) ≡ true = grind (arith, nat_tests) in
+      let within : (nat_le address a && nat_lt a (address + c)) ≡ true = is_within address (address + c) a low high in
+      let still_within : (nat_le address a && nat_lt a (address + suc c)) ≡ true = is_within address (address + suc c) a low (omega arith) in
       elsewhere a (λ e. omega arith) ∙ front a ∙ inside c (n / 256) a within ∙ ap Some (same_byte (a - address) (omega arith)) ∙ sym (inside (suc c) n a still_within)
 
   outside_of : (a : ℕ) → (a < address) ⊎ (address + c < a) → new a ≡ with_number bytes address (suc c) n a
   outside_of a out =
-      let none : (nat_le address a && nat_lt a (address + c)) ≡ false = elim out [ inl low ↦ grind (arith, nat_tests) | inr high ↦ grind (arith, nat_tests) ] in
-      let still_none : (nat_le address a && nat_lt a (address + suc c)) ≡ false = elim out [ inl low ↦ grind (arith, nat_tests) | inr high ↦ grind (arith, nat_tests) ] in
+      let none : (nat_le address a && nat_lt a (address + c)) ≡ false = elim out [ inl low ↦ is_apart address (address + c) a (inl low) | inr high ↦ is_apart address (address + c) a (inr (omega arith)) ] in
+      let still_none : (nat_le address a && nat_lt a (address + suc c)) ≡ false = elim out [ inl low ↦ is_apart address (address + suc c) a (inl low) | inr high ↦ is_apart address (address + suc c) a (inr (omega arith)) ] in
       let other : a ≢ address + c = elim out [ inl low ↦ λ e. omega arith | inr high ↦ λ e. omega arith ] in
       elsewhere a other ∙ front a ∙ apart c (n / 256) a none ∙ sym (apart (suc c) n a still_none)
 
