@@ -14,8 +14,10 @@ use Rattle.v8_word.specs.declared.Size.TheVariants.{Word as StoredWord}
 use Rattle.sbx_image.specs.declared.parts.Range.{Range}
 use Rattle.sbx_range.specs.Ranges.{all, range}
 use Rattle.sbx_domain.specs.Forms.{Form, form_of_location}
-use Rattle.sbx_domain.specs.Known.{Known, Compared, Signs, Location, form_at, range_at, started, with_icc, with_range}
-use Rattle.sbx_domain.specs.Known.{Word as Constant}
+use Rattle.sbx_domain.specs.declared.relation.Relation.TheVariants.{Compared, Signs}
+use Rattle.sbx_domain.specs.declared.relation.Related.TheVariants.{Location}
+use Rattle.sbx_domain.specs.Known.{Known, form_at, range_at, started, with_icc, with_range}
+use Rattle.sbx_domain.specs.declared.relation.Related.TheVariants.{Word as Constant}
 use Rattle.sbx_domain.specs.Refining.{refined}
 use Rattle.sbx_domain.specs.Transfer.{called, transferred}
 

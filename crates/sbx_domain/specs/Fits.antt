@@ -7,7 +7,11 @@ use Rattle.sbx_form.specs.Forms.{Cells}
 use Rattle.sbx_range.specs.Laws.{HasSigns}
 use Rattle.sbx_range.specs.Ranges.{InInterval, IsAligned}
 use Rattle.sbx_domain.specs.Forms.{Form, form_value}
-use Rattle.sbx_domain.specs.Known.{Compared, Known, Location, Related, Relation, Signs, Word, form_of_entry, is_location, range_of_entry}
+use Rattle.sbx_domain.specs.declared.relation.Relation.TheVariants.{Compared, Signs}
+use Rattle.sbx_domain.specs.declared.relation.Related.TheVariants.{Location, Word}
+use Rattle.sbx_domain.specs.declared.relation.Related.{Related}
+use Rattle.sbx_domain.specs.declared.relation.Relation.{Relation}
+use Rattle.sbx_domain.specs.Known.{Known, form_of_entry, is_location, range_of_entry}
 
 -- the words of the locations, of which 0 is %g0
 abbrev pub Words : Type 0

@@ -1,8 +1,13 @@
 -- What the verifier knows between two words of a block: of each location a range and perhaps a linear form, the range of Y,
 -- whether the condition codes are defined, and what they were set from.
-use Rattle.std.specs.Prelude.{ℕ, Bool, false, ◌&&◌, ◌||◌, ◌==◌, nat_lt, if◌then◌else◌, List, [], ◌∷◌, Option, Some, None}
+use Rattle.std.specs.Prelude.{ℕ, Bool, false, ◌&&◌, ◌||◌, ◌==◌, nat_lt, if◌then◌else◌, List, [], ◌∷◌, Option, Some, None, slice_index_or}
 use Rattle.sbx_image.specs.declared.parts.Cell.{Cell}
 use Rattle.sbx_image.specs.declared.parts.Range.{Range}
+use Rattle.sbx_domain.specs.declared.entry.Entry.{Entry}
+use Rattle.sbx_domain.specs.declared.relation.Related.{Related}
+use Rattle.sbx_domain.specs.declared.relation.Related.TheVariants.{Location, Word}
+use Rattle.sbx_domain.specs.declared.relation.Relation.{Relation}
+use Rattle.sbx_domain.specs.declared.relation.Relation.TheVariants.{Compared, Signs}
 use Rattle.sbx_domain.specs.Forms.{Form, form_of_location}
 
 -- ---- locations
@@ -12,17 +17,6 @@ abbrev pub is_location : ℕ → Bool
 is_location l = nat_lt 0 l && nat_lt l 1040
 
 -- ---- what the codes were set from
-
--- an operand: a location, or a known word
-pub data Related : Type 0 where
-  Location : ℕ → Related
-  Word : ℕ → Related
-
-pub data Relation : Type 0 where
-  -- the codes are those of the first less the second
-  Compared : Related → Related → Relation
-  -- Z and N are those of a location's word
-  Signs : ℕ → Relation
 
 abbrev pub is_at : ℕ → Related → Bool
 is_at l (Location k) = k == l
@@ -39,11 +33,6 @@ without_location l (Some r) = if names l r then None else Some r
 
 -- ---- states
 
--- what is known of one word
-pub record Entry : Type 0 where
-  pub range : Range
-  pub form : Option Form
-
 pub record Known : Type 0 where
   -- by location; one without an entry is undefined
   pub entry : ℕ → Option Entry
@@ -51,6 +40,17 @@ pub record Known : Type 0 where
   -- whether the condition codes are defined
   pub icc : Bool
   pub relation : Option Relation
+
+-- How a state keeps what it knows: entries stand in a list, by location.
+pub record Table : Type 0 where
+  pub entries : List (Option Entry)
+  pub y : Option Range
+  pub icc : Bool
+  pub relation : Option Relation
+
+-- what a table knows
+unfoldable pub known : Table → Known
+known s = record { entry = λ l. slice_index_or s.entries l None; y = s.y; icc = s.icc; relation = s.relation }
 
 abbrev pub range_of_entry : Option Entry → Option Range
 range_of_entry None = None

@@ -5,7 +5,12 @@ use Rattle.sbx_image.specs.declared.parts.Range.{Range}
 use Rattle.sbx_range.specs.Ranges.{known}
 use Rattle.sbx_range.specs.Refining.{common, narrowed, pair, refine_by_value, some_pair}
 use Rattle.sbx_range.specs.declared.refining.Pair.{Pair}
-use Rattle.sbx_domain.specs.Known.{Compared, Entry, Known, Location, Related, Relation, Signs, Word, range_at}
+use Rattle.sbx_domain.specs.declared.relation.Relation.TheVariants.{Compared, Signs}
+use Rattle.sbx_domain.specs.declared.entry.Entry.{Entry}
+use Rattle.sbx_domain.specs.declared.relation.Related.TheVariants.{Location, Word}
+use Rattle.sbx_domain.specs.declared.relation.Related.{Related}
+use Rattle.sbx_domain.specs.declared.relation.Relation.{Relation}
+use Rattle.sbx_domain.specs.Known.{Known, range_at}
 
 -- a range in the place of a location's; its form stays, and so does the relation
 abbrev pub with_range_of : Range → Option Entry → Option Entry

@@ -11,7 +11,8 @@ use Rattle.sbx_range.specs.Ranges.{is_single, is_zero, known}
 use Rattle.sbx_range.specs.Rows.{differences_fit, range_divide, sums_fit}
 use Rattle.sbx_range.specs.Table.{range_of, range_of_address, range_of_tagged, range_of_written_y}
 use Rattle.sbx_domain.specs.Forms.{Form, combined, constant_form}
-use Rattle.sbx_domain.specs.Known.{Entry, Known}
+use Rattle.sbx_domain.specs.declared.entry.Entry.{Entry}
+use Rattle.sbx_domain.specs.Known.{Known}
 
 -- ---- operands
 

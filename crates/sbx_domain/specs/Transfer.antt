@@ -25,7 +25,12 @@ use Rattle.sbx_range.specs.Ranges.{all}
 use Rattle.sbx_range.specs.Rows.{byte_or_end, signed_byte, signed_half, unsigned_byte, unsigned_half}
 use Rattle.sbx_range.specs.Table.{writes_y}
 use Rattle.sbx_flat.specs.Effects.{high_word, service_of}
-use Rattle.sbx_domain.specs.Known.{Compared, Entry, Known, Location, Related, Relation, Signs, Word, plain_entry, with_entry, with_icc, with_y}
+use Rattle.sbx_domain.specs.declared.relation.Relation.TheVariants.{Compared, Signs}
+use Rattle.sbx_domain.specs.declared.entry.Entry.{Entry}
+use Rattle.sbx_domain.specs.declared.relation.Related.TheVariants.{Location, Word}
+use Rattle.sbx_domain.specs.declared.relation.Related.{Related}
+use Rattle.sbx_domain.specs.declared.relation.Relation.{Relation}
+use Rattle.sbx_domain.specs.Known.{Known, plain_entry, with_entry, with_icc, with_y}
 use Rattle.sbx_domain.specs.Results.{constant_entry, entry_of_y, operand_entry, quotient_of, register_entry, result_of, tagged_of, written_y}
 
 -- ---- condition codes and Y

@@ -1,4 +1,17 @@
 //! What the verifier knows of a state between two words: ranges and linear forms of locations.
 #![tactic(auto)]
 
+mod entry;
 pub mod laws;
+mod lin;
+mod relation;
+mod room;
+mod state;
+
+pub use entry::Entry;
+pub use lin::Lin;
+pub use relation::{Related, Relation};
+pub use state::{LOCATIONS, State};
+
+#[cfg(test)]
+mod tests;
