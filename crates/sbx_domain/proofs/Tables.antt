@@ -1,5 +1,5 @@
 -- What a table knows after a write of one of its entries.
-use Rattle.std.proofs.Common.{◌≡◌, ℕ, ◌<◌, Bool, true, false, List, length, Option, None, slice_index_or, slice_set, ap, refl, sym, arith, ◌∙◌}
+use Rattle.std.proofs.Common.{◌≡◌, ℕ, ◌<◌, ◌≤◌, Bool, true, false, List, length, Option, None, slice_index_or, slice_set, ap, refl, sym, arith, ◌∙◌}
 use Rattle.std.specs.Prelude.{◌==◌, nat_lt, if◌then◌else◌, replicate}
 use Rattle.std.proofs.Math.Path.{fun_ext}
 use Rattle.std.proofs.lemmas.Bool.Decides.{nat_tests}
@@ -9,6 +9,7 @@ use Rattle.sbx_image.specs.declared.parts.Range.{Range}
 use Rattle.sbx_domain.specs.declared.entry.Entry.{Entry}
 use Rattle.sbx_domain.specs.declared.relation.Relation.{Relation}
 use Rattle.sbx_domain.specs.Known.{Known, Table, is_location, known, nothing_known, with_entry, without_location}
+use Rattle.sbx_domain.specs.Refining.{narrowed_at, with_range_of}
 
 at_written : (xs : List (Option Entry)) (l : ℕ) (e : Option Entry) (k : ℕ) → l < length xs → slice_index_or (slice_set xs l e) k None ≡ (if k == l then e else slice_index_or xs k None)
 at_written xs l e k within = by_test (k == l) refl
@@ -73,3 +74,33 @@ blank n k = by_less (nat_lt k n) refl
 pub nothing_in_blanks : (xs : List (Option Entry)) (n : ℕ) → xs ≡ replicate n None → known (record { entries = xs; y = None; icc = false; relation = None }) ≡ nothing_known
 unfolding known
 nothing_in_blanks xs n is = ap (λ ys. knowing None false None (entries_of ys)) is ∙ ap (knowing None false None) (fun_ext (λ k. blank n k))
+
+-- a range in the place of an entry's
+narrowed_entries : (f : Entries) (l : ℕ) (r : Range) → entries_with f l (with_range_of r (f l)) ≡ (λ k. if k == l then with_range_of r (f k) else f k)
+narrowed_entries f l r = fun_ext (λ k. by_test k (k == l) refl)
+  where
+    by_test : (k : ℕ) (t : Bool) → (k == l) ≡ t → (if t then with_range_of r (f l) else f k) ≡ (if t then with_range_of r (f k) else f k)
+    by_test k true h = (let same : l ≡ k = grind (arith, nat_tests) in ap (λ j. with_range_of r (f j)) same)
+    by_test k false h = refl
+
+pub known_narrowed : (s : Table) (l : ℕ) (r : Range) (e : Option Entry) → length s.entries ≡ 1040 → l < 1040 → e ≡ with_range_of r ((known s).entry l)
+    → known (record s { entries = slice_set s.entries l e }) ≡ narrowed_at l r (known s)
+unfolding known narrowed_at
+known_narrowed s l r e size here is =
+    ap (λ (x : Option Entry). knowing s.y s.icc s.relation (entries_of (slice_set s.entries l x))) is
+    ∙ (ap (knowing s.y s.icc s.relation) (entries_written s.entries l (with_range_of r (entries_of s.entries l)) (omega (arith, size, here)))
+    ∙ ap (knowing s.y s.icc s.relation) (narrowed_entries (entries_of s.entries) l r))
+
+-- past the end nothing is known
+pub known_unnarrowed : (s : Table) (l : ℕ) (r : Range) → length s.entries ≡ 1040 → 1040 ≤ l → known s ≡ narrowed_at l r (known s)
+unfolding known narrowed_at
+known_unnarrowed s l r size past = ap (knowing s.y s.icc s.relation) (fun_ext (λ k. by_test k (k == l) refl))
+  where
+    f : Entries
+    f = entries_of s.entries
+
+    by_test : (k : ℕ) (t : Bool) → (k == l) ≡ t → f k ≡ (if t then with_range_of r (f k) else f k)
+    by_test k true h =
+        let blank_there : f k ≡ none = get_or_past s.entries k none (grind (arith, nat_tests, size)) in
+        blank_there ∙ ap (with_range_of r) (sym blank_there)
+    by_test k false h = refl

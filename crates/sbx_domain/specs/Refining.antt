@@ -3,7 +3,7 @@ use Rattle.std.specs.Prelude.{ℕ, Bool, true, false, ◌==◌, if◌then◌else
 use Rattle.v8_word.specs.declared.Cond.{Cond}
 use Rattle.sbx_image.specs.declared.parts.Range.{Range}
 use Rattle.sbx_range.specs.Ranges.{known}
-use Rattle.sbx_range.specs.Refining.{common, narrowed, pair, refine_by_value, some_pair}
+use Rattle.sbx_range.specs.Refining.{both_of, common, refine, refine_by_value, some_range}
 use Rattle.sbx_range.specs.declared.refining.Pair.{Pair}
 use Rattle.sbx_domain.specs.declared.relation.Relation.TheVariants.{Compared, Signs}
 use Rattle.sbx_domain.specs.declared.entry.Entry.{Entry}
@@ -32,17 +32,18 @@ abbrev pub is_same : Related → Related → Bool
 is_same (Location k) (Location l) = k == l
 is_same _ _ = false
 
--- a location that is related to itself gets both parts
-abbrev pub both_parts : Bool → Pair → Pair
-both_parts true p = pair (common p.left p.right) (common p.left p.right)
-both_parts false p = p
+-- a location that is related to itself gets what both parts share
+abbrev pub in_both : Bool → Option Pair → Option Pair
+in_both true (Some p) = both_of (some_range (common p.left p.right)) (some_range (common p.left p.right))
+in_both true None = None
+in_both false p = p
 
 abbrev pub with_pair : Related → Related → Known → Option Pair → Option Known
 with_pair x y d None = None
 with_pair x y d (Some p) = Some (narrowed_related x p.left (narrowed_related y p.right d))
 
 abbrev pub refined_pair : Cond → Related → Related → Option Range → Option Range → Known → Option Known
-refined_pair c x y (Some a) (Some b) d = with_pair x y d (some_pair (both_parts (is_same x y) (narrowed c a b)))
+refined_pair c x y (Some a) (Some b) d = with_pair x y d (in_both (is_same x y) (refine c a b))
 refined_pair c x y (Some a) None d = Some d
 refined_pair c x y None b d = Some d
 

@@ -1,6 +1,7 @@
 //! What the verifier knows of a state between two words: ranges and linear forms of locations.
 #![tactic(auto)]
 
+mod branching;
 mod entry;
 pub mod laws;
 mod lin;

@@ -1,13 +1,16 @@
 //! What the verifier knows between two words.
 ghost use Rattle.std.specs.Prelude.{◌≡◌, IfOk};
 
-use crate::entry::{Entry, plain_entry};
+use crate::branching::refined_pair;
+use crate::entry::{Entry, plain_entry, with_range};
 use crate::lin::Lin;
-use crate::relation::{Relation, without_location};
+use crate::relation::{Related, Relation, without_location};
 use crate::room::repeated;
 use sbx_image::Range;
+use sbx_range::{Pair, refine_by_value};
 use std::alloc::{AllocError, Global};
 use std::marker::Model;
+use v8_word::Cond;
 
 /// One more than the greatest location: 1 to 31 is a register, 32 + k word k of the frame, and 0 is none.
 pub const LOCATIONS: usize = 1_040;
@@ -34,7 +37,10 @@ impl Model for State {
 }
 
 impl State {
-    ghost use Rattle.std.specs.Prelude.{Some};
+    ghost use Rattle.std.specs.Prelude.{Some, None, true, false, if◌then◌else◌};
+    ghost use Rattle.sbx_domain.specs.declared.relation.Relation.TheVariants.{Compared, Signs};
+    ghost use Rattle.sbx_domain.specs.Refining.{narrowed_at, narrowed_related, range_of_related, refined, refined_by, with_pair};
+    ghost use Rattle.sbx_domain.specs.Transfer.{with_codes};
     ghost use Rattle.sbx_domain.specs.Known.{form_at, known, nothing_known, range_at, with_entry, with_icc, with_range, with_y};
 
     /// Nothing defined, with room for every location.
@@ -117,6 +123,15 @@ impl State {
         self.relation = None;
     }
 
+    /// The codes are set, from what they are related to.
+    #[tactic(auto, unfolding(crate::specs::Known::known))]
+    pub(crate) fn set_codes(&mut self, relation: Option<Relation>)
+        ensures { known self.new ≡ with_codes true relation (known self.old) }
+    {
+        self.icc = true;
+        self.relation = relation;
+    }
+
     /// The range of Y, where it is defined.
     #[tactic(auto, unfolding(crate::specs::Known::known))]
     pub fn y(&self) -> Option<Range>
@@ -144,5 +159,87 @@ impl State {
         other.y = self.y;
         other.icc = self.icc;
         other.relation = self.relation;
+    }
+
+    /// Puts a range in the place of a location's, where it is defined. This is no write: its form and the relation stay.
+    fn narrow(&mut self, location: u16, range: Range)
+        ensures { known self.new ≡ narrowed_at location range (known self.old) }
+    {
+        let entry = with_range(range, self.entry(location));
+        if usize::from(location) < LOCATIONS {
+            self.entries[location as usize] = entry;
+        }
+    }
+
+    fn narrow_related(&mut self, related: Related, range: Range)
+        ensures { known self.new ≡ narrowed_related related range (known self.old) }
+    {
+        match related {
+            Related::Location(location) => self.narrow(location, range),
+            Related::Word(_) => {}
+        }
+    }
+
+    fn range_of(&self, related: Related) -> Option<Range>
+        ensures { result ≡ range_of_related (known self.now) related }
+    {
+        match related {
+            Related::Location(location) => self.range(location),
+            Related::Word(word) => Some(sbx_range::known(word)),
+        }
+    }
+
+    /// Takes over what is left of two operands' ranges; says whether something is.
+    fn narrow_pair(&mut self, x: Related, y: Related, pair: Option<Pair>) -> bool
+        ensures answer { with_pair x y (known self.old) pair ≡ (if result then Some (known self.new) else None) }
+        ensures refused { result ≡ false → self.new ≡ self.old }
+    {
+        match pair {
+            Some(pair) => {
+                self.narrow_related(y, pair.right);
+                self.narrow_related(x, pair.left);
+                true
+            }
+            None => false,
+        }
+    }
+
+    fn refine_compared(&mut self, cond: Cond, x: Related, y: Related) -> bool
+        ensures answer { refined_by cond (Some (Compared x y)) (known self.old) ≡ (if result then Some (known self.new) else None) }
+        ensures refused { result ≡ false → self.new ≡ self.old }
+    {
+        match (self.range_of(x), self.range_of(y)) {
+            (Some(a), Some(b)) => self.narrow_pair(x, y, refined_pair(cond, x, y, a, b)),
+            _ => true,
+        }
+    }
+
+    fn refine_signs(&mut self, cond: Cond, location: u16) -> bool
+        ensures answer { refined_by cond (Some (Signs location)) (known self.old) ≡ (if result then Some (known self.new) else None) }
+        ensures refused { result ≡ false → self.new ≡ self.old }
+    {
+        let Some(range) = self.range(location) else {
+            return true;
+        };
+        match refine_by_value(cond, range) {
+            Some(range) => {
+                self.narrow(location, range);
+                true
+            }
+            None => false,
+        }
+    }
+
+    /// Goes on where a condition holds of the codes, and says whether it can hold. Where it can't the state stays as it is.
+    #[tactic(auto, unfolding(crate::specs::Refining::refined, crate::specs::Known::known))]
+    pub fn refine(&mut self, cond: Cond) -> bool
+        ensures answer { refined cond (known self.old) ≡ (if result then Some (known self.new) else None) }
+        ensures refused { result ≡ false → self.new ≡ self.old }
+    {
+        match self.relation {
+            Some(Relation::Compared(x, y)) => self.refine_compared(cond, x, y),
+            Some(Relation::Signs(location)) => self.refine_signs(cond, location),
+            None => true,
+        }
     }
 }

@@ -2,6 +2,7 @@
 use super::*;
 use sbx_image::Range;
 use std::alloc::Global;
+use v8_word::Cond;
 
 const FEW: Range = Range {
     lo: -3,
@@ -80,5 +81,74 @@ fn a_copy_is_equal(rt: HostRuntime) {
             state.copy_to(&mut other);
             assert!(rt; is_set(&other) && other.range(7).is_none());
         }
+    }
+}
+
+/// A state in which %o0, 0 to 10, was compared with a word, and what is known of %o0 where a condition holds.
+fn refined(alloc: Global, word: u32, cond: Cond) -> Option<Option<(i32, i32)>> {
+    let mut state = State::new(alloc).ok()?;
+    let range = Range {
+        lo: 0,
+        hi: 10,
+        alignment: 0,
+    };
+    state.set(8, Some(range));
+    state.set_codes(Some(Relation::Compared(Related::Location(8), Related::Word(word))));
+    if state.refine(cond) {
+        let range = state.range(8)?;
+        Some(Some((range.lo, range.hi)))
+    } else {
+        Some(None)
+    }
+}
+
+fn is_refined(alloc: Global, word: u32, cond: Cond, ends: Option<(i32, i32)>) -> bool {
+    match refined(alloc, word, cond) {
+        Some(found) => found == ends,
+        None => true,
+    }
+}
+
+#[test]
+fn branches_after_a_comparison(rt: HostRuntime) {
+    assert!(rt; is_refined(rt.alloc(), 5, Cond::Less, Some((0, 4))));
+    assert!(rt; is_refined(rt.alloc(), 5, Cond::GreaterOrEqual, Some((5, 10))));
+    assert!(rt; is_refined(rt.alloc(), 5, Cond::Equal, Some((5, 5))));
+    assert!(rt; is_refined(rt.alloc(), 10, Cond::NotEqual, Some((0, 9))));
+    assert!(rt; is_refined(rt.alloc(), 11, Cond::Equal, None));
+    assert!(rt; is_refined(rt.alloc(), 0x7fff_ffff, Cond::Greater, None));
+    assert!(rt; is_refined(rt.alloc(), 0x8000_0000, Cond::Less, None));
+    assert!(rt; is_refined(rt.alloc(), 0x8000_0000, Cond::CarrySet, Some((0, 10))));
+}
+
+#[test]
+fn a_location_compared_with_itself(rt: HostRuntime) {
+    if let Ok(mut state) = State::new(rt.alloc()) {
+        state.set(1_039, Some(FEW));
+        let last = Related::Location(1_039);
+        state.set_codes(Some(Relation::Compared(last, last)));
+        assert!(rt; state.refine(Cond::Equal) && state.range(1_039) == Some(FEW));
+    }
+}
+
+#[test]
+fn branches_on_a_sign(rt: HostRuntime) {
+    if let Ok(mut state) = State::new(rt.alloc()) {
+        state.set(1, Some(FEW));
+        state.set_codes(Some(Relation::Signs(1)));
+        let negative = Range {
+            lo: -3,
+            hi: -1,
+            alignment: 0,
+        };
+        assert!(rt; state.refine(Cond::Negative) && state.range(1) == Some(negative));
+        assert!(rt; !state.refine(Cond::Positive) && state.range(1) == Some(negative));
+    }
+}
+
+#[test]
+fn codes_of_nothing_refine_nothing(rt: HostRuntime) {
+    if let Some(mut state) = some_state(rt.alloc()) {
+        assert!(rt; state.refine(Cond::Equal) && is_set(&state));
     }
 }
