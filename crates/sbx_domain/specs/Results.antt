@@ -36,8 +36,8 @@ of_both f None b = None
 -- ---- results
 
 -- a result that is one number has a constant form; else it has this one
-abbrev pub result : Range → Option Form → Entry
-result r f = record { range = r; form = if is_single r then Some (constant_form r.lo) else f }
+abbrev pub entry_of_result : Range → Option Form → Entry
+entry_of_result r f = record { range = r; form = if is_single r then Some (constant_form r.lo) else f }
 
 -- the sum, where all sums fit
 abbrev pub sum_form : Entry → Entry → Option Form
@@ -60,10 +60,10 @@ form_of OrCc a b = copied_form a b
 form_of _ a b = None
 
 abbrev pub computed : Op → Entry → Entry → Entry
-computed op a b = result (range_of op a.range b.range) (form_of op a b)
+computed op a b = entry_of_result (range_of op a.range b.range) (form_of op a b)
 
 abbrev pub tagged : TaggedOp → Entry → Entry → Entry
-tagged op a b = result (range_of_tagged op a.range b.range) None
+tagged op a b = entry_of_result (range_of_tagged op a.range b.range) None
 
 abbrev pub result_of : Op → Option Entry → Option Entry → Option Entry
 result_of op a b = of_both (computed op) a b
@@ -73,13 +73,13 @@ tagged_of op a b = of_both (tagged op) a b
 
 -- a quotient of the first operand's word below Y
 abbrev pub quotient_of : Option Range → Option Entry → Option Entry → Option Entry
-quotient_of (Some y) a b = of_both (λ a b. result (range_divide y a.range b.range) None) a b
+quotient_of (Some y) a b = of_both (λ a b. entry_of_result (range_divide y a.range b.range) None) a b
 quotient_of None a b = None
 
 -- RDY gives what is known of Y
 abbrev pub entry_of_y : Option Range → Option Entry
 entry_of_y None = None
-entry_of_y (Some r) = Some (result r None)
+entry_of_y (Some r) = Some (entry_of_result r None)
 
 -- Y after WRY
 abbrev pub written_y : Option Entry → Option Entry → Option Range

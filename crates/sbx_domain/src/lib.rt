@@ -5,9 +5,11 @@ mod branching;
 mod entry;
 pub mod laws;
 mod lin;
+mod operands;
 mod relation;
 mod room;
 mod state;
+mod words;
 
 pub use entry::Entry;
 pub use lin::Lin;
