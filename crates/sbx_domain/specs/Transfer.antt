@@ -109,12 +109,13 @@ offset_from_sp frame rs1 (Immediate w) =
 abbrev pub is_word_offset : ℕ → ℕ → Bool
 is_word_offset frame n = (nat_le 64 n && nat_le (n + 4) frame) && (nat_le n 4092 && (n % 4 == 0))
 
+-- the location of the word at an offset
 abbrev pub word_at_offset : ℕ → Option ℤ → Option ℕ
 word_at_offset frame None = None
 word_at_offset frame (Some (negsuc n)) = None
-word_at_offset frame (Some (pos n)) = if is_word_offset frame n then Some ((n - 64) / 4) else None
+word_at_offset frame (Some (pos n)) = if is_word_offset frame n then Some (32 + (n - 64) / 4) else None
 
--- the frame word that an LD or ST names
+-- the location of the frame word that an LD or ST names
 abbrev pub frame_word_of : ℕ → MemoryOperand → Option ℕ
 frame_word_of frame m = word_at_offset frame (offset_from_sp frame m.rs1 m.operand2)
 
@@ -129,17 +130,17 @@ loaded_range loadings.Double = all 0
 
 -- LD of a frame word gives what is known of it; any other load a number of its size
 abbrev pub loaded_entry : Option ℕ → Loading → Known → Option Entry
-loaded_entry (Some k) loadings.Word d = d.entry (32 + k)
-loaded_entry _ l d = Some (plain_entry (loaded_range l))
+loaded_entry (Some l) loadings.Word d = d.entry l
+loaded_entry _ loading d = Some (plain_entry (loaded_range loading))
 
 -- LDD fills a pair
 abbrev pub with_loaded : Option ℕ → Loading → ℕ → Known → Known
 with_loaded word loadings.Double rd d = with_entry (odd_of rd) (Some (plain_entry (all 0))) (with_entry rd (Some (plain_entry (all 0))) d)
-with_loaded word l rd d = with_entry rd (loaded_entry word l d) d
+with_loaded word loading rd d = with_entry rd (loaded_entry word loading d) d
 
 -- ST to a frame word gives it what is known of the register
 abbrev pub with_stored : Option ℕ → Size → ℕ → Known → Known
-with_stored (Some k) sizes.Word rd d = with_entry (32 + k) (register_entry d rd) d
+with_stored (Some l) sizes.Word rd d = with_entry l (register_entry d rd) d
 with_stored _ size rd d = d
 
 abbrev pub exchanged_range : Exchanging → Range

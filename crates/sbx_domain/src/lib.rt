@@ -5,6 +5,7 @@ mod branching;
 mod entry;
 pub mod laws;
 mod lin;
+mod memory;
 mod operands;
 mod relation;
 mod room;

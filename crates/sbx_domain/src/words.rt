@@ -106,4 +106,14 @@ impl State {
             self.set(8, Some(BYTE_OR_END));
         }
     }
+
+    /// CALL, before its slot: %o7 is undefined, and the codes relate nothing.
+    #[tactic(auto, unfolding(crate::specs::Transfer::transferred))]
+    pub fn call(&mut self)
+        ensures { (frame : ℕ) → (displacement : ℕ) → known self.new ≡ transferred frame (Call displacement) (known self.old) }
+    {
+        self.write(15, None);
+        let defined = self.icc();
+        self.set_icc(defined);
+    }
 }
