@@ -2,7 +2,10 @@
 use super::*;
 use sbx_image::Range;
 use std::alloc::Global;
-use v8_word::Cond;
+use v8_alu::Division;
+use v8_formats::{Operand, Three, Trap, Two, Upper};
+use v8_meaning::{Exchange, Loading, MemoryOperand, Space, Transfer};
+use v8_word::{Cond, Reg, Size};
 
 const FEW: Range = Range {
     lo: -3,
@@ -150,5 +153,151 @@ fn branches_on_a_sign(rt: HostRuntime) {
 fn codes_of_nothing_refine_nothing(rt: HostRuntime) {
     if let Some(mut state) = some_state(rt.alloc()) {
         assert!(rt; state.refine(Cond::Equal) && is_set(&state));
+    }
+}
+
+/// A register by its number.
+fn reg(number: u8) -> Reg {
+    Reg::new(number).unwrap_or(Reg::G0)
+}
+
+/// An address of a register and an offset, and %o0 to move.
+fn near(rs1: Reg, offset: i32) -> MemoryOperand {
+    MemoryOperand {
+        rd: reg(8),
+        rs1,
+        operand2: Operand::Immediate(offset.cast_unsigned()),
+        space: Space::Normal,
+    }
+}
+
+/// Whether a store of %o0 to this address gives this frame word, by its location, what is known of %o0.
+fn reaches(alloc: Global, frame: u32, address: &MemoryOperand, location: u16) -> bool {
+    let Ok(mut state) = State::new(alloc) else {
+        return true;
+    };
+    state.set(8, Some(FEW));
+    state.transfer_memory(frame, Transfer::Store(Size::Word), address);
+    state.range(location) == Some(FEW)
+}
+
+#[test]
+fn frame_words(rt: HostRuntime) {
+    assert!(rt; reaches(rt.alloc(), 96, &near(Reg::SP, 64), 32));
+    assert!(rt; reaches(rt.alloc(), 96, &near(Reg::SP, 92), 39));
+    assert!(rt; reaches(rt.alloc(), 96, &near(Reg::FP, -4), 39));
+    assert!(rt; reaches(rt.alloc(), 4_096, &near(Reg::FP, -4), 1_039));
+    assert!(rt; reaches(rt.alloc(), 4_096, &near(Reg::SP, 4_092), 1_039));
+}
+
+#[test]
+fn no_frame_words(rt: HostRuntime) {
+    if let Ok(mut state) = State::new(rt.alloc()) {
+        state.set(8, Some(FEW));
+        let places = [
+            near(Reg::SP, 60),
+            near(Reg::SP, 66),
+            near(Reg::SP, 96),
+            near(Reg::FP, 0),
+            near(reg(8), 64),
+        ];
+        for place in &places {
+            state.transfer_memory(96, Transfer::Store(Size::Word), place);
+        }
+        assert!(rt; state.range(31).is_none() && state.range(32).is_none());
+        assert!(rt; state.range(39).is_none() && state.range(40).is_none());
+    }
+}
+
+#[test]
+fn loads_of_every_size(rt: HostRuntime) {
+    if let Ok(mut state) = State::new(rt.alloc()) {
+        let place = near(reg(8), 0);
+        state.transfer_memory(0, Transfer::Load(Loading::SignedHalf), &place);
+        let half = state.range(8);
+        state.transfer_memory(0, Transfer::Exchange(Exchange::Ones), &place);
+        let byte = state.range(8);
+        state.transfer_memory(0, Transfer::Load(Loading::Double), &place);
+        assert!(rt; half.is_some_and(|r| r.lo == -32_768 && r.hi == 32_767));
+        assert!(rt; byte.is_some_and(|r| r.lo == 0 && r.hi == 255));
+        assert!(rt;
+            state
+                .range(9)
+                .is_some_and(|r| r.lo == i32::MIN && r.hi == i32::MAX)
+        );
+    }
+}
+
+#[test]
+fn high_words_and_y(rt: HostRuntime) {
+    if let Ok(mut state) = State::new(rt.alloc()) {
+        let greatest = Upper {
+            rd: reg(31),
+            imm22: 0x3f_ffff,
+        };
+        state.set_high(&greatest);
+        let word = Range {
+            lo: -1_024,
+            hi: -1_024,
+            alignment: 3,
+        };
+        assert!(rt; state.range(31) == Some(word));
+        assert!(rt;
+            state.form(31).is_some_and(|form| form.constant() == -1_024 && form.terms().is_empty())
+        );
+        let both = Two {
+            rs1: reg(31),
+            operand2: Operand::Immediate(1_024),
+        };
+        state.write_y(&both);
+        state.read_y(reg(1));
+        assert!(rt;
+            state
+                .range(1)
+                .is_some_and(|r| r.lo == -2_048 && r.hi == -2_048)
+        );
+        let undefined = Two {
+            rs1: reg(2),
+            operand2: Operand::Immediate(0),
+        };
+        state.write_y(&undefined);
+        assert!(rt; state.y().is_none());
+    }
+}
+
+#[test]
+fn quotients_and_services(rt: HostRuntime) {
+    if let Ok(mut state) = State::new(rt.alloc()) {
+        let by_two = Three {
+            rd: reg(9),
+            rs1: reg(8),
+            operand2: Operand::Immediate(2),
+        };
+        let get = Trap {
+            cond: Cond::Always,
+            rs1: Reg::G0,
+            operand2: Operand::Immediate(1),
+        };
+        state.serve(&get);
+        assert!(rt; state.range(8).is_some_and(|r| r.lo == -1 && r.hi == 255));
+        state.divide(Division::Udiv, &by_two);
+        assert!(rt; state.range(9).is_none() && !state.icc());
+        state.set(
+            8,
+            Some(Range {
+                lo: 3,
+                hi: 9,
+                alignment: 0,
+            }),
+        );
+        state.set_y(Some(Range {
+            lo: 0,
+            hi: 0,
+            alignment: 3,
+        }));
+        state.divide(Division::SdivCc, &by_two);
+        assert!(rt; state.range(9).is_some_and(|r| r.lo == 1 && r.hi == 4) && state.icc());
+        state.call();
+        assert!(rt; state.range(9).is_some_and(|r| r.lo == 1) && state.icc());
     }
 }
