@@ -1,11 +1,14 @@
 -- What a table knows after a write of one of its entries.
-use Rattle.std.proofs.Common.{◌≡◌, ℕ, ◌<◌, ◌≤◌, Bool, true, false, List, length, Option, None, slice_index_or, slice_set, ap, refl, sym, arith, ◌∙◌}
+use Rattle.std.proofs.Common.{◌≡◌, ℕ, ◌-◌, ◌<◌, ◌≤◌, Bool, true, false, List, length, Option, None, slice_index_or, slice_set, ap, refl, sym, arith, ◌∙◌}
 use Rattle.std.specs.Prelude.{◌==◌, nat_lt, if◌then◌else◌, replicate}
 use Rattle.std.proofs.Math.Path.{fun_ext}
 use Rattle.std.proofs.lemmas.Bool.Decides.{nat_tests}
 use Rattle.std.proofs.lemmas.Grind.{get_or-set_at}
 use Rattle.std.proofs.lemmas.List.{get_or-set_other, get_or-replicate, get_or_past, length-replicate}
 use Rattle.sbx_image.specs.declared.parts.Range.{Range}
+use Rattle.v8_formats.specs.declared.instr.Three.{Three}
+use Rattle.v8_meaning.specs.declared.operation.Operation.TheVariants.{Save}
+use Rattle.sbx_domain.specs.Transfer.{is_in, saved, transferred}
 use Rattle.sbx_domain.specs.declared.entry.Entry.{Entry}
 use Rattle.sbx_domain.specs.declared.relation.Relation.{Relation}
 use Rattle.sbx_domain.specs.Known.{Known, Table, is_location, known, nothing_known, with_entry, without_location}
@@ -104,3 +107,9 @@ known_unnarrowed s l r size past = ap (knowing s.y s.icc s.relation) (fun_ext (�
         let blank_there : f k ≡ none = get_or_past s.entries k none (grind (arith, nat_tests, size)) in
         blank_there ∙ ap (with_range_of r) (sym blank_there)
     by_test k false h = refl
+
+-- after a SAVE
+pub known_saved : (s : Table) (ys : List (Option Entry)) → ((k : ℕ) → slice_index_or ys k None ≡ (if is_in k then slice_index_or s.entries (k - 16) None else None))
+    → (frame : ℕ) (fields : Three) → known (record { entries = ys; y = None; icc = false; relation = None }) ≡ transferred frame (Save fields) (known s)
+unfolding known saved transferred
+known_saved s ys moved frame fields = ap (knowing None false None) (fun_ext moved)

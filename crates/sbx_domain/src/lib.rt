@@ -6,6 +6,7 @@ mod entry;
 pub mod laws;
 mod lin;
 mod memory;
+mod moving;
 mod operands;
 mod relation;
 mod room;

@@ -4,6 +4,7 @@ ghost use Rattle.std.specs.Prelude.{◌≡◌, IfOk};
 use crate::branching::refined_pair;
 use crate::entry::{Entry, plain_entry, with_range};
 use crate::lin::Lin;
+use crate::moving::save_entries;
 use crate::relation::{Related, Relation, without_location};
 use crate::room::repeated;
 use sbx_image::Range;
@@ -40,7 +41,10 @@ impl State {
     ghost use Rattle.std.specs.Prelude.{Some, None, true, false, if◌then◌else◌};
     ghost use Rattle.sbx_domain.specs.declared.relation.Relation.TheVariants.{Compared, Signs};
     ghost use Rattle.sbx_domain.specs.Refining.{narrowed_at, narrowed_related, range_of_related, refined, refined_by, with_pair};
-    ghost use Rattle.sbx_domain.specs.Transfer.{with_codes};
+    ghost use Rattle.std.specs.Prelude.{ℕ};
+    ghost use Rattle.v8_formats.specs.declared.instr.Three.{Three};
+    ghost use Rattle.v8_meaning.specs.declared.operation.Operation.TheVariants.{Save};
+    ghost use Rattle.sbx_domain.specs.Transfer.{transferred, with_codes};
     ghost use Rattle.sbx_domain.specs.Known.{form_at, known, nothing_known, range_at, with_entry, with_icc, with_range, with_y};
 
     /// Nothing defined, with room for every location.
@@ -146,6 +150,16 @@ impl State {
         ensures { known self.new ≡ with_y range (known self.old) }
     {
         self.y = range;
+    }
+
+    /// SAVE, which makes outs ins with their forms; nothing else is known after it.
+    pub fn save(&mut self)
+        ensures { (frame : ℕ) → (fields : Three) → known self.new ≡ transferred frame (Save fields) (known self.old) }
+    {
+        save_entries(self.entries.as_mut_slice());
+        self.y = None;
+        self.icc = false;
+        self.relation = None;
     }
 
     /// Makes the other state equal to this one.

@@ -301,3 +301,18 @@ fn quotients_and_services(rt: HostRuntime) {
         assert!(rt; state.range(9).is_some_and(|r| r.lo == 1) && state.icc());
     }
 }
+
+#[test]
+fn outs_become_ins(rt: HostRuntime) {
+    if let Some(mut state) = some_state(rt.alloc()) {
+        state.set(8, Some(FEW));
+        state.set(13, Some(MANY));
+        state.set(16, Some(FEW));
+        state.set(24, Some(MANY));
+        state.save();
+        assert!(rt; state.range(24) == Some(FEW) && state.range(29) == Some(MANY));
+        assert!(rt; state.range(25).is_none() && state.range(8).is_none());
+        assert!(rt; state.range(1).is_none() && state.range(1_039).is_none());
+        assert!(rt; state.range(16).is_none() && state.y().is_none() && !state.icc());
+    }
+}
