@@ -5,3 +5,4 @@ pub mod Transfer
 pub mod Refining
 pub mod Fits
 pub mod Examples
+pub mod Laws

@@ -1,5 +1,6 @@
 //! Laws of what is known between two words. Each is the contract of a function that does nothing.
 ghost use Rattle.sbx_domain.specs.Examples.{BranchesKnow, FramesKeep, RelationsAreThese, ResultsAreThese};
+ghost use Rattle.sbx_domain.specs.Laws.{WritesKeepFitting};
 
 /// What a few words leave in their destinations, from a start of two cells.
 pub fn results_are_these()
@@ -19,4 +20,10 @@ pub fn branches_know()
 /// What SAVE, RESTORE, frame words and calls leave known.
 pub fn frames_keep()
     ensures { FramesKeep }
+{}
+
+/// Words that fit still fit after a location gets a word that has what is then known of it; so do words that fit but for
+/// multiples.
+pub fn writes_keep_fitting()
+    ensures { WritesKeepFitting }
 {}
