@@ -1,0 +1,4 @@
+pub mod Examples
+pub mod Tables
+pub mod Moves
+pub mod Writes

@@ -1,0 +1,115 @@
+-- What a table knows after a write of one of its entries.
+use Rattle.std.proofs.Common.{◌≡◌, ℕ, ◌-◌, ◌<◌, ◌≤◌, Bool, true, false, List, length, Option, None, slice_index_or, slice_set, ap, refl, sym, arith, ◌∙◌}
+use Rattle.std.specs.Prelude.{◌==◌, nat_lt, if◌then◌else◌, replicate}
+use Rattle.std.proofs.Math.Path.{fun_ext}
+use Rattle.std.proofs.lemmas.Bool.Decides.{nat_tests}
+use Rattle.std.proofs.lemmas.Grind.{get_or-set_at}
+use Rattle.std.proofs.lemmas.List.{get_or-set_other, get_or-replicate, get_or_past, length-replicate}
+use Rattle.sbx_image.specs.declared.parts.Range.{Range}
+use Rattle.v8_formats.specs.declared.instr.Three.{Three}
+use Rattle.v8_meaning.specs.declared.operation.Operation.TheVariants.{Save}
+use Rattle.sbx_domain.specs.Transfer.{is_in, saved, transferred}
+use Rattle.sbx_domain.specs.declared.entry.Entry.{Entry}
+use Rattle.sbx_domain.specs.declared.relation.Relation.{Relation}
+use Rattle.sbx_domain.specs.Known.{Known, Table, is_location, known, nothing_known, with_entry, without_location}
+use Rattle.sbx_domain.specs.Refining.{narrowed_at, with_range_of}
+
+at_written : (xs : List (Option Entry)) (l : ℕ) (e : Option Entry) (k : ℕ) → l < length xs → slice_index_or (slice_set xs l e) k None ≡ (if k == l then e else slice_index_or xs k None)
+at_written xs l e k within = by_test (k == l) refl
+  where
+    by_test : (t : Bool) → (k == l) ≡ t → slice_index_or (slice_set xs l e) k None ≡ (if t then e else slice_index_or xs k None)
+    by_test true h = get_or-set_at xs l k e None (grind (arith, nat_tests)) within
+    by_test false h = get_or-set_other xs l k e None (λ p. grind (arith, nat_tests))
+
+-- the entries, by location
+abbrev pub Entries : Type 0
+Entries = ℕ → Option Entry
+
+abbrev pub entries_of : List (Option Entry) → Entries
+entries_of xs k = slice_index_or xs k None
+
+abbrev pub entries_with : Entries → ℕ → Option Entry → Entries
+entries_with f l e k = if k == l then e else f k
+
+abbrev pub knowing : Option Range → Bool → Option Relation → Entries → Known
+knowing y icc relation f = record { entry = f; y = y; icc = icc; relation = relation }
+
+entries_written : (xs : List (Option Entry)) (l : ℕ) (e : Option Entry) → l < length xs → entries_of (slice_set xs l e) ≡ entries_with (entries_of xs) l e
+entries_written xs l e within = fun_ext (λ k. at_written xs l e k within)
+
+-- what stands in the place of what was known, by whether the number is a location
+abbrev pub written_if : Bool → ℕ → Option Entry → Known → Known
+written_if t l e d = if t then record d { entry = entries_with d.entry l e; relation = without_location l d.relation } else d
+
+written_by : (l : ℕ) (e : Option Entry) (d : Known) (t : Bool) → is_location l ≡ t → with_entry l e d ≡ written_if t l e d
+unfolding with_entry
+written_by l e d t here = ap (λ (t : Bool). written_if t l e d) here
+
+room : (n l : ℕ) → n ≡ 1040 → is_location l ≡ true → l < n
+room n l size here = grind (arith, nat_tests)
+
+-- a location's entry and the relation are written
+pub known_written : (s : Table) (l : ℕ) (e : Option Entry) (r : Option Relation) → length s.entries ≡ 1040 → is_location l ≡ true → r ≡ without_location l s.relation
+    → known (record s { entries = slice_set s.entries l e; relation = r }) ≡ with_entry l e (known s)
+unfolding known
+known_written s l e r size here is =
+    ap (λ (q : Option Relation). knowing s.y s.icc q (entries_of (slice_set s.entries l e))) is
+    ∙ (ap (knowing s.y s.icc (without_location l s.relation)) (entries_written s.entries l e (room (length s.entries) l size here))
+    ∙ sym (written_by l e (known s) true here))
+
+pub known_unwritten : (s : Table) (l : ℕ) (e : Option Entry) → is_location l ≡ false → known s ≡ with_entry l e (known s)
+known_unwritten s l e here = sym (written_by l e (known s) false here)
+
+abbrev none : Option Entry
+none = None
+
+blank : (n k : ℕ) → entries_of (replicate n none) k ≡ none
+blank n k = by_less (nat_lt k n) refl
+  where
+    size : length (replicate n none) ≡ n
+    size = length-replicate n none
+
+    by_less : (t : Bool) → nat_lt k n ≡ t → entries_of (replicate n none) k ≡ none
+    by_less true h = get_or-replicate n k none none (grind (arith, nat_tests))
+    by_less false h = get_or_past (replicate n none) k none (grind (arith, nat_tests, size))
+
+-- blank entries know nothing
+pub nothing_in_blanks : (xs : List (Option Entry)) (n : ℕ) → xs ≡ replicate n None → known (record { entries = xs; y = None; icc = false; relation = None }) ≡ nothing_known
+unfolding known
+nothing_in_blanks xs n is = ap (λ ys. knowing None false None (entries_of ys)) is ∙ ap (knowing None false None) (fun_ext (λ k. blank n k))
+
+-- a range in the place of an entry's
+narrowed_entries : (f : Entries) (l : ℕ) (r : Range) → entries_with f l (with_range_of r (f l)) ≡ (λ k. if k == l then with_range_of r (f k) else f k)
+narrowed_entries f l r = fun_ext (λ k. by_test k (k == l) refl)
+  where
+    by_test : (k : ℕ) (t : Bool) → (k == l) ≡ t → (if t then with_range_of r (f l) else f k) ≡ (if t then with_range_of r (f k) else f k)
+    by_test k true h = (let same : l ≡ k = grind (arith, nat_tests) in ap (λ j. with_range_of r (f j)) same)
+    by_test k false h = refl
+
+pub known_narrowed : (s : Table) (l : ℕ) (r : Range) (e : Option Entry) → length s.entries ≡ 1040 → l < 1040 → e ≡ with_range_of r ((known s).entry l)
+    → known (record s { entries = slice_set s.entries l e }) ≡ narrowed_at l r (known s)
+unfolding known narrowed_at
+known_narrowed s l r e size here is =
+    ap (λ (x : Option Entry). knowing s.y s.icc s.relation (entries_of (slice_set s.entries l x))) is
+    ∙ (ap (knowing s.y s.icc s.relation) (entries_written s.entries l (with_range_of r (entries_of s.entries l)) (omega (arith, size, here)))
+    ∙ ap (knowing s.y s.icc s.relation) (narrowed_entries (entries_of s.entries) l r))
+
+-- past the end nothing is known
+pub known_unnarrowed : (s : Table) (l : ℕ) (r : Range) → length s.entries ≡ 1040 → 1040 ≤ l → known s ≡ narrowed_at l r (known s)
+unfolding known narrowed_at
+known_unnarrowed s l r size past = ap (knowing s.y s.icc s.relation) (fun_ext (λ k. by_test k (k == l) refl))
+  where
+    f : Entries
+    f = entries_of s.entries
+
+    by_test : (k : ℕ) (t : Bool) → (k == l) ≡ t → f k ≡ (if t then with_range_of r (f k) else f k)
+    by_test k true h =
+        let blank_there : f k ≡ none = get_or_past s.entries k none (grind (arith, nat_tests, size)) in
+        blank_there ∙ ap (with_range_of r) (sym blank_there)
+    by_test k false h = refl
+
+-- after a SAVE
+pub known_saved : (s : Table) (ys : List (Option Entry)) → ((k : ℕ) → slice_index_or ys k None ≡ (if is_in k then slice_index_or s.entries (k - 16) None else None))
+    → (frame : ℕ) (fields : Three) → known (record { entries = ys; y = None; icc = false; relation = None }) ≡ transferred frame (Save fields) (known s)
+unfolding known saved transferred
+known_saved s ys moved frame fields = ap (knowing None false None) (fun_ext moved)

@@ -1,0 +1,17 @@
+use Rattle.std.proofs.Common.{◌≡◌, length, ap, sym, ◌∙◌, arith}
+use Rattle.sbx_domain.proofs.Tables.{known_narrowed, known_unnarrowed}
+use Rattle.sbx_domain.proofs.state.State.narrow.Goals as goal
+use Rattle.sbx_domain.specs.Known.{Table, known}
+use Rattle.sbx_domain.specs.Refining.{narrowed_at, with_range_of}
+
+pub returns-then-from-lt-LOCATIONS : goal.returns-then-from-lt-LOCATIONS
+returns-then-from-lt-LOCATIONS c =
+    let s : Table = record { entries = c.self.inside.entries.items; y = c.self.inside.y; icc = c.self.inside.icc; relation = c.self.inside.relation } in
+    known_narrowed s c.args.location c.args.range c.with_range-entry.result c.self.invariant (omega (arith, c.if-from-lt-LOCATIONS.true, c.from.ensures))
+    (c.with_range-entry.ensures ∙ ap (with_range_of c.args.range) (c.entry.ensures ∙ ap (λ (t : Table). (known t).entry c.args.location) (sym c.self.view_is)))
+    ∙ ap (λ (t : Table). narrowed_at c.args.location c.args.range (known t)) c.self.view_is
+
+pub returns-else-from-lt-LOCATIONS : goal.returns-else-from-lt-LOCATIONS
+returns-else-from-lt-LOCATIONS c =
+    let size : length c.args.self.now.entries ≡ 1040 = ap (λ (t : Table). length t.entries) (sym c.self.view_is) ∙ c.self.invariant in
+    known_unnarrowed c.args.self.now c.args.location c.args.range size (omega (arith, c.if-from-lt-LOCATIONS.false, c.from.ensures))

@@ -1,0 +1,5 @@
+use Rattle.sbx_domain.proofs.Tables.{nothing_in_blanks}
+use Rattle.sbx_domain.proofs.state.State.new.Goals as goal
+
+pub returns : goal.returns
+returns c = nothing_in_blanks c.in_ok-repeated.field-0.items 1040 c.in_ok-repeated.ensures

@@ -1,0 +1,24 @@
+use Rattle.std.proofs.Common.{◌≡◌, ℕ, List, length, take, drop, ◌++◌, Option, None, false, ap, ◌∙◌, arith, slice_index_or, if◌then◌else◌, ◌-◌}
+use Rattle.std.proofs.Math.Seq.{take-append_seam}
+use Rattle.sbx_domain.proofs.Tables.{known_saved}
+use Rattle.sbx_domain.proofs.state.State.save.Goals as goal
+use Rattle.sbx_domain.specs.declared.entry.Entry.{Entry}
+use Rattle.v8_meaning.specs.declared.operation.Operation.TheVariants.{Save}
+use Rattle.sbx_domain.specs.Known.{Known, Table, known}
+use Rattle.sbx_domain.specs.Transfer.{is_in, transferred}
+
+whole : (n : ℕ) (ws ys : List (Option Entry)) → n ≡ length ws → take n (ws ++ ys) ≡ ws
+whole n ws ys e = ap (λ m. take m (ws ++ ys)) e ∙ take-append_seam ws ys
+
+knows : List (Option Entry) → Known
+knows ws = known (record { entries = ws; y = None; icc = false; relation = None })
+
+pub returns : goal.returns
+unfolding knows
+returns c = λ frame. λ fields. (
+    let s : Table = record { entries = c.self.inside.entries.items; y = c.self.inside.y; icc = c.self.inside.icc; relation = c.self.inside.relation } in
+    let ws : List (Option Entry) = c.save_entries.new.entries in
+    let size : length ws ≡ length c.self.inside.entries.items = c.save_entries.ensures.size ∙ ap length c.as_mut_slice.ensures.value in
+    ap knows (whole c.self.inside.entries.len ws (drop (length ws) c.self.inside.entries.items) (omega (arith, size, c.self.inside.entries.ok.0)))
+    ∙ (known_saved s ws (λ k. c.save_entries.ensures.moved k ∙ ap (λ (xs : List (Option Entry)). if is_in k then slice_index_or xs (k - 16) None else None) c.as_mut_slice.ensures.value) frame fields
+    ∙ ap (λ (t : Table). transferred frame (Save fields) (known t)) c.self.view_is))

@@ -1,0 +1,34 @@
+//! What is known of one word.
+ghost use Rattle.std.specs.Prelude.{◌≡◌};
+ghost use Rattle.sbx_domain.specs.Known.{plain_entry_of};
+ghost use Rattle.sbx_domain.specs.Refining.{with_range_of};
+
+use crate::lin::Lin;
+use sbx_image::Range;
+
+/// A range, and perhaps a form over the numbers that the block's cells start with.
+#[derive(Clone, Copy, Debug)]
+pub struct Entry {
+    pub range: Range,
+    pub form: Option<Lin>,
+}
+
+/// A range without a form.
+pub(crate) fn plain_entry(range: Option<Range>) -> Option<Entry>
+    ensures { result ≡ plain_entry_of range }
+{
+    match range {
+        Some(range) => Some(Entry { range, form: None }),
+        None => None,
+    }
+}
+
+/// A range in the place of an entry's, where there is an entry. Its form stays.
+pub(crate) fn with_range(range: Range, entry: Option<Entry>) -> Option<Entry>
+    ensures { result ≡ with_range_of range entry }
+{
+    match entry {
+        Some(entry) => Some(Entry { range, ..entry }),
+        None => None,
+    }
+}

@@ -1,0 +1,22 @@
+//! What the verifier knows of a state between two words: ranges and linear forms of locations.
+#![tactic(auto)]
+
+mod branching;
+mod entry;
+pub mod laws;
+mod lin;
+mod memory;
+mod moving;
+mod operands;
+mod relation;
+mod room;
+mod state;
+mod words;
+
+pub use entry::Entry;
+pub use lin::Lin;
+pub use relation::{Related, Relation};
+pub use state::{LOCATIONS, State};
+
+#[cfg(test)]
+mod tests;
