@@ -274,7 +274,7 @@ module _ (values : Values) (line : List ℕ) (ts : List Token) where
   unfoldable pub statement_does : Statement → Draft → Draft
   statement_does statements.Nothing d = d
   statement_does (statements.Directive x) d = directive_does x d
-  statement_does (statements.Malformed k) d = malformed k d
+  statement_does (statements.Malformed k name) d = malformed k d
   statement_does statements.Instruction d = instruction_does d
 
   unfoldable pub behind_labels : Draft → Draft

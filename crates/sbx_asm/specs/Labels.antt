@@ -8,6 +8,7 @@ use Rattle.sbx_text.specs.declared.Token.{Token}
 use Rattle.sbx_text.specs.declared.fault.TextFault.{TextFault}
 use Rattle.sbx_text.specs.Tokens.{tokens_of}
 use Rattle.v8_syntax.specs.Words.{bytes_between}
+use Rattle.sbx_directives.specs.declared.directive.Name.{Name}
 use Rattle.sbx_directives.specs.declared.directive.Directive.{Directive}
 use Rattle.sbx_directives.specs.declared.directive.Directive.TheVariants as directives
 use Rattle.sbx_directives.specs.declared.directive.Statement.{Statement}
@@ -81,10 +82,15 @@ name_it number line (directives.Values w n) s = s
 name_it number line (directives.Skip n) s = s
 name_it number line (directives.Align n) s = s
 
+-- so is the name of one whose other operands are malformed
+abbrev pub name_all_the_same : ℕ → List ℕ → Option Name → Labels → Labels
+name_all_the_same number line (Some name) s = add number (text_of line name) s.place.next_word s
+name_all_the_same number line None s = s
+
 unfoldable pub names_of : ℕ → List ℕ → Statement → Labels → Labels
 names_of number line statements.Nothing s = s
 names_of number line (statements.Directive d) s = name_it number line d s
-names_of number line (statements.Malformed k) s = s
+names_of number line (statements.Malformed k name) s = name_all_the_same number line name s
 names_of number line statements.Instruction s = s
 
 -- behind the labels

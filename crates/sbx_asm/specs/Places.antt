@@ -66,5 +66,5 @@ directed (directives.Align n) p = with_data (padding n p.next_byte) p
 unfoldable pub place_after : List ℕ → List Token → Statement → Place → Place
 place_after line ts statements.Nothing p = p
 place_after line ts (statements.Directive d) p = directed d p
-place_after line ts (statements.Malformed k) p = p
+place_after line ts (statements.Malformed k name) p = p
 place_after line ts statements.Instruction p = with_code (4 * statement_length line ts) p

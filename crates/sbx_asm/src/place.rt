@@ -141,7 +141,7 @@ impl Place {
         ensures { result ≡ place_after line.now tokens.now statement self }
     {
         match statement {
-            Statement::Nothing | Statement::Malformed(_) => self,
+            Statement::Nothing | Statement::Malformed(..) => self,
             Statement::Directive(directive) => self.directed(directive),
             Statement::Instruction => self.with_code(4 * length_of(line, tokens) as u128),
         }

@@ -173,7 +173,7 @@ impl Draft {
             Statement::Directive(directive) => {
                 self.directive_does(alloc, table, line, tokens, directive)
             }
-            Statement::Malformed(keyword) => self.malformed(alloc, keyword),
+            Statement::Malformed(keyword, _) => self.malformed(alloc, keyword),
             Statement::Instruction => self.instruction_does(table, line, tokens),
         }
     }

@@ -107,7 +107,7 @@ impl<'a> Survey<'a> {
         }
     }
 
-    /// The name of a function or of a block.
+    /// The name of a function or of a block, whatever its other operands.
     #[tactic(auto, unfolding(crate::specs::Labels::names_of))]
     fn names_of(
         &mut self,
@@ -119,7 +119,11 @@ impl<'a> Survey<'a> {
     {
         match statement {
             Statement::Directive(directive) => self.name_it(number, line, directive),
-            Statement::Nothing | Statement::Malformed(_) | Statement::Instruction => Ok(()),
+            Statement::Malformed(_, name) => match name {
+                Some(name) => self.add(number, text_of(line, name), self.place.next_word),
+                None => Ok(()),
+            },
+            Statement::Nothing | Statement::Instruction => Ok(()),
         }
     }
 }

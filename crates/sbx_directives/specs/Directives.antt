@@ -186,12 +186,22 @@ directive_of line keywords.Align os = alignment_of os
 
 -- ---- a line behind its labels
 
-abbrev pub told : Keyword → Option Directive → Statement
-told k (Some d) = statements.Directive d
-told k None = statements.Malformed k
+abbrev pub first_name : List Operand → Option Name
+first_name [] = None
+first_name (o ∷ os) = plain_name o
+
+-- what a function or a block is called, whatever its other operands
+unfoldable pub called : Keyword → List Operand → Option Name
+called keywords.Function os = first_name os
+called keywords.Block os = first_name os
+called _ os = None
+
+abbrev pub told : Keyword → List Operand → Option Directive → Statement
+told k os (Some d) = statements.Directive d
+told k os None = statements.Malformed k (called k os)
 
 abbrev pub keyed : List ℕ → Option Keyword → List Token → Statement
-keyed line (Some k) rest = told k (directive_of line k (operands_of line rest))
+keyed line (Some k) rest = told k (operands_of line rest) (directive_of line k (operands_of line rest))
 keyed line None rest = statements.Instruction
 
 abbrev pub begun : List ℕ → Kind → Token → List Token → Statement

@@ -83,8 +83,9 @@ pub enum Statement {
     /// No token.
     Nothing,
     Directive(Directive),
-    /// A directive's name, but its operands have another shape, or a number passes its bound.
-    Malformed(Keyword),
+    /// A directive's name, but its operands have another shape, or a number passes its bound. What a `.function` or `.block` is
+    /// called stands beside it, where that can be read: it is a label all the same.
+    Malformed(Keyword, Option<Name>),
     /// Anything else: an instruction, or what is neither.
     Instruction,
 }

@@ -2,9 +2,9 @@
 ghost use Rattle.std.specs.Prelude.{◌≡◌, ◌≤◌, IfSome};
 ghost use Rattle.std.specs.List.{list_any, list_all};
 ghost use Rattle.sbx_directives.specs.Operands.{behind};
-ghost use Rattle.sbx_directives.specs.Directives.{kind_named, names, bit_if, named_services, is_service_name, is_service, services_of, frames_of, is_expression, value_count, function_of, cell_of, term_of, ranged, plainly, numbered, fuel_of, alignment_of, directive_of, told, statement_of};
+ghost use Rattle.sbx_directives.specs.Directives.{kind_named, names, bit_if, named_services, is_service_name, is_service, services_of, frames_of, is_expression, value_count, function_of, cell_of, term_of, ranged, plainly, numbered, fuel_of, alignment_of, directive_of, called, told, statement_of};
 
-use crate::directive::{Directive, Keyword, Statement, Width};
+use crate::directive::{Directive, Keyword, Name, Statement, Width};
 use crate::keyword::keyword_named;
 use crate::number::{coefficient, integer_in, location, natural_in, plain_name, range_of};
 use crate::operand::{Operand, five, four, next_operand, none, one, operands, three, two};
@@ -254,12 +254,29 @@ fn directive_of(line: &[u8], keyword: Keyword, tokens: &[Token]) -> Option<Direc
     }
 }
 
-fn told(keyword: Keyword, directive: Option<Directive>) -> Statement
-    ensures { result ≡ told keyword directive }
+/// What a function or a block is called, whatever its other operands.
+#[tactic(auto, unfolding(crate::specs::Directives::called))]
+fn called(line: &[u8], keyword: Keyword, tokens: &[Token]) -> Option<Name>
+    ensures { result ≡ called keyword (behind line.now tokens.now) }
 {
-    match directive {
+    match keyword {
+        Keyword::Function | Keyword::Block => {
+            let Some((first, _)) = next_operand(line, tokens) else {
+                return None;
+            };
+            plain_name(first)
+        }
+        _ => None,
+    }
+}
+
+/// The directive of a keyword and the operands behind the first token, or what is wrong in its place.
+fn told(line: &[u8], keyword: Keyword, tokens: &[Token]) -> Statement
+    ensures { result ≡ told keyword (behind line.now tokens.now) (directive_of line.now keyword (behind line.now tokens.now)) }
+{
+    match directive_of(line, keyword, tokens) {
         Some(directive) => Statement::Directive(directive),
-        None => Statement::Malformed(keyword),
+        None => Statement::Malformed(keyword, called(line, keyword, tokens)),
     }
 }
 
@@ -275,7 +292,7 @@ pub fn read_statement(line: &[u8], tokens: &[Token]) -> Statement
     let Token { kind, start, stop } = *first;
     match kind {
         Kind::Name => match keyword_named(bytes_between(line, start, stop)) {
-            Some(keyword) => told(keyword, directive_of(line, keyword, operands(tokens))),
+            Some(keyword) => told(line, keyword, operands(tokens)),
             None => Statement::Instruction,
         },
         Kind::Percent | Kind::Number(_) | Kind::Sign => Statement::Instruction,

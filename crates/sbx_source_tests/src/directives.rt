@@ -78,7 +78,7 @@ fn push_statement(text: &mut String, statement: &Statement) -> Result<(), AllocE
     match statement {
         Statement::Nothing => text.push_str("nothing"),
         Statement::Directive(directive) => push_directive(text, directive),
-        Statement::Malformed(_) => text.push_str("malformed"),
+        Statement::Malformed(..) => text.push_str("malformed"),
         Statement::Instruction => text.push_str("instruction"),
     }
 }

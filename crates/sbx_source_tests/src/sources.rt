@@ -295,7 +295,7 @@ fn bare_sources(rt: HostRuntime) -> Result<(), Fail> {
 }
 
 /// Sources behind the line of a function.
-static INSIDE: [(&str, &str); 51] = [
+static INSIDE: [(&str, &str); 55] = [
     (" save %sp,-4096,%sp", "9DE3B000 "),
     (" save %sp,-4104,%sp", "line 2: S3"),
     (" unimp 4194303", "003FFFFF "),
@@ -313,6 +313,10 @@ static INSIDE: [(&str, &str); 51] = [
     (" nop\n.block b\n.block c\n frob", "line 3: A2"),
     (" nop\n.block b\n $\n.block c\n", "line 4: X2"),
     (" nop\n.block b,c\n.block d\n nop", "line 3: A2"),
+    (" ba b\n nop\n.block b,c\n nop", "line 4: A2"),
+    (" ba b\n nop\n.block 5\n nop", "line 2: S4"),
+    (" ba g\n nop\n.function g,leaf,0,0\n nop", "line 4: A2"),
+    (" nop\n.block f,c\n nop", "line 3: A1"),
     ("a: nop\na: nop", "line 3: A1"),
     ("a: nop\n frob\na: nop", "line 3: S1"),
     ("a: nop\na: frob", "line 3: S1"),
