@@ -5,3 +5,4 @@ pub mod Limits
 pub mod Appends
 pub mod Eaches
 pub mod AgainLaws
+pub mod Ordered

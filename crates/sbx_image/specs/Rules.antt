@@ -2,6 +2,7 @@
 -- Each test that fails names its fault, and the first one tells.
 use Rattle.std.specs.Prelude.{ℕ, ◌+◌, ◌-◌, ◌*◌, ◌%◌, ℤ, pos, negsuc, Bool, true, false, not, ◌&&◌, ◌||◌, List, [], ◌∷◌, length, Result, Ok, Err, nat_lt, nat_le, int_lt, ◌==◌}
 use Rattle.std.specs.Int.RustNames.{bit_and}
+use Rattle.v8_map.specs.declared.TheConstants.{CODE_START}
 use Rattle.sbx_image.specs.declared.fault.ImageFault.{ImageFault}
 use Rattle.sbx_image.specs.declared.fault.ImageFault.TheVariants as fault
 use Rattle.sbx_image.specs.declared.order.Next.{Next}
@@ -30,7 +31,7 @@ each item state [] = Ok state
 each item state (x ∷ xs) = item state x >>= λ next. each item next xs
 
 abbrev pub code_start : ℕ
-code_start = 0x00040000
+code_start = CODE_START
 
 abbrev pub between : ℕ → ℕ → ℕ → Bool
 between low high n = nat_le low n && nat_le n high

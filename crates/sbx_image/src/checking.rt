@@ -6,9 +6,10 @@ ghost use Rattle.sbx_image.specs.Rules.{wants, between, each, range_keeps, range
 
 use crate::fault::ImageFault;
 use crate::image::Image;
-use crate::order::{CODE_START, Next, admits, is_coefficient, is_fuel};
+use crate::order::{Next, admits, is_coefficient, is_fuel};
 use crate::parts::{Block, Cell, Function, Parts, Range, Term};
 use crate::services::Services;
+use v8_map::CODE_START;
 
 fn wants(test: bool, bad: ImageFault) -> Result<(), ImageFault>
     ensures { result ≡ wants test bad }

@@ -2,9 +2,6 @@
 ghost use Rattle.std.specs.Prelude.{◌≡◌};
 ghost use Rattle.sbx_image.specs.Rules.{admits, is_coefficient, is_fuel};
 
-/// Where the code begins.
-pub const CODE_START: u32 = 0x0004_0000;
-
 const FUEL: i64 = 1 << 40;
 
 /// Where the next address may lie.

@@ -10,10 +10,11 @@ use crate::heads::{BlockHead, Bounds, Counts, FunctionHead, Header};
 use crate::image::Image;
 use crate::items::Items;
 use crate::numbers::{i32_at, i64_at, u8_in, u16_at, u16_in, u32_at, u32_in, u64_in};
-use crate::order::{CODE_START, Next, admits, is_coefficient, is_fuel};
+use crate::order::{Next, admits, is_coefficient, is_fuel};
 use crate::parts::{Block, Cell, Function, Kind, Parts, Range, Term};
 use crate::services::{Services, services_of};
 use std::alloc::Global;
+use v8_map::CODE_START;
 
 #[tactic(auto, unfolding(crate::specs::Reading::range_at))]
 fn range_of(bytes: &[u8]) -> Result<(Range, &[u8]), ImageFault>

@@ -7,7 +7,6 @@ use Rattle.v8_mmu.specs.Paths.{marked}
 use Rattle.v8_mmu.specs.Permissions.{acc_of}
 use Rattle.v8_mmu.proofs.WalkedIs.{some_of}
 use Rattle.v8_mmu.proofs.RamMore.{marked_high, marked_low}
-pub use Rattle.v8_mmu.proofs.RamMore.{entry_elsewhere}
 use Rattle.v8_layout.specs.Layout.{unmarked, HasEntry}
 
 unmarked_by : (x w : ℕ) → x / 2 ^ 7 ≡ w / 2 ^ 7 → x % 2 ^ 5 ≡ w % 2 ^ 5 → w % 4 ≡ 2 → (x % 4 ≡ 2) × (unmarked x ≡ unmarked w)

@@ -4,7 +4,8 @@ use Rattle.v8_mmu.specs.Permissions.{rights_of, permits, access_type}
 use Rattle.v8_mmu.specs.Walked.{Page}
 use Rattle.v8_mmu.specs.declared.access.Access.{Access}
 use Rattle.v8_mmu.specs.declared.translation.MmuFault.{MmuFault}
-use Rattle.v8_layout.specs.Layout.{Pages}
+use Rattle.v8_map.specs.declared.TheConstants.{PAGE, CODE_START, CODE_PLACE, CODE_TABLE, DATA_START, DATA_PLACE, DATA_TABLE, STACK_LOWEST, STACK_END, STACK_PLACE, STACK_TABLE, TRAP_TABLE, TRAP_TABLE_PLACE, HANDLERS, HANDLERS_PLACE, DEVICE, DEVICE_PLACE, SYSTEM_TABLE}
+use Rattle.v8_layout.specs.Layout.{Pages, region, large_region, stack_region, system_region, user_runs, user_writes, system_runs, system_writes}
 
 -- An address of a mapped page: where it lies in physical memory, its page's ACC, and where the page's entry lies.
 pub record Mapped : Type 0 where
@@ -19,21 +20,48 @@ mapped p c e = record { pa = p; acc = c; place = e }
 abbrev pub within : ℕ → ℕ → ℕ → Bool
 within first end va = nat_le first va && nat_lt va end
 
+-- how a virtual address lies in RAM, in a part that begins at `first` and lies lower there, from `place` on
+abbrev pub lowered : ℕ → ℕ → ℕ → ℕ
+lowered first place va = va - (first - place)
+
+-- the page of an address has the entry of its number, counted from the first page of the table's region
+abbrev pub entry_in : ℕ → ℕ → ℕ → ℕ
+entry_in table region va = table + 4 * ((va - region) / PAGE)
+
+-- what each part maps an address of its own to
+abbrev pub code_page : ℕ → Mapped
+code_page va = mapped (lowered CODE_START CODE_PLACE va) user_runs (entry_in CODE_TABLE CODE_START va)
+
+abbrev pub data_page : ℕ → Mapped
+data_page va = mapped (lowered DATA_START DATA_PLACE va) user_writes (entry_in DATA_TABLE DATA_START va)
+
+abbrev pub stack_page : ℕ → Mapped
+stack_page va = mapped (lowered STACK_LOWEST STACK_PLACE va) user_writes (entry_in STACK_TABLE stack_region va)
+
+abbrev pub trap_table_page : ℕ → Mapped
+trap_table_page va = mapped (lowered TRAP_TABLE TRAP_TABLE_PLACE va) system_runs (entry_in SYSTEM_TABLE system_region TRAP_TABLE)
+
+abbrev pub handlers_page : ℕ → Mapped
+handlers_page va = mapped (lowered HANDLERS HANDLERS_PLACE va) system_runs (entry_in SYSTEM_TABLE system_region HANDLERS)
+
+abbrev pub device_page : ℕ → Mapped
+device_page va = mapped (va - DEVICE + DEVICE_PLACE) system_writes (entry_in SYSTEM_TABLE system_region DEVICE)
+
 -- code, data, stack, trap table, handlers, device; nothing else is mapped
 unfoldable pub page_at : Pages → ℕ → Option Mapped
 page_at g va =
-    if within 0x40000 (0x40000 + 4096 * g.code_count) va then Some (mapped (va - 0x30000) 4 (0x2A00 + 4 * ((va - 0x40000) / 4096))) else
-    (if within 0x80000 (0x80000 + 4096 * g.data_count) va then Some (mapped (va - 0x30000) 1 (0x2B00 + 4 * ((va - 0x80000) / 4096))) else
-    (if within (0x100000 - 4096 * g.stack_count) 0x100000 va then Some (mapped (va - 0x60000) 1 (0x2C00 + 4 * ((va - 0xC0000) / 4096))) else
-    (if within 0xF0000000 0xF0001000 va then Some (mapped (va - 0xF0000000) 6 0x2D00) else
-    (if within 0xF0001000 0xF0002000 va then Some (mapped (va - 0xF0000000) 6 0x2D04) else
-    (if within 0xF0010000 0xF0011000 va then Some (mapped (va - 0xF0010000 + 0x100000000) 7 0x2D40) else None)))))
+    if within CODE_START (CODE_START + PAGE * g.code_count) va then Some (code_page va) else
+    (if within DATA_START (DATA_START + PAGE * g.data_count) va then Some (data_page va) else
+    (if within (STACK_END - PAGE * g.stack_count) STACK_END va then Some (stack_page va) else
+    (if within TRAP_TABLE (TRAP_TABLE + PAGE) va then Some (trap_table_page va) else
+    (if within HANDLERS (HANDLERS + PAGE) va then Some (handlers_page va) else
+    (if within DEVICE (DEVICE + PAGE) va then Some (device_page va) else None)))))
 
 -- The level of the entry 0 that an unmapped address ends at: in a table of pages, in one of 256 KB regions, or in that of 16 MB regions.
 abbrev pub missing_level : ℕ → ℕ
 missing_level va =
-    if within 0x40000 0x100000 va || within 0xF0000000 0xF0040000 va then 3 else
-    (if nat_lt va 0x1000000 || within 0xF0000000 0xF1000000 va then 2 else 1)
+    if within CODE_START (stack_region + region) va || within system_region (system_region + region) va then 3 else
+    (if nat_lt va large_region || within system_region (system_region + large_region) va then 2 else 1)
 
 -- an access to a mapped address that its page's ACC allows or forbids; 3 is told where no user may reach the page
 abbrev pub through : Access → Mapped → Result Page MmuFault

@@ -4,17 +4,18 @@ use Rattle.v8_mmu.specs.Ram.{entry_of}
 use Rattle.v8_mmu.specs.Paths.{marked_ram}
 use Rattle.v8_mmu.specs.Walked.{walked}
 use Rattle.v8_mmu.specs.declared.access.Access.{Access}
+use Rattle.v8_map.specs.declared.TheConstants.{CONTEXT_TABLE, TABLES_END}
 use Rattle.v8_layout.specs.Layout.{Pages, AreFew, HasTables, IsLoaded, unmarked}
 use Rattle.v8_layout.specs.AddressMap.{page_at, translated}
 
 -- each virtual address translates as laid out, or faults
 abbrev pub IsMapped : Pages → List ℕ → Type 0
-IsMapped g ram = (va : ℕ) (a : Access) → va < 2 ^ 32 → walked ram 0x2000 va a ≡ translated g va a
+IsMapped g ram = (va : ℕ) (a : Access) → va < 2 ^ 32 → walked ram CONTEXT_TABLE va a ≡ translated g va a
 
 -- RAM of the same size whose table words are the same but for R and M
 pub record SameTables (old new : List ℕ) : Type 0 where
   pub size : length new ≡ length old
-  pub words : (p : ℕ) → 0x2000 ≤ p → p < 0x2E00 → p % 4 ≡ 0 → IsSomeAnd (entry_of old p) (λ w. IsSomeAnd (entry_of new p) (λ x. unmarked x ≡ unmarked w))
+  pub words : (p : ℕ) → CONTEXT_TABLE ≤ p → p < TABLES_END → p % 4 ≡ 0 → IsSomeAnd (entry_of old p) (λ w. IsSomeAnd (entry_of new p) (λ x. unmarked x ≡ unmarked w))
 
 -- the tables spell the address map
 abbrev pub TablesMap : Type 0

@@ -2,6 +2,7 @@
 use Rattle.std.specs.Prelude.{ℕ, ◌≡◌, ◌+◌, ◌*◌, ◌-◌, ◌/◌, ◌%◌, ◌<◌, ◌≤◌, ◌==◌, nat_lt, nat_le, ◌&&◌, List, length, slice_index, Some, IsSomeAnd, if◌then◌else◌}
 use Rattle.v8_mmu.specs.Ram.{entry_of}
 use Rattle.v8_handlers.specs.Handlers.{trap_word, handler_word}
+use Rattle.v8_map.specs.declared.TheConstants.{PAGE, CODE_START, CODE_PLACE, CODE_TABLE, DATA_START, DATA_PLACE, DATA_TABLE, STACK_LOWEST, STACK_PLACE, STACK_TABLE, TRAP_TABLE, TRAP_TABLE_PLACE, HANDLERS, HANDLERS_PLACE, DEVICE, DEVICE_PLACE, RAM, CONTEXT_TABLE, REGION_TABLE, PROGRAM_TABLE, SYSTEM_REGION_TABLE, SYSTEM_TABLE}
 
 -- how many pages of 4 KB are mapped
 pub record Pages : Type 0 where
@@ -19,34 +20,79 @@ pub record AreFew (g : Pages) : Type 0 where
 abbrev pub unmarked : ℕ → ℕ
 unmarked w = if w % 4 == 2 then w / 128 * 128 + w % 32 else w
 
+-- ---- regions of the virtual addresses, and entries
+
+-- what a table of pages covers, and what a table of such tables does
+abbrev pub region : ℕ
+region = 64 * PAGE
+
+abbrev pub large_region : ℕ
+large_region = 64 * region
+
+-- the regions of the stack and of the system
+abbrev pub stack_region : ℕ
+stack_region = 0x000C0000
+
+abbrev pub system_region : ℕ
+system_region = TRAP_TABLE
+
+-- a table's entry for the table at a place
+abbrev pub leads_to : ℕ → ℕ
+leads_to place = place / 64 * 4 + 1
+
+-- a table's entry for the page at a place, with its ACC
+abbrev pub maps : ℕ → ℕ → ℕ
+maps place acc = place / PAGE * 256 + acc * 4 + 2
+
+-- and that of the page so many pages after
+abbrev pub maps_after : ℕ → ℕ → ℕ → ℕ
+maps_after place acc i = maps place acc + 256 * i
+
+-- ACC: what user and supervisor may execute, or read and write, and what the supervisor alone may read and execute, or read, write and execute
+abbrev pub user_runs : ℕ
+user_runs = 4
+
+abbrev pub user_writes : ℕ
+user_writes = 1
+
+abbrev pub system_runs : ℕ
+system_runs = 6
+
+abbrev pub system_writes : ℕ
+system_writes = 7
+
 -- ---- the tables, by number of entry; an entry 0 maps nothing
 
--- 16 MB each: the lowest for programs, the one from F0000000 on for the system
+-- 16 MB each: the lowest for programs, and the system's
 abbrev pub region_entry : ℕ → ℕ
-region_entry i = if i == 0 then 0x281 else (if i == 0xF0 then 0x291 else 0)
+region_entry i = if i == 0 then leads_to PROGRAM_TABLE else (if i == system_region / large_region then leads_to SYSTEM_REGION_TABLE else 0)
 
--- 256 KB each: from 40000 on code, from 80000 on data, from C0000 on the stack
+-- 256 KB each: code, data and the stack
 abbrev pub program_entry : ℕ → ℕ
-program_entry i = if i == 1 then 0x2A1 else (if i == 2 then 0x2B1 else (if i == 3 then 0x2C1 else 0))
+program_entry i =
+    if i == CODE_START / region then leads_to CODE_TABLE else
+    (if i == DATA_START / region then leads_to DATA_TABLE else
+    (if i == stack_region / region then leads_to STACK_TABLE else 0))
 
 abbrev pub system_region_entry : ℕ → ℕ
-system_region_entry i = if i == 0 then 0x2D1 else 0
+system_region_entry i = if i == 0 then leads_to SYSTEM_TABLE else 0
 
--- code pages lie from 10000 on, and may be executed
 abbrev pub code_entry : Pages → ℕ → ℕ
-code_entry g i = if nat_lt i g.code_count then 0x1012 + 0x100 * i else 0
+code_entry g i = if nat_lt i g.code_count then maps_after CODE_PLACE user_runs i else 0
 
--- data pages lie from 50000 on, and may be read and written
 abbrev pub data_entry : Pages → ℕ → ℕ
-data_entry g i = if nat_lt i g.data_count then 0x5006 + 0x100 * i else 0
+data_entry g i = if nat_lt i g.data_count then maps_after DATA_PLACE user_writes i else 0
 
--- the last pages of the 64 are the stack's; the page of F0000 lies at 90000, and they may be read and written
+-- the last pages of the 64 are the stack's, of which the lowest that it can have is number 48
 abbrev pub stack_entry : Pages → ℕ → ℕ
-stack_entry g i = if nat_le (64 - g.stack_count) i && nat_lt i 64 then 0x9006 + 0x100 * (i - 48) else 0
+stack_entry g i = if nat_le (64 - g.stack_count) i && nat_lt i 64 then maps_after STACK_PLACE user_writes (i - (STACK_LOWEST - stack_region) / PAGE) else 0
 
 -- the trap table, the handlers and the device, for the supervisor alone
 abbrev pub system_entry : ℕ → ℕ
-system_entry i = if i == 0 then 0x1A else (if i == 1 then 0x11A else (if i == 16 then 0x1000001E else 0))
+system_entry i =
+    if i == 0 then maps TRAP_TABLE_PLACE system_runs else
+    (if i == (HANDLERS - system_region) / PAGE then maps HANDLERS_PLACE system_runs else
+    (if i == (DEVICE - system_region) / PAGE then maps DEVICE_PLACE system_writes else 0))
 
 -- ---- in RAM
 
@@ -56,20 +102,20 @@ HasEntry ram place t = IsSomeAnd (entry_of ram place) (λ w. unmarked w ≡ t)
 
 -- RAM of 1 MiB with the tables, R and M aside. Of the 256 contexts only the first maps anything.
 pub record HasTables (g : Pages) (ram : List ℕ) : Type 0 where
-  pub size : length ram ≡ 0x100000
-  pub context : entry_of ram 0x2000 ≡ Some 0x241
-  pub contexts : (i : ℕ) → 0 < i → i < 256 → entry_of ram (0x2000 + 4 * i) ≡ Some 0
-  pub regions : (i : ℕ) → i < 256 → entry_of ram (0x2400 + 4 * i) ≡ Some (region_entry i)
-  pub programs : (i : ℕ) → i < 64 → entry_of ram (0x2800 + 4 * i) ≡ Some (program_entry i)
-  pub systems : (i : ℕ) → i < 64 → entry_of ram (0x2900 + 4 * i) ≡ Some (system_region_entry i)
-  pub code_pages : (i : ℕ) → i < 64 → HasEntry ram (0x2A00 + 4 * i) (code_entry g i)
-  pub data_pages : (i : ℕ) → i < 64 → HasEntry ram (0x2B00 + 4 * i) (data_entry g i)
-  pub stack_pages : (i : ℕ) → i < 64 → HasEntry ram (0x2C00 + 4 * i) (stack_entry g i)
-  pub system_pages : (i : ℕ) → i < 64 → HasEntry ram (0x2D00 + 4 * i) (system_entry i)
+  pub size : length ram ≡ RAM
+  pub context : entry_of ram CONTEXT_TABLE ≡ Some (leads_to REGION_TABLE)
+  pub contexts : (i : ℕ) → 0 < i → i < 256 → entry_of ram (CONTEXT_TABLE + 4 * i) ≡ Some 0
+  pub regions : (i : ℕ) → i < 256 → entry_of ram (REGION_TABLE + 4 * i) ≡ Some (region_entry i)
+  pub programs : (i : ℕ) → i < 64 → entry_of ram (PROGRAM_TABLE + 4 * i) ≡ Some (program_entry i)
+  pub systems : (i : ℕ) → i < 64 → entry_of ram (SYSTEM_REGION_TABLE + 4 * i) ≡ Some (system_region_entry i)
+  pub code_pages : (i : ℕ) → i < 64 → HasEntry ram (CODE_TABLE + 4 * i) (code_entry g i)
+  pub data_pages : (i : ℕ) → i < 64 → HasEntry ram (DATA_TABLE + 4 * i) (data_entry g i)
+  pub stack_pages : (i : ℕ) → i < 64 → HasEntry ram (STACK_TABLE + 4 * i) (stack_entry g i)
+  pub system_pages : (i : ℕ) → i < 64 → HasEntry ram (SYSTEM_TABLE + 4 * i) (system_entry i)
 
 -- and with the trap table, the handlers of n windows and these code words; the rest of the last code page is 0
 pub record IsLoaded (n : ℕ) (g : Pages) (words : List ℕ) (ram : List ℕ) : Type 0 where
   pub tables : HasTables g ram
   pub trap : (k : ℕ) → k < 1024 → entry_of ram (4 * k) ≡ Some (trap_word k)
-  pub handler : (k : ℕ) → k < 1024 → entry_of ram (0x1000 + 4 * k) ≡ Some (handler_word n k)
-  pub code : (i : ℕ) → i < 1024 * g.code_count → entry_of ram (0x10000 + 4 * i) ≡ Some (slice_index words i)
+  pub handler : (k : ℕ) → k < 1024 → entry_of ram (HANDLERS_PLACE + 4 * k) ≡ Some (handler_word n k)
+  pub code : (i : ℕ) → i < 1024 * g.code_count → entry_of ram (CODE_PLACE + 4 * i) ≡ Some (slice_index words i)

@@ -1,6 +1,42 @@
-ghost use Rattle.std.specs.Prelude.{◌≡◌, ℕ, ◌+◌, ◌-◌, ◌*◌, ◌<◌, ◌≤◌, ◌==◌, nat_lt, slice_index, length, if◌then◌else◌};
-ghost use Rattle.v8_layout.specs.Layout.{code_entry, data_entry, program_entry, region_entry, stack_entry, system_entry, system_region_entry};
+ghost use Rattle.std.specs.Prelude.{◌≡◌, ℕ, ◌+◌, ◌-◌, ◌*◌, ◌^◌, ◌<◌, ◌≤◌, ◌==◌, nat_lt, slice_index, length, if◌then◌else◌};
+ghost use Rattle.v8_layout.specs.Layout.{leads_to, maps, code_entry, data_entry, program_entry, region_entry, stack_entry, system_entry, system_region_entry};
 ghost use Rattle.v8_layout.specs.Tables.{table_word};
+
+use v8_map::{
+    CODE_PLACE, CODE_START, CODE_TABLE, DATA_PLACE, DATA_START, DATA_TABLE, DEVICE, DEVICE_PLACE,
+    HANDLERS, HANDLERS_PLACE, PAGE, PROGRAM_TABLE, REGION_TABLE, STACK_LOWEST, STACK_PLACE,
+    STACK_TABLE, SYSTEM_REGION_TABLE, SYSTEM_TABLE, TRAP_TABLE, TRAP_TABLE_PLACE,
+};
+
+/// What a table of pages covers, and what a table of such tables does.
+const REGION: u32 = 64 * PAGE;
+
+const LARGE_REGION: u32 = 64 * REGION;
+
+/// Numbers of entries: of the system in the table of large regions, of each part in that of the programs' regions, of the stack's lowest
+/// page in the stack's table, and of handlers and device in the system's.
+const SYSTEM: u32 = TRAP_TABLE / LARGE_REGION;
+
+const CODE: u32 = CODE_START / REGION;
+
+const DATA: u32 = DATA_START / REGION;
+
+const STACK: u32 = STACK_LOWEST / REGION;
+
+const LOWEST: u32 = STACK_LOWEST % REGION / PAGE;
+
+const HANDLERS_PAGE: u32 = (HANDLERS - TRAP_TABLE) / PAGE;
+
+const DEVICE_PAGE: u32 = (DEVICE - TRAP_TABLE) / PAGE;
+
+/// ACC: what user and supervisor may execute, or read and write, and what the supervisor alone may read and execute, or also write.
+const USER_RUNS: u32 = 4;
+
+const USER_WRITES: u32 = 1;
+
+const SYSTEM_RUNS: u32 = 6;
+
+const SYSTEM_WRITES: u32 = 7;
 
 /// How many pages of 4 KB a board maps: 64 of code and of data and 16 of stack at most.
 #[derive(Clone, Copy, PartialEq, Eq, Debug)]
@@ -13,12 +49,28 @@ pub struct PageCounts {
     pub ghost few_stack: { stack ≤ 16 },
 }
 
+/// The entry for the table at a place.
+fn leads_to(place: u32) -> u32
+    ensures { result ≡ leads_to place }
+{
+    place / 64 * 4 + 1
+}
+
+/// The entry for the page at a place, with its ACC.
+fn maps(place: u64, acc: u32) -> u32
+    requires place { place < 2 ^ 36 }
+    requires acc { acc < 8 }
+    ensures { result ≡ maps place acc }
+{
+    (place / u64::from(PAGE)) as u32 * 256 + acc * 4 + 2
+}
+
 fn region_entry(i: u32) -> u32
     ensures { result ≡ region_entry i }
 {
     match i {
-        0 => 0x281,
-        0xF0 => 0x291,
+        0 => leads_to(PROGRAM_TABLE),
+        SYSTEM => leads_to(SYSTEM_REGION_TABLE),
         _ => 0,
     }
 }
@@ -27,9 +79,9 @@ fn program_entry(i: u32) -> u32
     ensures { result ≡ program_entry i }
 {
     match i {
-        1 => 0x2A1,
-        2 => 0x2B1,
-        3 => 0x2C1,
+        CODE => leads_to(CODE_TABLE),
+        DATA => leads_to(DATA_TABLE),
+        STACK => leads_to(STACK_TABLE),
         _ => 0,
     }
 }
@@ -38,7 +90,7 @@ fn system_region_entry(i: u32) -> u32
     ensures { result ≡ system_region_entry i }
 {
     match i {
-        0 => 0x2D1,
+        0 => leads_to(SYSTEM_TABLE),
         _ => 0,
     }
 }
@@ -48,7 +100,7 @@ fn code_entry(counts: &PageCounts, i: u32) -> u32
     ensures { result ≡ code_entry (record { code_count = counts.now.code; data_count = counts.now.bytes; stack_count = counts.now.stack }) i }
 {
     if i < counts.code {
-        0x1012 + 0x100 * i
+        maps(u64::from(CODE_PLACE), USER_RUNS) + 256 * i
     } else {
         0
     }
@@ -59,7 +111,7 @@ fn data_entry(counts: &PageCounts, i: u32) -> u32
     ensures { result ≡ data_entry (record { code_count = counts.now.code; data_count = counts.now.bytes; stack_count = counts.now.stack }) i }
 {
     if i < counts.bytes {
-        0x5006 + 0x100 * i
+        maps(u64::from(DATA_PLACE), USER_WRITES) + 256 * i
     } else {
         0
     }
@@ -71,7 +123,7 @@ fn stack_entry(counts: &PageCounts, i: u32) -> u32
 {
     let first = 64 - counts.stack;
     if first <= i {
-        0x9006 + 0x100 * (i - 48)
+        maps(u64::from(STACK_PLACE), USER_WRITES) + 256 * (i - LOWEST)
     } else {
         0
     }
@@ -81,9 +133,9 @@ fn system_entry(i: u32) -> u32
     ensures { result ≡ system_entry i }
 {
     match i {
-        0 => 0x1A,
-        1 => 0x11A,
-        16 => 0x1000_001E,
+        0 => maps(u64::from(TRAP_TABLE_PLACE), SYSTEM_RUNS),
+        HANDLERS_PAGE => maps(u64::from(HANDLERS_PLACE), SYSTEM_RUNS),
+        DEVICE_PAGE => maps(DEVICE_PLACE, SYSTEM_WRITES),
         _ => 0,
     }
 }
@@ -95,7 +147,7 @@ fn table_word(counts: &PageCounts, k: u32) -> u32
     ensures { result ≡ table_word (record { code_count = counts.now.code; data_count = counts.now.bytes; stack_count = counts.now.stack }) k }
 {
     if k == 0 {
-        0x241
+        leads_to(REGION_TABLE)
     } else if k < 256 {
         0
     } else if k < 512 {

@@ -4,7 +4,7 @@ use Rattle.std.specs.Int.{w32, to_be_bytes}
 use Rattle.std.proofs.lemmas.List.{get_or_append_left, get_or-append_right, get_or-take, get_or-drop, length-take-le, length-append, get_or-set_same, get_or-set_other, length-set}
 use Rattle.v8_mmu.specs.Ram.{entry_of, with_entry}
 use Rattle.v8_mmu.proofs.RamLemmas.{Within, within_entry, length-with_entry, entry_of-with_entry}
-use Rattle.v8_layout.proofs.Entries.{entry_elsewhere}
+use Rattle.v8_mmu.proofs.RamMore.{entry_elsewhere}
 use Rattle.v8_memory.specs.Placing.{HasWords, HasBytesOf}
 
 -- a word is there
