@@ -53,7 +53,10 @@ impl<const N: usize, P: Port> Model for Board<N, P> {
 impl<const N: usize, P: Port> Board<N, P> {
     ghost use Rattle.v8_board.specs.Seen.{ending_of, turned, with_port};
     ghost use Rattle.v8_board.specs.contracts.board.Board.{the_row};
-    ghost use Rattle.v8_board.specs.Runs.{IsCutShort, IsRun, ending_or_limit, outcome_of};
+    ghost use Rattle.v8_mmu.specs.Ram.{AreBytes};
+    ghost use Rattle.v8_loaded.specs.States.{IsState};
+    ghost use Rattle.v8_board.specs.Contains.{Contains, Keeps, KeepsBy};
+    ghost use Rattle.v8_board.specs.Runs.{GoesOn, IsCutShort, IsRun, ending_or_limit, outcome_of};
     ghost use Rattle.v8_board.specs.Start.{IsNew, IsStart, pages_of};
     ghost use Rattle.v8_board.specs.Marks.{page_use_of};
 
@@ -62,6 +65,7 @@ impl<const N: usize, P: Port> Board<N, P> {
         requires at_least { 4 ≤ N }
         requires at_most { N ≤ 32 }
         ensures made { IfOk result (λ board. IsNew N (P.input port) (P.output port) board.state) }
+        ensures state { IfOk result (λ board. IsState N board.state.mmu board.state.world) }
         ensures failed { IfOk result (λ board. board.failed ≡ P.failed port) }
     {
         match Memory::new(alloc, port) {
@@ -86,7 +90,8 @@ impl<const N: usize, P: Port> Board<N, P> {
         ensures start { IsStart N image.now self.old.state self.new.state }
         ensures loaded { IsLoaded N (pages_of image.now) image.now.words self.new.state.world.memory.ram }
         ensures map { IsMapped (pages_of image.now) self.new.state.world.memory.ram }
-        ensures root { root_of self.new.state.mmu ≡ 0x2000 }
+        ensures state { AreBytes self.old.state.world.memory.ram → IsState N self.new.state.mmu self.new.state.world }
+        ensures contained { Contains N image.now self.new.state }
         ensures failed { self.new.failed ≡ self.old.failed }
     {
         place::<N, P>(self.machine.bus_mut(), image);
@@ -145,6 +150,8 @@ impl<const N: usize, P: Port> Board<N, P> {
     /// that is the law `v8_layout::laws::tables_stay`.
     pub fn step(&mut self) -> Result<Turn, PortFault>
         ensures turn { IfOk result (λ turn. turned N self.old.state ≡ (turn, self.new.state)) }
+        ensures contained { Keeps N self.old.state self.new.state }
+        ensures turn_is { IfOk result (λ turn. KeepsBy N self.old.state turn self.new.state) }
         ensures state { OnErr result (self.new.state ≡ self.old.state) }
         ensures count { self.old.failed ≤ self.new.failed }
         ensures cause { OnErr result (Rose self.old.failed self.new.failed) }
@@ -179,7 +186,9 @@ impl<const N: usize, P: Port> Board<N, P> {
     pub fn run(&mut self, limit: u64) -> Result<Outcome, PortFault>
         ensures run { IfOk result (λ told. IsRun N limit self.old.state self.new.state) }
         ensures told { IfOk result (λ told. told ≡ outcome_of N self.new.state) }
+        ensures contained { Keeps N self.old.state self.new.state }
         ensures stands { OnErr result (IsCutShort N limit self.old.state self.new.state) }
+        ensures goes_on { OnErr result (GoesOn N limit self.old.state self.new.state) }
         ensures count { self.old.failed ≤ self.new.failed }
         ensures cause { OnErr result (Rose self.old.failed self.new.failed) }
     {

@@ -1,0 +1,19 @@
+-- A board that an image was loaded into, whatever the image's words.
+use Rattle.std.specs.Prelude.{ℕ}
+use Rattle.sbx_image.specs.declared.parts.Parts.{Parts}
+use Rattle.v8_core.specs.declared.turn.Turn.{Turn}
+use Rattle.v8_contained.specs.Contained.{IsContained, TurnIs}
+use Rattle.v8_board.specs.Seen.{State}
+use Rattle.v8_board.specs.Start.{pages_of}
+
+-- the invariant of containment, of the board's state now
+abbrev pub Contains : (n : ℕ) → Parts → State n → Type 0
+Contains n p s = IsContained n (pages_of p) p.words s.mmu s.world
+
+-- it is kept, whichever image it is of
+abbrev pub Keeps : (n : ℕ) → State n → State n → Type 0
+Keeps n old new = (p : Parts) → Contains n p old → Contains n p new
+
+-- and this turn led from the one state to the other: what it fetched, reached and did to the device is what containment allows
+abbrev pub KeepsBy : (n : ℕ) → State n → Turn → State n → Type 0
+KeepsBy n old turn new = (p : Parts) → Contains n p old → TurnIs n (pages_of p) p.words old.mmu old.world (turn, new.world)
