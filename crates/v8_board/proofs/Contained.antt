@@ -16,7 +16,7 @@ use Rattle.v8_memory.specs.Board.{Device, IsBlank}
 use Rattle.v8_loaded.specs.States.{IsState}
 use Rattle.v8_contained.specs.Contained.{IsShaped, IsUser, IsContained, TurnIs}
 use Rattle.v8_contained.proofs.Law.{turns_contained}
-use Rattle.v8_board.specs.Contains.{Contains, Keeps, KeepsBy}
+use Rattle.v8_board.specs.Contains.{Contains, Keeps, KeepsBy, StaysContained}
 use Rattle.v8_board.specs.Runs.{Turns, IsRun, IsCutShort, after}
 use Rattle.v8_board.specs.Seen.{State, turned}
 use Rattle.v8_board.specs.Start.{pages_of}
@@ -110,3 +110,6 @@ ok_kept_by n old new (Err f) e = tt
 pub result_kept : {E : Type 0} (n : ℕ) (old new : State n) (r : Result Turn E) → IfOk r (λ t. turned n old ≡ (t, new)) → OnErr r (new ≡ old) → Keeps n old new
 result_kept n old new (Ok t) e same = subst (Keeps n old) (ap (λ (r : Turn × State n). r.1) e) (turn_kept n old)
 result_kept n old new (Err f) e same = subst (Keeps n old) (sym same) (λ p c. c)
+
+pub stays_contained : (n : ℕ) (p : Parts) (s : State n) → Contains n p s → StaysContained n p s
+stays_contained n p s c k = turned_by n (after n k s) p (after_kept n s k p c)

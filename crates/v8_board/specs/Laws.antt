@@ -1,5 +1,7 @@
--- Laws of runs: calls that follow one another make one run of the board.
+-- Laws of runs: calls that follow one another make one run of the board; and of what is loaded.
 use Rattle.std.specs.Prelude.{ℕ, ◌≡◌, ◌+◌, None}
+use Rattle.sbx_image.specs.declared.parts.Parts.{Parts}
+use Rattle.v8_board.specs.Contains.{Contains, StaysContained}
 use Rattle.v8_board.specs.Seen.{State, ending_of, turned}
 use Rattle.v8_board.specs.Runs.{Turns, IsRun, IsCutShort}
 
@@ -22,3 +24,7 @@ CutRunsJoin = (n a b : ℕ) (s m e : State n) → (c : IsCutShort n a s m) → I
 -- two runs from one state with one limit end in one state
 abbrev pub RunsAgree : Type 0
 RunsAgree = (n limit : ℕ) (s e f : State n) → IsRun n limit s e → IsRun n limit s f → e ≡ f
+
+-- where what was loaded is contained, every turn from there on is one that containment allows
+abbrev pub TurnsContained : Type 0
+TurnsContained = (n : ℕ) (p : Parts) (s : State n) → Contains n p s → StaysContained n p s

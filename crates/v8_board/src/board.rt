@@ -85,7 +85,8 @@ impl<const N: usize, P: Port> Board<N, P> {
 
     /// Loads an image and boots: trap table, handlers and page tables, the image's code and data, and 0 in the rest of their last
     /// pages. The device's stop and the end of its input are taken back, and the counts begin at 0. Registers that booting leaves,
-    /// Y and the stack's bytes stay as they were.
+    /// Y and the stack's bytes stay as they were. From then on the image is contained, whatever its words are: the law
+    /// `laws::loading_contains`.
     pub fn load(&mut self, image: &Image)
         ensures start { IsStart N image.now self.old.state self.new.state }
         ensures loaded { IsLoaded N (pages_of image.now) image.now.words self.new.state.world.memory.ram }
@@ -146,8 +147,8 @@ impl<const N: usize, P: Port> Board<N, P> {
     }
 
     /// One turn, which is counted unless the machine has ended. On a fault of the port nothing has changed, page bits included, and
-    /// the port's count of failures rose. Where no word of the page tables changes but in R and M, addresses translate as before:
-    /// that is the law `v8_layout::laws::tables_stay`.
+    /// the port's count of failures rose. A loaded image stays contained, so no word of the page tables changes but in R and M, and
+    /// addresses translate as before: that is the law `v8_layout::laws::tables_stay`.
     pub fn step(&mut self) -> Result<Turn, PortFault>
         ensures turn { IfOk result (λ turn. turned N self.old.state ≡ (turn, self.new.state)) }
         ensures contained { Keeps N self.old.state self.new.state }
@@ -181,8 +182,8 @@ impl<const N: usize, P: Port> Board<N, P> {
     }
 
     /// Runs to an end, but at most so many turns. After an end it tells that end again. On a fault of the port the board stands
-    /// after the last whole turn, with fewer turns made than were allowed and no end met, and may go on from there; the port's
-    /// count of failures rose.
+    /// after the last whole turn, with fewer turns made than were allowed and no end met; with the turns that are left it goes on
+    /// as if nothing was. The port's count of failures rose. A loaded image stays contained.
     pub fn run(&mut self, limit: u64) -> Result<Outcome, PortFault>
         ensures run { IfOk result (λ told. IsRun N limit self.old.state self.new.state) }
         ensures told { IfOk result (λ told. told ≡ outcome_of N self.new.state) }
