@@ -1,7 +1,7 @@
 -- Turns and runs that follow one another.
-use Rattle.std.proofs.Common.{◌≡◌, ℕ, zero, suc, ◌+◌, ◌-◌, ◌<◌, ◌≤◌, ◌⊎◌, inl, inr, None, refl, sym, ap, ◌∙◌, arith}
+use Rattle.std.proofs.Common.{◌≡◌, ℕ, zero, suc, ◌+◌, ◌-◌, ◌<◌, ◌≤◌, ◌⊎◌, inl, inr, None, refl, sym, ap, ◌∙◌, subst, arith}
 use Rattle.v8_board.specs.Seen.{State, ending_of, turned}
-use Rattle.v8_board.specs.Runs.{Turns, IsRun, after}
+use Rattle.v8_board.specs.Runs.{Turns, IsRun, IsCutShort, GoesOn, after}
 use Rattle.v8_board.proofs.Running.{Counted, no_turns, one_turn_more, whole_run}
 
 -- turns after turns, in one count
@@ -56,3 +56,37 @@ runs_join n a b s m e r q =
 
 pub step_runs : (n : ℕ) (s : State n) → ending_of n s.world ≡ None → IsRun n 1 s (turned n s).1
 step_runs n s none = whole_run n 1 (0 + 1) s (turned n s).1 (one_turn_more n 0 s s (turned n s).1 (turned n s).0 (no_turns n s) none refl) refl
+
+pub cut_runs_join : (n a b : ℕ) (s m e : State n) (c : IsCutShort n a s m) → IsRun n b m e → IsRun n (c.turns.count + b) s e
+cut_runs_join n a b s m e c q =
+    let within = q.within in
+    run_of n (c.turns.count + b) (q.turns.count + c.turns.count) s e (joined n s m e c.turns q.turns) (omega arith)
+    (λ none. let all = q.whole none in omega arith)
+
+pub goes_on : (n limit : ℕ) (s m : State n) → IsCutShort n limit s m → GoesOn n limit s m
+goes_on n limit s m c =
+    let less = c.within in (
+      limit - c.turns.count,
+      omega arith,
+      λ e q.
+          let sum : c.turns.count + (limit - c.turns.count) ≡ limit = omega arith in
+          subst (λ k. IsRun n k s e) sum (cut_runs_join n limit (limit - c.turns.count) s m e c q),
+    )
+
+-- no run stops before another one that has its limit does
+not_sooner : (n limit : ℕ) (s e f : State n) (r : IsRun n limit s e) (q : IsRun n limit s f) → r.turns.count < q.turns.count → ⊥
+not_sooner n limit s e f r q less =
+    let all : r.turns.count ≡ limit = r.whole (ap (λ (x : State n). ending_of n x.world) r.turns.is ∙ q.turns.running r.turns.count less) in
+    let within = q.within in
+    omega arith
+
+pub runs_agree : (n limit : ℕ) (s e f : State n) → IsRun n limit s e → IsRun n limit s f → e ≡ f
+runs_agree n limit s e f r q =
+    let split : (r.turns.count < q.turns.count) ⊎ ((q.turns.count < r.turns.count) ⊎ (r.turns.count ≡ q.turns.count)) = search arith in
+    elim split [
+      | inl sooner ↦ absurd (not_sooner n limit s e f r q sooner)
+      | inr rest ↦ elim rest [
+        | inl later ↦ absurd (not_sooner n limit s f e q r later)
+        | inr same ↦ r.turns.is ∙ ap (λ k. after n k s) same ∙ sym q.turns.is
+      ]
+    ]

@@ -1,12 +1,9 @@
 -- RAM with everything placed in it.
-use Rattle.std.proofs.Common.{◌≡◌, ℕ, ◌+◌, ◌*◌, ◌/◌, ◌%◌, ◌<◌, ◌≤◌, inl, inr, Bool, true, false, cond, List, length, take, drop, slice_index, Option, Some, None, refl, sym, ap, ◌∙◌, arith}
-use Rattle.std.specs.Prelude.{◌==◌, ◌&&◌, nat_le, if◌then◌else◌}
-use Rattle.std.specs.Int.{w32, from_be_bytes}
+use Rattle.std.proofs.Common.{◌≡◌, ℕ, ◌+◌, ◌*◌, ◌/◌, ◌<◌, ◌≤◌, ◌⊎◌, inl, inr, Bool, true, false, cond, List, length, slice_index, Some, refl, sym, ap, ◌∙◌, subst, arith}
+use Rattle.std.specs.Prelude.{nat_le}
 use Rattle.std.proofs.lemmas.Bool.Decides.{nat_tests}
-use Rattle.std.proofs.lemmas.List.{get_or-take, get_or-drop, length-take, length-drop}
-use Rattle.std.proofs.lemmas.Grind.{same_number_lists}
 use Rattle.sbx_image.specs.declared.parts.Parts.{Parts}
-use Rattle.v8_mmu.specs.Ram.{entry_of}
+use Rattle.v8_mmu.specs.Ram.{AreBytes, entry_of}
 use Rattle.v8_handlers.specs.Handlers.{trap_word, handler_word}
 use Rattle.v8_layout.specs.Layout.{AreFew, HasTables, IsLoaded}
 use Rattle.v8_layout.specs.Laws.{IsMapped}
@@ -14,35 +11,28 @@ use Rattle.v8_layout.specs.Tables.{table_word}
 use Rattle.v8_layout.proofs.Map.{tables_map}
 use Rattle.v8_layout.proofs.Words.{words_make_tables}
 use Rattle.v8_memory.specs.Placing.{HasWords, HasBytesOf}
+use Rattle.v8_contained.proofs.Stays.{word_kept}
 use Rattle.v8_board.specs.Start.{IsPlaced, at_most, pages_of}
 
--- ---- words that are the same by their bytes
-
-four_same : (old new : List ℕ) (p : ℕ) → length new ≡ length old → ((j : ℕ) → p ≤ j → j < p + 4 → slice_index new j ≡ slice_index old j) → take 4 (drop p new) ≡ take 4 (drop p old)
-four_same old new p size same =
-    same_number_lists (take 4 (drop p new)) (take 4 (drop p old))
-    (omega (arith, length-take 4 (drop p new), length-take 4 (drop p old), length-drop p new, length-drop p old))
-    (λ k less.
-    let few : k < 4 = omega (arith, length-take 4 (drop p new)) in
-    get_or-take 4 (drop p new) k 0 few ∙ get_or-drop p new k 0 ∙ same (p + k) (omega arith) (omega arith)
-    ∙ sym (get_or-drop p old k 0) ∙ sym (get_or-take 4 (drop p old) k 0 few))
-
-word_by : List ℕ → ℕ → ℕ → Option ℕ
-word_by bytes len p = if p % 4 == 0 && nat_le (p + 4) len then Some (from_be_bytes w32 bytes) else None
-
-entry_by : (ram : List ℕ) (p : ℕ) → entry_of ram p ≡ word_by (take 4 (drop p ram)) (length ram) p
-unfolding entry_of word_by
-entry_by ram p = refl
-
-pub word_kept : (old new : List ℕ) (p : ℕ) → length new ≡ length old → ((j : ℕ) → p ≤ j → j < p + 4 → slice_index new j ≡ slice_index old j) → entry_of new p ≡ entry_of old p
-word_kept old new p size same =
-    entry_by new p ∙ ap (λ b. word_by b (length new) p) (four_same old new p size same) ∙ ap (λ l. word_by (take 4 (drop p old)) l p) size ∙ sym (entry_by old p)
+-- ---- what is below the words or bytes that were placed stays
 
 below_words : (at c p : ℕ) (ws old new : List ℕ) → HasWords at ws c old new → p + 4 ≤ at → entry_of new p ≡ entry_of old p
 below_words at c p ws old new h under = word_kept old new p h.size (λ j low high. h.others j (inl (omega arith)))
 
 below_bytes : (at c p : ℕ) (bs old new : List ℕ) → HasBytesOf at bs c old new → p + 4 ≤ at → entry_of new p ≡ entry_of old p
 below_bytes at c p bs old new h under = word_kept old new p h.size (λ j low high. h.others j (inl (omega arith)))
+
+-- ---- what was bytes is bytes
+
+words_fit : (at c : ℕ) (ws old new : List ℕ) → HasWords at ws c old new → AreBytes old → AreBytes new
+words_fit at c ws old new h bytes p =
+    let split : ((p < at) ⊎ (at + 4 * c ≤ p)) ⊎ ((at ≤ p) × (p < at + 4 * c)) = search arith in
+    elim split [ inl apart ↦ subst (λ b. b < 256) (sym (h.others p apart)) (bytes p) | inr inside ↦ h.fit p inside.0 inside.1 ]
+
+bytes_fit : (at c : ℕ) (bs old new : List ℕ) → HasBytesOf at bs c old new → AreBytes old → AreBytes new
+bytes_fit at c bs old new h bytes p =
+    let split : ((p < at) ⊎ (at + c ≤ p)) ⊎ ((at ≤ p) × (p < at + c)) = search arith in
+    elim split [ inl apart ↦ subst (λ b. b < 256) (sym (h.others p apart)) (bytes p) | inr inside ↦ h.fit p inside.0 inside.1 ]
 
 -- ---- the pages of an image
 
@@ -87,6 +77,9 @@ placed n p cc dc t h w m0 m1 m2 m3 m4 m5 codes bytes size trap handler tables a 
       code = λ i less. below_bytes 0x50000 (4096 * dc) (0x10000 + 4 * i) p.bytes m4 m5 e (omega arith) ∙ d.words_are i (omega arith);
       bytes = λ i less. e.bytes_are i (omega arith);
       stack = λ i high. e.others i (inr (omega arith)) ∙ d.others i (inr (omega arith)) ∙ c.others i (inr (omega arith)) ∙ b.others i (inr (omega arith)) ∙ a.others i (inr (omega arith));
+      fit = λ start.
+          bytes_fit 0x50000 (4096 * dc) p.bytes m4 m5 e (words_fit 0x10000 (1024 * cc) p.words m3 m4 d
+          (words_fit 0x2000 896 w m2 m3 c (words_fit 0x1000 1024 h m1 m2 b (words_fit 0 1024 t m0 m1 a start))));
     }
 
 -- ---- what was placed is loaded

@@ -4,3 +4,4 @@ pub mod Runs
 pub mod Start
 pub mod Marks
 pub mod Laws
+pub mod Contains

@@ -28,6 +28,10 @@ pub record IsCutShort (n limit : ℕ) (old new : State n) : Type 0 where
   pub within : turns.count < limit
   pub going : ending_of n new.world ≡ None
 
+-- a run that was cut short may go on: with as many turns as are left of its limit it is the run that it would have been
+abbrev pub GoesOn : (n : ℕ) → ℕ → State n → State n → Type 0
+GoesOn n limit old new = (left : ℕ) × (left ≤ limit) × ((end : State n) → IsRun n left new end → IsRun n limit old end)
+
 abbrev pub ending_or_limit : Option Ending → Ending
 ending_or_limit (Some e) = e
 ending_or_limit None = endings.Limit

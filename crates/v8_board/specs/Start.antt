@@ -1,7 +1,7 @@
 -- What a board is when it is made, and when an image has been loaded.
 use Rattle.std.specs.Prelude.{ℕ, ◌≡◌, ◌+◌, ◌*◌, ◌/◌, ◌<◌, ◌≤◌, nat_le, false, List, length, slice_index, Some, None, if◌then◌else◌}
 use Rattle.sbx_image.specs.declared.parts.Parts.{Parts}
-use Rattle.v8_mmu.specs.Ram.{entry_of}
+use Rattle.v8_mmu.specs.Ram.{AreBytes, entry_of}
 use Rattle.v8_mmu.specs.Walked.{root_of}
 use Rattle.v8_state.specs.Registers.{booted, cleared, started_with}
 use Rattle.v8_handlers.specs.Handlers.{trap_word, handler_word}
@@ -47,6 +47,7 @@ pub record IsPlaced (n : ℕ) (p : Parts) (old new : List ℕ) : Type 0 where
   pub code : (i : ℕ) → i < 1024 * (pages_of p).code_count → entry_of new (0x10000 + 4 * i) ≡ Some (slice_index p.words i)
   pub bytes : (i : ℕ) → i < 4096 * (pages_of p).data_count → slice_index new (0x50000 + i) ≡ slice_index p.bytes i
   pub stack : (i : ℕ) → 0x90000 ≤ i → slice_index new i ≡ slice_index old i
+  pub fit : AreBytes old → AreBytes new
 
 -- The state in which an image starts. Registers but those that booting sets, and Y, are as before.
 pub record IsStart (n : ℕ) (p : Parts) (old new : State n) : Type 0 where
@@ -54,4 +55,5 @@ pub record IsStart (n : ℕ) (p : Parts) (old new : State n) : Type 0 where
   pub ram : IsPlaced n p old.world.memory.ram new.world.memory.ram
   pub device : new.world.memory.device ≡ record old.world.memory.device { ended = false; stopped = None }
   pub mmu : new.mmu ≡ old.mmu
+  pub root : root_of new.mmu ≡ 0x2000
   pub counts : new.counts ≡ no_counts

@@ -53,7 +53,10 @@ impl<const N: usize, P: Port> Model for Board<N, P> {
 impl<const N: usize, P: Port> Board<N, P> {
     ghost use Rattle.v8_board.specs.Seen.{ending_of, turned, with_port};
     ghost use Rattle.v8_board.specs.contracts.board.Board.{the_row};
-    ghost use Rattle.v8_board.specs.Runs.{IsCutShort, IsRun, ending_or_limit, outcome_of};
+    ghost use Rattle.v8_mmu.specs.Ram.{AreBytes};
+    ghost use Rattle.v8_loaded.specs.States.{IsState};
+    ghost use Rattle.v8_board.specs.Contains.{Contains, Keeps, KeepsBy};
+    ghost use Rattle.v8_board.specs.Runs.{GoesOn, IsCutShort, IsRun, ending_or_limit, outcome_of};
     ghost use Rattle.v8_board.specs.Start.{IsNew, IsStart, pages_of};
     ghost use Rattle.v8_board.specs.Marks.{page_use_of};
 
@@ -62,6 +65,7 @@ impl<const N: usize, P: Port> Board<N, P> {
         requires at_least { 4 ≤ N }
         requires at_most { N ≤ 32 }
         ensures made { IfOk result (λ board. IsNew N (P.input port) (P.output port) board.state) }
+        ensures state { IfOk result (λ board. IsState N board.state.mmu board.state.world) }
         ensures failed { IfOk result (λ board. board.failed ≡ P.failed port) }
     {
         match Memory::new(alloc, port) {
@@ -81,12 +85,14 @@ impl<const N: usize, P: Port> Board<N, P> {
 
     /// Loads an image and boots: trap table, handlers and page tables, the image's code and data, and 0 in the rest of their last
     /// pages. The device's stop and the end of its input are taken back, and the counts begin at 0. Registers that booting leaves,
-    /// Y and the stack's bytes stay as they were.
+    /// Y and the stack's bytes stay as they were. From then on the image is contained, whatever its words are: the law
+    /// `laws::loading_contains`.
     pub fn load(&mut self, image: &Image)
         ensures start { IsStart N image.now self.old.state self.new.state }
         ensures loaded { IsLoaded N (pages_of image.now) image.now.words self.new.state.world.memory.ram }
         ensures map { IsMapped (pages_of image.now) self.new.state.world.memory.ram }
-        ensures root { root_of self.new.state.mmu ≡ 0x2000 }
+        ensures state { AreBytes self.old.state.world.memory.ram → IsState N self.new.state.mmu self.new.state.world }
+        ensures contained { Contains N image.now self.new.state }
         ensures failed { self.new.failed ≡ self.old.failed }
     {
         place::<N, P>(self.machine.bus_mut(), image);
@@ -141,10 +147,12 @@ impl<const N: usize, P: Port> Board<N, P> {
     }
 
     /// One turn, which is counted unless the machine has ended. On a fault of the port nothing has changed, page bits included, and
-    /// the port's count of failures rose. Where no word of the page tables changes but in R and M, addresses translate as before:
-    /// that is the law `v8_layout::laws::tables_stay`.
+    /// the port's count of failures rose. A loaded image stays contained, so no word of the page tables changes but in R and M, and
+    /// addresses translate as before: that is the law `v8_layout::laws::tables_stay`.
     pub fn step(&mut self) -> Result<Turn, PortFault>
         ensures turn { IfOk result (λ turn. turned N self.old.state ≡ (turn, self.new.state)) }
+        ensures contained { Keeps N self.old.state self.new.state }
+        ensures turn_is { IfOk result (λ turn. KeepsBy N self.old.state turn self.new.state) }
         ensures state { OnErr result (self.new.state ≡ self.old.state) }
         ensures count { self.old.failed ≤ self.new.failed }
         ensures cause { OnErr result (Rose self.old.failed self.new.failed) }
@@ -174,12 +182,14 @@ impl<const N: usize, P: Port> Board<N, P> {
     }
 
     /// Runs to an end, but at most so many turns. After an end it tells that end again. On a fault of the port the board stands
-    /// after the last whole turn, with fewer turns made than were allowed and no end met, and may go on from there; the port's
-    /// count of failures rose.
+    /// after the last whole turn, with fewer turns made than were allowed and no end met; with the turns that are left it goes on
+    /// as if nothing was. The port's count of failures rose. A loaded image stays contained.
     pub fn run(&mut self, limit: u64) -> Result<Outcome, PortFault>
         ensures run { IfOk result (λ told. IsRun N limit self.old.state self.new.state) }
         ensures told { IfOk result (λ told. told ≡ outcome_of N self.new.state) }
+        ensures contained { Keeps N self.old.state self.new.state }
         ensures stands { OnErr result (IsCutShort N limit self.old.state self.new.state) }
+        ensures goes_on { OnErr result (GoesOn N limit self.old.state self.new.state) }
         ensures count { self.old.failed ≤ self.new.failed }
         ensures cause { OnErr result (Rose self.old.failed self.new.failed) }
     {

@@ -1,9 +1,18 @@
 //! What holds of every two runs, whatever the board.
-ghost use Rattle.v8_board.specs.Laws.{RunsJoin, StepRuns, TurnsJoin};
+ghost use Rattle.v8_board.specs.Laws.{CutRunsJoin, RunsAgree, RunsJoin, StepRuns, TurnsContained, TurnsJoin};
 
-/// Calls that follow one another are one run of the board: turns and runs join, and a step is a run of at most one turn.
+/// Calls that follow one another are one run of the board: turns and runs join, also where the port cut the first run short, and a
+/// step is a run of at most one turn. A run's end is determined by where it begins and by its limit.
 pub fn runs_join()
     ensures turns { TurnsJoin }
     ensures runs { RunsJoin }
+    ensures cut { CutRunsJoin }
+    ensures agree { RunsAgree }
     ensures step { StepRuns }
+{}
+
+/// Whatever image was loaded, each turn from there on keeps code, trap table, handlers and page tables, R and M aside; user code
+/// reaches its own pages alone; and the device acts by the vectors alone: by a service, or by the stop at another trap.
+pub fn loading_contains()
+    ensures { TurnsContained }
 {}

@@ -1,3 +1,5 @@
+ghost use Rattle.std.specs.Prelude.{ℕ, ◌+◌, ◌*◌, ◌≤◌};
+
 use crate::images::raw_image;
 use crate::ports::Probe;
 use std::alloc::{AllocError, Global};
@@ -85,14 +87,26 @@ fn unmarked(board: &Tested, place: u64) -> Option<u32> {
     board.entry(place).map(|word| word | marks)
 }
 
-/// Whether two boards have the same trap table, handlers, tables, code and data, but for R and M.
-pub(crate) fn are_alike_below_the_stack(one: &Tested, other: &Tested) -> bool {
-    for k in 0..0x2_4000u64 {
-        if unmarked(one, 4 * k) != unmarked(other, 4 * k) {
+/// Whether two boards have the same words, so many from a place on, but for R and M.
+fn are_alike(one: &Tested, other: &Tested, place: u64, words: u64) -> bool
+    requires { place + 4 * words ≤ 0x100000 }
+{
+    for k in 0..words {
+        if unmarked(one, place + 4 * k) != unmarked(other, place + 4 * k) {
             return false;
         }
     }
     true
+}
+
+/// Whether two boards have the same trap table, handlers, tables, code and data, but for R and M.
+pub(crate) fn are_alike_below_the_stack(one: &Tested, other: &Tested) -> bool {
+    are_alike(one, other, 0, 0x2_4000)
+}
+
+/// Whether two boards have the same trap table, handlers and tables, and the same first page of code, but for R and M.
+pub(crate) fn are_loaded_alike(one: &Tested, other: &Tested) -> bool {
+    are_alike(one, other, 0, 0xB80) && are_alike(one, other, 0x1_0000, 1024)
 }
 
 /// Whether two boards have these words at a place.

@@ -14,6 +14,8 @@ mod raw_runs;
 #[cfg(test)]
 mod runs;
 #[cfg(test)]
+mod strangers;
+#[cfg(test)]
 mod traces;
 #[cfg(test)]
 mod turns;

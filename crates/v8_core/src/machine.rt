@@ -1,7 +1,7 @@
 ghost use Rattle.std.specs.Prelude.{◌≡◌, ℕ, ◌+◌, ◌*◌, ◌/◌, ◌%◌, ◌^◌, ◌<◌, ◌≤◌, ◌↔◌, IsTrue, IfOk, OnErr, if◌then◌else◌};
 ghost use Rattle.std.specs.Borrow.{sem};
 ghost use Rattle.v8_mmu.specs.Answers.{Rose};
-ghost use Rattle.v8_windows.specs.Windows.{reg_of, with_reg};
+ghost use Rattle.v8_windows.specs.Windows.{IsFile, reg_of, with_reg};
 ghost use Rattle.v8_state.specs.Registers.{booted, cleared, psr_of, psr_window, started_with, tbr_of, trap_base, with_psr, with_wim};
 ghost use Rattle.v8_core.specs.Accesses.{world};
 ghost use Rattle.v8_core.specs.Steps.{next};
@@ -28,6 +28,7 @@ impl<const N: usize, B: Bus> Machine<N, B> {
         requires at_least { 4 ≤ N }
         requires at_most { N ≤ 32 }
         ensures cpu { result.cpu ≡ booted N (record { regs = cleared N; control = started_with 0 }) }
+        ensures file { IsFile N result.cpu.regs }
         ensures mmu { result.mmu ≡ mmu }
         ensures bus { result.bus ≡ bus }
     {
@@ -42,6 +43,7 @@ impl<const N: usize, B: Bus> Machine<N, B> {
     /// fault status 0, no annulled instruction, no error mode. Other registers and Y stay, and so does the bus.
     pub fn boot(&mut self)
         ensures cpu { self.new.cpu ≡ booted N self.old.cpu }
+        ensures file { IsFile N self.new.cpu.regs }
         ensures mmu { self.new.mmu ≡ self.old.mmu }
         ensures bus { self.new.bus ≡ self.old.bus }
     {

@@ -1,5 +1,6 @@
 ghost use Rattle.std.specs.Prelude.{◌≡◌, ℕ, ◌+◌, ◌*◌, ◌/◌, ◌%◌, ◌^◌, ◌<◌, ◌≤◌, ◌↔◌, IsTrue, if◌then◌else◌, None, false};
 ghost use Rattle.v8_state.specs.Registers.{booted, cleared, flag_at, psr_codes, psr_modes, psr_of, psr_window, started_with, tbr_of, trap_base, with_psr, with_wim};
+ghost use Rattle.v8_windows.specs.Windows.{IsFile};
 
 use crate::state::{Control, Cpu};
 use v8_windows::RegFile;
@@ -92,7 +93,8 @@ impl<const N: usize> Cpu<N> {
     pub fn new() -> Self
         requires at_least { 4 ≤ N }
         requires at_most { N ≤ 32 }
-        ensures { result ≡ booted N (record { regs = cleared N; control = started_with 0 }) }
+        ensures value { result ≡ booted N (record { regs = cleared N; control = started_with 0 }) }
+        ensures file { IsFile N result.regs }
     {
         let mut cpu = Cpu {
             regs: RegFile::new(),
@@ -105,7 +107,8 @@ impl<const N: usize> Cpu<N> {
     /// Starts a program: window 0, user mode, traps enabled, a stack pointer. Other registers and Y stay.
     #[tactic(auto, using(crate::proofs::Masks::second_window), unfolding(crate::specs::Registers::booted))]
     pub fn boot(&mut self)
-        ensures { self.new ≡ booted N self.old }
+        ensures value { self.new ≡ booted N self.old }
+        ensures file { IsFile N self.new.regs }
     {
         // There are at least four windows, so that there is a window 0.
         let _ = self.regs.cwp();
@@ -113,6 +116,8 @@ impl<const N: usize> Cpu<N> {
         self.regs.set_wim(2);
         self.regs.set(Reg::SP, 0x000F_FFC0);
         self.control = Control::start(self.control.y);
+        // What is read shows that the registers are a register file.
+        let _ = self.regs.cwp();
     }
 
     /// PSR as a word.

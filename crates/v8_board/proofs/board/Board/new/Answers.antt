@@ -1,4 +1,6 @@
-use Rattle.std.proofs.Common.{rules, arith}
+use Rattle.std.proofs.Common.{◌≡◌, length, refl, rules, arith}
+use Rattle.v8_mmu.specs.Ram.{AreBytes}
+use Rattle.v8_board.proofs.Contained.{blank_bytes, boots_state}
 use Rattle.std.proofs.lemmas.Grind.{common_steps}
 use Rattle.v8_board.proofs.board.Board.new.Goals as goal
 
@@ -7,3 +9,11 @@ invariant_of-result g c = search rules
 
 pub returns-in-Ok-clause-made : goal.returns-in-Ok-clause-made
 returns-in-Ok-clause-made g c = grind (arith, common_steps)
+
+pub returns-in-Ok-clause-state : goal.returns-in-Ok-clause-state
+returns-in-Ok-clause-state g c =
+    let blank = c.in-Ok.ensures.ram in
+    let size : length c.new-in-Ok.result.bus.ram ≡ 0x100000 = rw c.new-in-Ok.ensures.bus blank.size in
+    let bytes : AreBytes c.new-in-Ok.result.bus.ram = rw c.new-in-Ok.ensures.bus (blank_bytes c.in-Ok.memory.ram blank) in
+    boots_state g.row.N _ c.new-in-Ok.result.cpu c.new-in-Ok.result.bus.ram c.new-in-Ok.result.mmu _ c.new-in-Ok.ensures.cpu c.new-in-Ok.ensures.file
+    size bytes (rw c.new-in-Ok.ensures.mmu refl)

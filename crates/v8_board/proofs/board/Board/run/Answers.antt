@@ -1,5 +1,7 @@
 use Rattle.std.proofs.Common.{sym, ◌∙◌, arith}
 use Rattle.v8_board.proofs.Running.{no_turns, one_turn_more, ended_run, whole_run, cut_short}
+use Rattle.v8_board.proofs.Joined.{goes_on}
+use Rattle.v8_board.proofs.Contained.{run_kept, cut_kept}
 use Rattle.v8_board.proofs.board.Board.run.Goals as goal
 
 pub loop-done-init : goal.loop-done-init
@@ -22,3 +24,24 @@ pub returns-in-Err-clause-stands : goal.returns-in-Err-clause-stands
 returns-in-Err-clause-stands g c =
     let stands = cut_short g.row.N c.args.limit c.loop-done.done c.args.self.now.state c.loop-done.self.state c.loop-done.invariant.0 (omega arith) (sym c.ending.ensures ∙ c.in-None.is) in
     rw c.in-Err.ensures.state stands
+
+pub returns-in_default-clause-contained : goal.returns-in_default-clause-contained
+returns-in_default-clause-contained g c =
+    run_kept g.row.N c.args.limit c.args.self.now.state c.loop-done.self.state
+    (ended_run g.row.N c.args.limit c.loop-done.done c.args.self.now.state c.loop-done.self.state c.loop-done.invariant.0 (omega arith) (λ none. c.in_default.not-None (c.ending.ensures ∙ none)))
+
+pub returns-clause-contained : goal.returns-clause-contained
+returns-clause-contained g c =
+    run_kept g.row.N c.args.limit c.args.self.now.state c.loop-done.self.state (whole_run g.row.N c.args.limit c.loop-done.done c.args.self.now.state c.loop-done.self.state c.loop-done.invariant.0 (omega arith))
+
+pub returns-in-Err-clause-contained : goal.returns-in-Err-clause-contained
+returns-in-Err-clause-contained g c =
+    let stands = cut_short g.row.N c.args.limit c.loop-done.done c.args.self.now.state c.loop-done.self.state c.loop-done.invariant.0 (omega arith) (sym c.ending.ensures ∙ c.in-None.is) in
+    let kept = cut_kept g.row.N c.args.limit c.args.self.now.state c.loop-done.self.state stands in
+    rw c.in-Err.ensures.state kept
+
+pub returns-in-Err-clause-goes_on : goal.returns-in-Err-clause-goes_on
+returns-in-Err-clause-goes_on g c =
+    let stands = cut_short g.row.N c.args.limit c.loop-done.done c.args.self.now.state c.loop-done.self.state c.loop-done.invariant.0 (omega arith) (sym c.ending.ensures ∙ c.in-None.is) in
+    let rest = goes_on g.row.N c.args.limit c.args.self.now.state c.loop-done.self.state stands in
+    rw c.in-Err.ensures.state rest

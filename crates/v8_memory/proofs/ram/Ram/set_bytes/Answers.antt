@@ -9,6 +9,6 @@ pub loop-k-preserved : goal.loop-k-preserved
 loop-k-preserved c =
     let l = c.loop-k in
     record {
-      placed = byte_more c.args.at c.args.bytes.now l.k c.byte_or_zero.result _ _ _ l.invariant.placed (omega arith) c.byte_or_zero.ensures c.place_byte.ensures.value;
+      placed = byte_more c.args.at c.args.bytes.now l.k c.byte_or_zero.result _ _ _ l.invariant.placed (omega arith) (omega arith) c.byte_or_zero.ensures c.place_byte.ensures.value;
       size = c.place_byte.ensures.size;
     }

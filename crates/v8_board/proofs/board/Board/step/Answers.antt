@@ -1,0 +1,14 @@
+use Rattle.v8_board.proofs.Contained.{ok_kept_by, result_kept}
+use Rattle.v8_board.proofs.board.Board.step.Goals as goal
+
+pub returns-in-None-clause-contained : goal.returns-in-None-clause-contained
+returns-in-None-clause-contained g c = result_kept g.row.N c.args.self.now.state c.turn.new.self.state c.turn.result c.turn.ensures.turn c.turn.ensures.state
+
+pub returns-in-Some-clause-contained : goal.returns-in-Some-clause-contained
+returns-in-Some-clause-contained g c = result_kept g.row.N c.args.self.now.state c.repeat.new.self.state c.repeat.result c.repeat.ensures.turn c.repeat.ensures.state
+
+pub returns-in-None-clause-turn_is : goal.returns-in-None-clause-turn_is
+returns-in-None-clause-turn_is g c = ok_kept_by g.row.N c.args.self.now.state c.turn.new.self.state c.turn.result c.turn.ensures.turn
+
+pub returns-in-Some-clause-turn_is : goal.returns-in-Some-clause-turn_is
+returns-in-Some-clause-turn_is g c = ok_kept_by g.row.N c.args.self.now.state c.repeat.new.self.state c.repeat.result c.repeat.ensures.turn

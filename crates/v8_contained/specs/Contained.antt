@@ -1,0 +1,158 @@
+-- What a board keeps, whatever words its code has: the invariant of containment.
+use Rattle.std.specs.Prelude.{ℕ, ◌≡◌, ◌+◌, ◌*◌, ◌%◌, ◌/◌, ◌^◌, ◌<◌, ◌≤◌, ◌⊎◌, ◌==◌, if◌then◌else◌, Bool, true, false, List, [], ◌∷◌, ◌++◌, length, get_or, Option, Some, None, IsSome}
+use Rattle.v8_meaning.specs.Transfers.{bytes_in}
+use Rattle.v8_windows.specs.Windows.{Windows, reg_of}
+use Rattle.v8_mmu.specs.Walked.{root_of}
+use Rattle.v8_mmu.specs.declared.translation.MmuRegs.{MmuRegs}
+use Rattle.v8_mmu.specs.declared.bus.Stop.TheVariants.{Exit, Trapped}
+use Rattle.v8_state.specs.declared.state.Cpu.{Cpu}
+use Rattle.v8_core.specs.Accesses.{World}
+use Rattle.v8_core.specs.declared.turn.DataAccess.{DataAccess}
+use Rattle.v8_core.specs.declared.turn.Turn.{Turn}
+use Rattle.v8_layout.specs.Layout.{Pages, AreFew, IsLoaded}
+use Rattle.v8_memory.specs.Board.{Device, gets}
+
+-- ---- registers
+
+-- A register file's lengths: of its words nothing is said.
+pub record IsShaped (n : ℕ) (v : Windows) : Type 0 where
+  pub current : v.current < n
+  pub count : length v.words ≡ n
+  pub each : (w : ℕ) → w < n → length (get_or v.words w []) ≡ 16
+
+-- ---- modes
+
+-- user code, at any address
+pub record IsUser (n : ℕ) (cpu : Cpu n) : Type 0 where
+  pub shape : IsShaped n cpu.regs
+  pub user : cpu.control.s ≡ false
+  pub traps : cpu.control.et ≡ true
+  pub table : cpu.control.base ≡ 0xF0000000
+  pub sane : cpu.control.error ≡ None
+  pub pc_word : cpu.control.pc < 2 ^ 32
+  pub npc_word : cpu.control.npc < 2 ^ 32
+
+-- Where the supervisor stands, by trap type t or by word k of the handlers.
+pub data Place : Type 0 where
+  -- at the first word of a vector
+  Enters : ℕ → Place
+  -- at the second word of a vector that reaches the device, whose address is in %l3
+  Acts : ℕ → Place
+  -- at the branch of a window trap's vector, and in its delay slot
+  Branches : ℕ → Place
+  Slips : ℕ → Place
+  -- at the jump of the vectors of get and put, and at their RETT
+  Leaves : ℕ → Place
+  Returns : ℕ → Place
+  -- at a word of a handler, and at its RETT
+  Handles : ℕ → Place
+  Retries : ℕ → Place
+
+-- pc and nPC
+pub record IsAt {n : ℕ} (cpu : Cpu n) (pc npc : ℕ) : Type 0 where
+  pub here : cpu.control.pc ≡ pc
+  pub next : cpu.control.npc ≡ npc
+
+-- the handler of overflow begins at word 0, that of underflow at word 32
+abbrev pub IsHandler : ℕ → Type 0
+IsHandler k = (k ≡ 0) ⊎ (k ≡ 32)
+
+abbrev pub vector_of : ℕ → ℕ
+vector_of t = 0xF0000000 + 16 * t
+
+abbrev pub handler_at : ℕ → ℕ
+handler_at k = 0xF0001000 + 4 * k
+
+-- the trap whose vector branches to the handler at word k
+abbrev pub trap_to : ℕ → ℕ
+trap_to k = 5 + k / 32
+
+pub record IsActing {n : ℕ} (cpu : Cpu n) (t : ℕ) : Type 0 where
+  pub small : t < 256
+  pub not_over : t ≡ 5 → ⊥
+  pub not_under : t ≡ 6 → ⊥
+  pub at : IsAt cpu (vector_of t + 4) (vector_of t + 8)
+  pub device : reg_of n cpu.regs 19 ≡ 0xF0010000
+
+abbrev pub IsBack : ℕ → Type 0
+IsBack t = (t ≡ 0x81) ⊎ (t ≡ 0x82)
+
+abbrev pub Stands : {n : ℕ} → Cpu n → Place → Type 0
+Stands cpu (Enters t) = (t < 256) × IsAt cpu (vector_of t) (vector_of t + 4)
+Stands cpu (Acts t) = IsActing cpu t
+Stands cpu (Branches k) = IsHandler k × IsAt cpu (vector_of (trap_to k) + 4) (vector_of (trap_to k) + 8)
+Stands cpu (Slips k) = IsHandler k × IsAt cpu (vector_of (trap_to k) + 8) (handler_at k)
+Stands cpu (Leaves t) = IsBack t × IsAt cpu (vector_of t + 8) (vector_of t + 12)
+Stands cpu (Returns t) = IsBack t × (cpu.control.pc ≡ vector_of t + 12)
+Stands cpu (Handles k) = ((k < 19) ⊎ ((32 ≤ k) × (k < 51))) × IsAt cpu (handler_at k) (handler_at k + 4)
+Stands cpu (Retries k) = ((k ≡ 19) ⊎ (k ≡ 51)) × (cpu.control.pc ≡ handler_at k)
+
+-- supervisor code, in a vector or in a handler that user code trapped into
+pub record IsSupervisor (n : ℕ) (cpu : Cpu n) : Type 0 where
+  pub shape : IsShaped n cpu.regs
+  pub system : cpu.control.s ≡ true
+  pub off : cpu.control.et ≡ false
+  pub before : cpu.control.ps ≡ false
+  pub straight : cpu.control.annul ≡ false
+  pub table : cpu.control.base ≡ 0xF0000000
+  pub sane : cpu.control.error ≡ None
+  pub npc_word : cpu.control.npc < 2 ^ 32
+  pub place : Place
+  pub stands : Stands cpu place
+
+-- the device runs, or has stopped the machine; error mode
+pub record IsRunning (n : ℕ) (x : World n Device) : Type 0 where
+  pub running : x.memory.device.stopped ≡ None
+  pub mode : IsUser n x.cpu ⊎ IsSupervisor n x.cpu
+
+abbrev pub HasEnded : (n : ℕ) → World n Device → Type 0
+HasEnded n x = IsSome x.memory.device.stopped ⊎ IsSome x.cpu.control.error
+
+-- ---- the invariant
+
+pub record IsContained (n : ℕ) (g : Pages) (words : List ℕ) (mmu : MmuRegs) (x : World n Device) : Type 0 where
+  pub few : 4 ≤ n
+  pub many : n ≤ 32
+  pub pages : AreFew g
+  pub root : root_of mmu ≡ 0x2000
+  pub loaded : IsLoaded n g words x.memory.ram
+  pub mode : HasEnded n x ⊎ IsRunning n x
+
+-- ---- a turn
+
+-- the data's pages, or the last pages of the stack
+abbrev pub IsData : Pages → ℕ → ℕ → Type 0
+IsData g va bytes = ((0x80000 ≤ va) × (va + bytes ≤ 0x80000 + 4096 * g.data_count)) ⊎ ((0x100000 ≤ va + 4096 * g.stack_count) × (va + bytes ≤ 0x100000))
+
+abbrev pub IsOwnAccess : Pages → Option DataAccess → Type 0
+IsOwnAccess g None = Unit
+IsOwnAccess g (Some a) = IsData g a.va (bytes_in a.size)
+
+abbrev pub IsOwnFetch : Pages → ℕ → Option ℕ → Type 0
+IsOwnFetch g pc None = Unit
+IsOwnFetch g pc (Some word) = (0x40000 ≤ pc) × (pc + 4 ≤ 0x40000 + 4096 * g.code_count)
+
+-- a user's turn: the fetch and the access that were completed
+abbrev pub IsOwn : Pages → Bool → ℕ → Option ℕ → Option DataAccess → Type 0
+IsOwn g true pc word access = IsOwnFetch g pc word × IsOwnAccess g access
+IsOwn g false pc word access = Unit
+
+-- what the vector of trap t makes of the device, where %i0 is x
+abbrev pub acted : ℕ → ℕ → Device → Device
+acted t x d =
+    if t == 0x80 then record d { stopped = Some (Exit x) } else
+    (if t == 0x81 then (gets d).1 else
+    (if t == 0x82 then record d { output = d.output ++ (x % 2 ^ 8) ∷ [] } else record d { stopped = Some Trapped }))
+
+-- the second word of the vector of a trap but 05 and 06
+pub record ByVector (n : ℕ) (old new : World n Device) : Type 0 where
+  pub trap : ℕ
+  pub system : old.cpu.control.s ≡ true
+  pub at : IsActing old.cpu trap
+  pub is : new.memory.device ≡ acted trap (reg_of n old.cpu.regs 24) old.memory.device
+
+-- what a turn of a contained board is
+pub record TurnIs (n : ℕ) (g : Pages) (words : List ℕ) (mmu : MmuRegs) (old : World n Device) (made : Turn × World n Device) : Type 0 where
+  pub keeps : IsContained n g words mmu made.1
+  pub own : IsOwn g made.0.user made.0.pc made.0.word made.0.access
+  pub device : (made.1.memory.device ≡ old.memory.device) ⊎ ByVector n old made.1

@@ -1,0 +1,4 @@
+//! Containment: what every turn of a loaded board keeps, whatever its code.
+#![tactic(auto)]
+
+pub mod laws;
