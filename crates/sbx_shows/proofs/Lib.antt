@@ -1,9 +1,17 @@
 -- What the board shows of the flat machine, part by part, and what a turn of user code leaves of it.
 --   Distances          windows by how far they are from the current one
---   Reading, Writing, Frames      registers of both machines: read, written, a call begun and ended
---   Files              a register file keeps its shape
---   Pages, Kept, Stacks           RAM that differs in marks; where save areas and slots lie; the image's own pages
---   Users              what is shown, after marks, a register, and a step of PC and nPC
+--   Reading, Writing, Alike, Frames      registers of both machines: read, written, in any order, a call begun and ended
+--   Files, Fields, Processor             a register file's shape; the fields of words; what operations do to the processor
+--   Pages, Kept, Stacks                  RAM that differs in marks; where save areas and slots lie; the image's own pages
+--   Users, Places      what is shown, after marks, a register, and a step of PC and nPC; where user code stands
+--   Outcomes, Signed, Numbers            results and loaded numbers are words
+-- One turn, an operation group each:
+--   Results            of those that reach no memory and no window
+--   Slots, Data, Moved, Transfers        loads, stores and exchanges
+--   Jumps, Callers     transfers of control; SAVE and RESTORE that find a window
+-- Steps with their turns and counts:
+--   Own, Traffics, Advancing, Services, Whole      without a window trap
+--   Overflow, Underflow, Retries                   a window trap: what is shown after its 24 turns; with the instruction again
 pub mod Pages
 pub mod Processor
 pub mod Files
@@ -32,3 +40,6 @@ pub mod Traffics
 pub mod Advancing
 pub mod Services
 pub mod Whole
+pub mod Overflow
+pub mod Underflow
+pub mod Retries

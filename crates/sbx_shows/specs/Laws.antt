@@ -1,11 +1,14 @@
 -- The window law: what follows of a moment that the board shows, and the turns of user code that keep it.
 use Rattle.std.specs.Prelude.{ℕ, ◌≡◌, ◌+◌, ◌-◌, ◌<◌, true}
+use Rattle.v8_formats.specs.declared.instr.Three.{Three}
 use Rattle.v8_meaning.specs.declared.operation.Operation.{Operation}
 use Rattle.v8_meaning.specs.declared.operation.Operation.TheVariants.{Restore, Save}
 use Rattle.v8_windows.specs.Windows.{reg_of}
 use Rattle.v8_mmu.specs.declared.translation.MmuRegs.{MmuRegs}
+use Rattle.v8_core.specs.declared.turn.Event.TheVariants.{Trapped}
 use Rattle.v8_core.specs.Accesses.{World}
-use Rattle.v8_memory.specs.Board.{Device}
+use Rattle.v8_memory.specs.Board.{Device, board}
+use Rattle.v8_loaded.specs.Turns.{after, turn_at}
 use Rattle.v8_loaded.specs.Users.{AsksFor}
 use Rattle.sbx_image.specs.declared.parts.Parts.{Parts}
 use Rattle.sbx_flat.specs.Runs.{weight_of}
@@ -50,3 +53,21 @@ abbrev pub AnnulledTurnsKeep : Type 0
 AnnulledTurnsKeep =
     (n : ℕ) (parts : Parts) (mmu : MmuRegs) (x : World n Device) (s : State) (r : ℕ) →
     Shows n parts x s r → s.annulled ≡ true → Advances n parts mmu x s r 1 0 0 r
+
+-- ---- window traps
+
+-- A SAVE where all windows but one have calls: window_overflow and the 23 turns of its handler, after which one call less has a window;
+-- and the SAVE again.
+abbrev pub SavesOverflow : Type 0
+SavesOverflow =
+    (n : ℕ) (parts : Parts) (mmu : MmuRegs) (x : World n Device) (s : State) (r i : ℕ) (f : Three) →
+    Stands n parts mmu x s r i → AsksFor parts.words i (Save f) → (IsWrong parts s → ⊥) → r + 1 ≡ n →
+    ((turn_at board n mmu 0 x).event ≡ Trapped 5) × Shows n parts (after board n mmu 24 x) s (r - 1) × Advances n parts mmu x s r 25 1 0 r
+
+-- A RESTORE where one call has a window: window_underflow and the 23 turns of its handler, after which its caller has one; and the
+-- RESTORE again. It may stand in a delay slot.
+abbrev pub RestoresUnderflow : Type 0
+RestoresUnderflow =
+    (n : ℕ) (parts : Parts) (mmu : MmuRegs) (x : World n Device) (s : State) (i : ℕ) (f : Three) →
+    Stands n parts mmu x s 1 i → AsksFor parts.words i (Restore f) → (IsWrong parts s → ⊥) →
+    ((turn_at board n mmu 0 x).event ≡ Trapped 6) × Shows n parts (after board n mmu 24 x) s 2 × Advances n parts mmu x s 1 25 0 1 1

@@ -25,7 +25,7 @@ use Rattle.sbx_shows.specs.Steps.{Stands}
 use Rattle.sbx_shows.proofs.Whole.{annulled_turns_keep, user_turns_keep}
 use Rattle.sbx_windows.specs.Runs.{Came, IsImage, RunsToItsEnd, stands}
 use Rattle.sbx_windows.proofs.Induction.{Taken, ends_from}
-use Rattle.sbx_windows.proofs.Retries.{restores_underflow, saves_overflow}
+use Rattle.sbx_shows.proofs.Retries.{restores_underflow, saves_overflow}
 use Rattle.sbx_windows.proofs.Start.{boot, flat_start, is_flat_start, start_shows}
 
 -- ---- the word that is fetched
@@ -61,7 +61,7 @@ module _ (n : ℕ) (parts : Parts) (input : List ℕ) (start : BoardState n) (im
       let split : (r + 1 < n) ⊎ (r + 1 ≡ n) = search arith in
       elim split [
         | inl free ↦ calm x s r i (Save f) h is good free
-        | inr full ↦ record { count = 25; overflows = 1; underflows = 0; windows = r; few = (omega arith, omega arith); advances = (saves_overflow n parts start.mmu x s r i f h is good full).1 }
+        | inr full ↦ record { count = 25; overflows = 1; underflows = 0; windows = r; few = (omega arith, omega arith); advances = (saves_overflow n parts start.mmu x s r i f h is good full).2 }
       ]
   by_operation x s r i (Restore f) h is good =
       let some = h.shows.calls.some in
@@ -70,7 +70,7 @@ module _ (n : ℕ) (parts : Parts) (input : List ℕ) (start : BoardState n) (im
         | inl more ↦ calm x s r i (Restore f) h is good more
         | inr last ↦
             let one = subst (λ q. Stands n parts start.mmu x s q i) (sym last) h in
-            subst (Next x s) last (record { count = 25; overflows = 0; underflows = 1; windows = 1; few = (omega arith, omega arith); advances = (restores_underflow n parts start.mmu x s i f one is good).1 })
+            subst (Next x s) last (record { count = 25; overflows = 0; underflows = 1; windows = 1; few = (omega arith, omega arith); advances = (restores_underflow n parts start.mmu x s i f one is good).2 })
       ]
   by_operation x s r i op h is good = calm x s r i op h is good tt
 

@@ -1,4 +1,4 @@
-//! Finite windows beside the flat machine: window traps, and whole runs of safe images.
+//! Whole runs of safe images on boards of any count of windows, beside the flat machine.
 #![tactic(auto)]
 
 pub mod laws;

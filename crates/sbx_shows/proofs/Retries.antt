@@ -42,9 +42,9 @@ use Rattle.sbx_shows.proofs.Callers.{Returns, restore_turn, returns, save_turn}
 use Rattle.sbx_shows.proofs.Own.{no_word, on_word, user_own}
 use Rattle.sbx_shows.proofs.Places.{word}
 use Rattle.sbx_shows.proofs.Traffics.{overflow_counts, underflow_counts}
-use Rattle.sbx_windows.specs.Laws.{RestoresUnderflow, SavesOverflow}
-use Rattle.sbx_windows.proofs.Overflow as spilling
-use Rattle.sbx_windows.proofs.Underflow as filling
+use Rattle.sbx_shows.specs.Laws.{RestoresUnderflow, SavesOverflow}
+use Rattle.sbx_shows.proofs.Overflow as spilling
+use Rattle.sbx_shows.proofs.Underflow as filling
 
 -- ---- a turn with such an event was made by a machine that had not ended
 
@@ -199,6 +199,7 @@ saves_overflow n parts mmu x s r i f h is good full =
     let one = subst (λ q. OneTurn n parts mmu (after board n mmu 24 x) s (Save f) q) back (save_turn n parts mmu (after board n mmu 24 x) s (r - 1) i after_it f is good (omega arith)) in
     (
       first_event n parts mmu x s r i h (Save f) is refl 5 (stack_pointer n x.cpu) (r - 1) true handled.turns refl (omega arith) pointer (r - 1) r after_it one,
+      shown,
       retried_advances n parts mmu x s r i h (Save f) is refl 5 (stack_pointer n x.cpu) (r - 1) true handled.turns refl (omega arith) pointer (r - 1) r after_it one 1 0
       (λ c small a b. overflow_counted c small a)
       (λ p q k. let e : q ≡ q + 0 = omega arith in overflow_counts n r p q k f full ∙ ap (λ z. so_many r (p + 1) z (k + 25)) e),
@@ -218,6 +219,7 @@ restores_underflow n parts mmu x s i f h is good =
     let one = restore_turn n parts mmu (after board n mmu 24 x) s 2 i after_it f is good (omega arith) in
     (
       first_event n parts mmu x s 1 i h (Restore f) is refl 6 (filled_pointer n x.cpu) 1 false handled.turns refl two pointer 2 1 after_it one,
+      shown,
       retried_advances n parts mmu x s 1 i h (Restore f) is refl 6 (filled_pointer n x.cpu) 1 false handled.turns refl two pointer 2 1 after_it one 0 1
       (λ c small a b. underflow_counted c small b)
       (λ p q k. let e : p ≡ p + 0 = omega arith in underflow_counts n p q k f ∙ ap (λ z. so_many 1 z (q + 1) (k + 25)) e),

@@ -1,5 +1,0 @@
-use Rattle.sbx_windows.proofs.Retries.{restores_underflow}
-use Rattle.sbx_windows.proofs.laws.restores_underflow.Goals as goal
-
-pub returns : goal.returns
-returns c = restores_underflow
