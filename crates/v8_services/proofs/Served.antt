@@ -1,5 +1,5 @@
 -- A call of a service, turn by turn.
-use Rattle.std.proofs.Common.{◌≡◌, ℕ, ◌+◌, ◌*◌, ◌%◌, ◌^◌, ◌<◌, Bool, true, false, List, [], ◌∷◌, ◌++◌, Some, None, refl, sym, ap, ◌∙◌, subst, arith}
+use Rattle.std.proofs.Common.{◌≡◌, ℕ, zero, suc, ◌+◌, ◌*◌, ◌%◌, ◌^◌, ◌<◌, Bool, true, false, List, [], ◌∷◌, ◌++◌, Some, None, refl, sym, ap, ◌∙◌, subst, arith}
 use Rattle.std.specs.Prelude.{◌==◌, if◌then◌else◌}
 use Rattle.std.proofs.lemmas.Bool.Decides.{nat_tests}
 use Rattle.v8_word.specs.declared.Size.TheVariants.{Word}
@@ -15,14 +15,15 @@ use Rattle.v8_state.specs.Effects.{address_of}
 use Rattle.v8_state.specs.Traps.{applies, first_trap}
 use Rattle.v8_state.specs.declared.state.Control.{Control}
 use Rattle.v8_state.specs.declared.state.Cpu.{Cpu}
+use Rattle.v8_core.specs.declared.turn.Event.{Event}
 use Rattle.v8_core.specs.declared.turn.Event.TheVariants.{Ran, Stopped}
 use Rattle.v8_core.specs.Accesses.{World, world, moving}
-use Rattle.v8_core.specs.Steps.{ran_event}
+use Rattle.v8_core.specs.Steps.{next, ran_event}
 use Rattle.v8_layout.specs.Layout.{Pages, IsLoaded}
-use Rattle.v8_memory.specs.Board.{Device, gets, got_from}
+use Rattle.v8_memory.specs.Board.{Device, board, gets, got_from}
 use Rattle.v8_memory.specs.Input.{next_byte}
 use Rattle.v8_loaded.specs.Places.{code_marked, table_marked}
-use Rattle.v8_loaded.specs.Turns.{Leads, TurnsTo}
+use Rattle.v8_loaded.specs.Turns.{Leads, TurnsTo, after}
 use Rattle.v8_loaded.specs.Users.{RunsUser, in_vector}
 use Rattle.v8_loaded.proofs.Fetches.{device_kept, table_kept}
 use Rattle.v8_loaded.proofs.Leading.{leads_more, leads_one}
@@ -280,6 +281,92 @@ module _ (n : ℕ) (g : Pages) (words : List ℕ) (mmu : MmuRegs) (x : World n D
       (leads_more put_turn
       (leads_more (jump_turn 0x82 522 0xF0000828 vector (ram3 true) after_put (loaded3 true) u.running here (omega arith) refl put_2)
       (leads_one (subst (TurnsTo n g mmu (world n (in_vector n c 0x82 vector 0xF000082C npc) (ram4 true) after_put) Ran) same last)))))
+
+  -- ---- until its last turn a call stands in supervisor mode
+
+  abbrev at_vector : ℕ → ℕ → World n Device
+  at_vector t a = world n (in_vector n c t (trapped n v pc npc) a (following a)) ram1 d
+
+  abbrev at_device : ℕ → ℕ → World n Device
+  at_device t a = world n (in_vector n c t vector (following a) (following (following a))) ram2 d
+
+  then_to : (k : ℕ) (mid new : World n Device) (event : Event) → after board n mmu k x ≡ mid → TurnsTo n g mmu mid event new → after board n mmu (suc k) x ≡ new
+  then_to k mid new event before turn = ap (λ w. (next board n mmu w).1) before ∙ turn.is
+
+  abbrev in_system : ℕ → Type 0
+  in_system k = (after board n mmu k x).cpu.control.s ≡ true
+
+  pub exit_system : Calls words i 0 → (k : ℕ) → k < 2 → in_system (suc k)
+  exit_system asks k less = by_turn k less
+    where
+      first : after board n mmu 1 x ≡ at_vector 0x80 0xF0000800
+      first = (trap_turn n g words mmu x i u (calls 0) 0x80 asks (exit_traps n c)).is
+
+      second : after board n mmu 2 x ≡ at_device 0x80 0xF0000800
+      second = then_to 1 (at_vector 0x80 0xF0000800) (at_device 0x80 0xF0000800) Ran first (set_turn 0x80 512 0xF0000800 (omega arith) refl exit_0)
+
+      by_turn : (k : ℕ) → k < 2 → in_system (suc k)
+      by_turn zero less = ap (λ (w : World n Device). w.cpu.control.s) first
+      by_turn (suc zero) less = ap (λ (w : World n Device). w.cpu.control.s) second
+      by_turn (suc (suc k)) less = absurd (omega arith)
+
+  pub get_system : Calls words i 1 → (k : ℕ) → k < 4 → in_system (suc k)
+  get_system asks k less = by_turn k less
+    where
+      third_world : World n Device
+      third_world = world n (in_vector n c 0x81 given 0xF0000818 0xF000081C) (ram3 false) after_get
+
+      fourth_world : World n Device
+      fourth_world = world n (in_vector n c 0x81 given 0xF000081C npc) (ram4 false) after_get
+
+      first : after board n mmu 1 x ≡ at_vector 0x81 0xF0000810
+      first = (trap_turn n g words mmu x i u (calls 1) 0x81 asks (get_traps n c)).is
+
+      second : after board n mmu 2 x ≡ at_device 0x81 0xF0000810
+      second = then_to 1 (at_vector 0x81 0xF0000810) (at_device 0x81 0xF0000810) Ran first (set_turn 0x81 516 0xF0000810 (omega arith) refl get_0)
+
+      third : after board n mmu 3 x ≡ third_world
+      third = then_to 2 (at_device 0x81 0xF0000810) third_world Ran second get_turn
+
+      fourth : after board n mmu 4 x ≡ fourth_world
+      fourth = then_to 3 third_world fourth_world Ran third
+          (jump_turn 0x81 518 0xF0000818 given (ram3 false) after_get (loaded3 false) (gets_running d u.running) (reads_npc_after n v pc npc u.file pc_word u.npc_word (gets d).0) (omega arith) refl get_2)
+
+      by_turn : (k : ℕ) → k < 4 → in_system (suc k)
+      by_turn zero less = ap (λ (w : World n Device). w.cpu.control.s) first
+      by_turn (suc zero) less = ap (λ (w : World n Device). w.cpu.control.s) second
+      by_turn (suc (suc zero)) less = ap (λ (w : World n Device). w.cpu.control.s) third
+      by_turn (suc (suc (suc zero))) less = ap (λ (w : World n Device). w.cpu.control.s) fourth
+      by_turn (suc (suc (suc (suc k)))) less = absurd (omega arith)
+
+  pub put_system : Calls words i 2 → (k : ℕ) → k < 4 → in_system (suc k)
+  put_system asks k less = by_turn k less
+    where
+      third_world : World n Device
+      third_world = world n (in_vector n c 0x82 vector 0xF0000828 0xF000082C) (ram3 true) after_put
+
+      fourth_world : World n Device
+      fourth_world = world n (in_vector n c 0x82 vector 0xF000082C npc) (ram4 true) after_put
+
+      first : after board n mmu 1 x ≡ at_vector 0x82 0xF0000820
+      first = (trap_turn n g words mmu x i u (calls 2) 0x82 asks (put_traps n c)).is
+
+      second : after board n mmu 2 x ≡ at_device 0x82 0xF0000820
+      second = then_to 1 (at_vector 0x82 0xF0000820) (at_device 0x82 0xF0000820) Ran first (set_turn 0x82 520 0xF0000820 (omega arith) refl put_0)
+
+      third : after board n mmu 3 x ≡ third_world
+      third = then_to 2 (at_device 0x82 0xF0000820) third_world Ran second put_turn
+
+      fourth : after board n mmu 4 x ≡ fourth_world
+      fourth = then_to 3 third_world fourth_world Ran third
+          (jump_turn 0x82 522 0xF0000828 vector (ram3 true) after_put (loaded3 true) u.running (reads_npc n v pc npc u.file pc_word u.npc_word) (omega arith) refl put_2)
+
+      by_turn : (k : ℕ) → k < 4 → in_system (suc k)
+      by_turn zero less = ap (λ (w : World n Device). w.cpu.control.s) first
+      by_turn (suc zero) less = ap (λ (w : World n Device). w.cpu.control.s) second
+      by_turn (suc (suc zero)) less = ap (λ (w : World n Device). w.cpu.control.s) third
+      by_turn (suc (suc (suc zero))) less = ap (λ (w : World n Device). w.cpu.control.s) fourth
+      by_turn (suc (suc (suc (suc k)))) less = absurd (omega arith)
 
 pub exit_law : ExitLaw
 exit_law n g words mmu x i u asks = exits_so n g words mmu x i u asks

@@ -1,0 +1,113 @@
+-- Where the 64 bytes of calls and their slots lie, and that the stack's pages are the image's own.
+use Rattle.std.proofs.Common.{◌≡◌, ◌≢◌, ℕ, suc, ◌+◌, ◌-◌, ◌*◌, ◌/◌, ◌%◌, ◌<◌, ◌≤◌, ◌⊎◌, inl, inr, Bool, true, false, List, length, Some, refl, sym, ap, ◌∙◌, subst, arith}
+use Rattle.std.specs.Prelude.{◌==◌, ◌&&◌, ◌||◌, nat_le, nat_lt, if◌then◌else◌}
+use Rattle.std.proofs.lemmas.Bool.Decides.{nat_tests}
+use Rattle.v8_mmu.specs.Ram.{entry_of}
+use Rattle.v8_mmu.specs.Paths.{marked_ram}
+use Rattle.v8_layout.specs.Layout.{IsLoaded}
+use Rattle.v8_loaded.specs.Areas.{HasRoom, area_of}
+use Rattle.v8_loaded.specs.Places.{code_marked, stack_entry_place}
+use Rattle.v8_board.specs.Marks.{bit_of}
+use Rattle.v8_board.specs.Start.{at_most, pages_of}
+use Rattle.v8_board.proofs.Placed.{pages_few}
+use Rattle.sbx_image.specs.declared.parts.Parts.{Parts}
+use Rattle.sbx_flat.specs.Registers.{Registers}
+use Rattle.sbx_flat.specs.Traffic.{is_own_data_page}
+use Rattle.sbx_shows.specs.Marks.{is_own_page}
+use Rattle.sbx_shows.specs.Marks.{OwnMarks}
+use Rattle.sbx_shows.proofs.Pages.{code_own}
+use Rattle.sbx_shows.specs.Calls.{base, depth}
+use Rattle.sbx_shows.specs.Shows.{Fits, IsStacked, IsSlot}
+
+pub stack_count : (parts : Parts) → Fits parts → (pages_of parts).stack_count ≡ parts.stack_pages
+unfolding pages_of
+stack_count parts fits =
+    let few = fits.stack in
+    let small : nat_le parts.stack_pages 16 ≡ true = grind (arith, nat_tests) in
+    ap (λ (b : Bool). if b then parts.stack_pages else 16) small
+
+pub base_up : (pages : ℕ) (file : Registers) (i k : ℕ) → IsStacked pages file → i ≤ k → k < depth file → base file i ≤ base file k
+base_up pages file i k st most less =
+    let split : (i < k) ⊎ (i ≡ k) = search arith in
+    elim split [
+      | inl older ↦ let e = st.apart i k older less in omega arith
+      | inr same ↦ let e : base file i ≡ base file k = ap (base file) same in omega arith
+    ]
+
+-- a slot lies beside the 64 bytes of each call
+pub slot_beside : (pages : ℕ) (file : Registers) (i k a : ℕ) → pages ≤ 16 → IsStacked pages file → i < depth file → k < depth file → IsSlot file k a →
+    (a - 0x60000 + 4 ≤ base file i - 0x60000) ⊎ (base file i - 0x60000 + 64 ≤ a - 0x60000)
+slot_beside pages file i k a few st less there o =
+    let low = st.low i less in
+    let low_k = st.low k there in
+    let above = o.low in
+    let split : (k < i) ⊎ (i ≤ k) = search arith in
+    elim split [
+      | inl newer ↦ let e = o.below i newer less in inl (omega arith)
+      | inr older ↦ let e = base_up pages file i k st older there in inr (omega arith)
+    ]
+
+pub stack_own : (parts : Parts) (va : ℕ) → Fits parts → 0x100000 ≤ va + 4096 * (pages_of parts).stack_count → va < 0x100000 → is_own_data_page parts (va / 4096) ≡ true
+stack_own parts va fits low high =
+    let count = stack_count parts fits in
+    let few = fits.stack in
+    let from : 0x100 - parts.stack_pages ≤ va / 4096 = omega arith in
+    let to : va / 4096 < 0x100 = omega arith in
+    let page = va / 4096 in
+    grind (arith, nat_tests, from, to)
+
+-- RAM whose entries of code, data and stack pages are those after a fetch of the code word i, but for the pages of 64 bytes of stack
+pub handled_own : (n : ℕ) (parts : Parts) (old new : List ℕ) (i sp : ℕ) → Fits parts → IsLoaded n (pages_of parts) parts.words old → i < 1024 * (pages_of parts).code_count → HasRoom (pages_of parts) sp →
+    ((p : ℕ) → p < 0x2D00 → p % 4 ≡ 0 → ((j : ℕ) → j < 16 → p ≢ stack_entry_place (area_of sp + 0x60000 + 4 * j)) → entry_of new p ≡ entry_of (code_marked i old) p) →
+    OwnMarks parts old → OwnMarks parts new
+handled_own n parts old new i sp fits loaded within room same own =
+    let few = fits.stack in
+    let count = stack_count parts fits in
+    let low = room.low in
+    let high = room.high in
+    let aligned = room.aligned in
+    let mid = code_marked i old in
+    let after : OwnMarks parts mid = code_own n parts old i loaded within own in
+    let first_own = stack_own parts sp fits low (omega arith) in
+    let last_own = stack_own parts (sp + 60) fits (omega arith) (omega arith) in
+    let beside : (k : ℕ) → k < 192 → 0x40 + k ≢ sp / 4096 → 0x40 + k ≢ (sp + 60) / 4096 → entry_of new (0x2A00 + 4 * k) ≡ entry_of mid (0x2A00 + 4 * k) =
+    λ (k : ℕ) (less : k < 192) (a : 0x40 + k ≢ sp / 4096) (b : 0x40 + k ≢ (sp + 60) / 4096).
+        same (0x2A00 + 4 * k) (omega arith) (omega arith) (λ j small e. apart_by k j sp (omega arith) (omega arith) small a b e) in
+    record {
+      referenced = λ k less is.
+          let one : (0x40 + k ≡ sp / 4096) ⊎ (0x40 + k ≢ sp / 4096) = search arith in
+          let two : (0x40 + k ≡ (sp + 60) / 4096) ⊎ (0x40 + k ≢ (sp + 60) / 4096) = search arith in
+          elim one [
+            | inl e ↦ owned parts (0x40 + k) (subst (λ q. is_own_data_page parts q ≡ true) (sym e) first_own)
+            | inr a ↦ elim two [
+              | inl e ↦ owned parts (0x40 + k) (subst (λ q. is_own_data_page parts q ≡ true) (sym e) last_own)
+              | inr b ↦ after.referenced k less (ap (λ o. bit_of o 5) (sym (beside k less a b)) ∙ is)
+            ]
+          ];
+      modified = λ k less is.
+          let one : (0x40 + k ≡ sp / 4096) ⊎ (0x40 + k ≢ sp / 4096) = search arith in
+          let two : (0x40 + k ≡ (sp + 60) / 4096) ⊎ (0x40 + k ≢ (sp + 60) / 4096) = search arith in
+          elim one [
+            | inl e ↦ subst (λ q. is_own_data_page parts q ≡ true) (sym e) first_own
+            | inr a ↦ elim two [
+              | inl e ↦ subst (λ q. is_own_data_page parts q ≡ true) (sym e) last_own
+              | inr b ↦ after.modified k less (ap (λ o. bit_of o 6) (sym (beside k less a b)) ∙ is)
+            ]
+          ];
+    }
+  where
+    owned : (parts : Parts) (page : ℕ) → is_own_data_page parts page ≡ true → is_own_page parts page ≡ true
+    owned parts page e = grind (arith, nat_tests, e)
+
+    -- the 64 bytes lie in the page of the first one and in that of the last word
+    apart_by : (k j sp : ℕ) → 0xF0000 ≤ sp → sp + 64 ≤ 0x100000 → j < 16 → 0x40 + k ≢ sp / 4096 → 0x40 + k ≢ (sp + 60) / 4096 → 0x2A00 + 4 * k ≡ stack_entry_place (sp - 0x60000 + 0x60000 + 4 * j) → ⊥
+    apart_by k j sp low high small a b e = omega arith
+
+-- a code word lies in its page
+pub code_room : (parts : Parts) (i : ℕ) → Fits parts → i < length parts.words → i < 1024 * (pages_of parts).code_count
+unfolding pages_of
+code_room parts i fits less =
+    let few = fits.words in
+    let small : nat_le ((length parts.words + 1023) / 1024) 64 ≡ true = grind (arith, nat_tests) in
+    let is : at_most 64 ((length parts.words + 1023) / 1024) ≡ (length parts.words + 1023) / 1024 = ap (λ (b : Bool). if b then (length parts.words + 1023) / 1024 else 64) small in
+    omega (arith, is)

@@ -1,0 +1,116 @@
+-- What a board with n windows shows of the flat machine, r of whose calls have windows of their own.
+use Rattle.std.specs.Prelude.{ℕ, suc, ◌≡◌, ◌+◌, ◌*◌, ◌-◌, ◌%◌, ◌^◌, ◌<◌, ◌≤◌, true, false, List, [], length, slice_index, Option, Some, None}
+use Rattle.v8_mmu.specs.Ram.{entry_of}
+use Rattle.v8_windows.specs.Windows.{Windows, IsFile, word_at}
+use Rattle.v8_state.specs.declared.state.Control.{Control}
+use Rattle.v8_core.specs.Accesses.{World}
+use Rattle.v8_layout.specs.Layout.{IsLoaded}
+use Rattle.v8_memory.specs.Board.{Device}
+use Rattle.v8_board.specs.Start.{pages_of}
+use Rattle.sbx_image.specs.declared.parts.Parts.{Parts}
+use Rattle.sbx_flat.specs.Memory.{Bytes}
+use Rattle.sbx_flat.specs.Registers.{Registers}
+use Rattle.sbx_flat.specs.Runs.{AreBytes}
+use Rattle.sbx_flat.specs.States.{State}
+use Rattle.sbx_shows.specs.Marks.{OwnMarks}
+use Rattle.sbx_shows.specs.Calls.{cell, depth, base, slot}
+
+-- what an image that is accepted keeps
+pub record Fits (parts : Parts) : Type 0 where
+  pub words : length parts.words ≤ 65536
+  pub bytes : length parts.bytes ≤ 0x40000
+  pub stack : parts.stack_pages ≤ 16
+
+-- the window of the call k
+abbrev pub window : ℕ → ℕ → ℕ → ℕ
+window n current k = (current + k) % n
+
+-- The r newest calls lie in the windows from the current one on. WIM's one bit is that of the next window, whose outs are the ins
+-- of the oldest of these calls.
+pub record ShowsCalls (n : ℕ) (v : Windows) (file : Registers) (r : ℕ) : Type 0 where
+  pub some : 1 ≤ r
+  pub most : r < n
+  pub open_calls : r ≤ depth file
+  pub mask : v.mask ≡ 2 ^ window n v.current r
+  pub globals : (k : ℕ) → 1 ≤ k → k < 8 → slice_index v.globals k ≡ file.globals k
+  pub outs : (k j : ℕ) → k ≤ r → j < 8 → word_at v (window n v.current k) j ≡ cell file k j
+  pub locals : (k j : ℕ) → k < r → 8 ≤ j → j < 16 → word_at v (window n v.current k) j ≡ cell file k j
+
+-- Each call has 64 bytes from its base on, a multiple of 8, in the stack's pages, and below those of every older call.
+pub record IsStacked (pages : ℕ) (file : Registers) : Type 0 where
+  pub aligned : (k : ℕ) → k < depth file → base file k % 8 ≡ 0
+  pub low : (k : ℕ) → k < depth file → 0x100000 ≤ base file k + 4096 * pages
+  pub high : (k : ℕ) → k < depth file → base file k + 64 ≤ 0x100000
+  pub apart : (k i : ℕ) → k < i → i < depth file → base file k + 64 ≤ base file i
+
+-- The calls from the r-th on, that have no window of their own, have their locals and ins in their 64 bytes.
+pub record ShowsSaved (file : Registers) (r : ℕ) (ram : List ℕ) : Type 0 where
+  pub locals : (k j : ℕ) → r ≤ k → k < depth file → j < 8 → entry_of ram (base file k - 0x60000 + 4 * j) ≡ Some (cell file k (8 + j))
+  pub ins : (k j : ℕ) → r ≤ k → k < depth file → j < 8 → entry_of ram (base file k - 0x60000 + 32 + 4 * j) ≡ Some (cell file (suc k) j)
+
+-- where a call has its slots: above its 64 bytes, and below every older call's
+pub record IsSlot (file : Registers) (k a : ℕ) : Type 0 where
+  pub aligned : a % 4 ≡ 0
+  pub low : base file k + 64 ≤ a
+  pub high : a + 4 ≤ 0x100000
+  pub below : (i : ℕ) → k < i → i < depth file → a + 4 ≤ base file i
+
+-- A slot is the word of RAM at its address.
+pub record ShowsSlot (file : Registers) (ram : List ℕ) (k a w : ℕ) : Type 0 where
+  pub place : IsSlot file k a
+  pub there : entry_of ram (a - 0x60000) ≡ Some w
+
+abbrev pub ShowsSlots : Registers → List ℕ → Type 0
+ShowsSlots file ram = (k a w : ℕ) → k < depth file → slot file k a ≡ Some w → ShowsSlot file ram k a w
+
+-- the words of the stack are words
+abbrev pub HasStack : List ℕ → Type 0
+HasStack ram = (p w : ℕ) → 0x90000 ≤ p → entry_of ram p ≡ Some w → w < 2 ^ 32
+
+-- A byte of the data is the byte of RAM at its address.
+pub record ShowsByte (parts : Parts) (ram : List ℕ) (a b : ℕ) : Type 0 where
+  pub low : 0x80000 ≤ a
+  pub high : a < 0x80000 + length parts.bytes
+  pub small : b < 2 ^ 8
+  pub there : slice_index ram (a - 0x30000) ≡ b
+
+abbrev pub ShowsData : Parts → Bytes → List ℕ → Type 0
+ShowsData parts memory ram = (a b : ℕ) → memory a ≡ Some b → ShowsByte parts ram a b
+
+-- User code runs at the flat machine's place, with its codes and Y, and traps are enabled.
+pub record ShowsControl (c : Control) (s : State) : Type 0 where
+  pub pc : c.pc ≡ s.pc
+  pub npc : c.npc ≡ s.npc
+  pub npc_word : c.npc < 2 ^ 32
+  pub npc_whole : c.npc % 4 ≡ 0
+  pub annul : c.annul ≡ s.annulled
+  pub icc : c.icc ≡ s.icc
+  pub y : c.y ≡ s.y
+  pub y_word : c.y < 2 ^ 32
+  pub user : c.s ≡ false
+  pub traps : c.et ≡ true
+  pub sane : c.error ≡ None
+  pub table : c.base ≡ 0xF0000000
+
+-- The device has the input that is left, and the output so far.
+pub record ShowsDevice (d : Device) (s : State) : Type 0 where
+  pub running : d.stopped ≡ None
+  pub input : d.input ≡ s.input
+  pub ended : d.ended ≡ true → s.input ≡ []
+  pub bytes : AreBytes s.input
+  pub output : d.output ≡ s.output
+
+-- Tables, trap table, handlers and code are as loaded, R and M aside; R and M are set of the image's own pages alone.
+pub record Shows (n : ℕ) (parts : Parts) (x : World n Device) (s : State) (r : ℕ) : Type 0 where
+  pub file : IsFile n x.cpu.regs
+  pub calls : ShowsCalls n x.cpu.regs s.registers r
+  pub stacked : IsStacked (pages_of parts).stack_count s.registers
+  pub saved : ShowsSaved s.registers r x.memory.ram
+  pub slots : ShowsSlots s.registers x.memory.ram
+  pub stack : HasStack x.memory.ram
+  pub bytes : ShowsData parts s.memory x.memory.ram
+  pub control : ShowsControl x.cpu.control s
+  pub device : ShowsDevice x.memory.device s
+  pub going : s.exit ≡ None
+  pub loaded : IsLoaded n (pages_of parts) parts.words x.memory.ram
+  pub marks : OwnMarks parts x.memory.ram

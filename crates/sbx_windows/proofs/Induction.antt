@@ -1,0 +1,164 @@
+-- Steps one after the other: the board's run beside the flat run, its counts and the window traffic of the path.
+use Rattle.std.proofs.Common.{◌≡◌, ◌≢◌, ℕ, zero, suc, ◌+◌, ◌-◌, ◌*◌, ◌^◌, ◌<◌, ◌≤◌, ◌⊎◌, inl, inr, Bool, true, false, List, [], ◌∷◌, ◌++◌, length, Option, Some, None, refl, sym, ap, ◌∙◌, subst, arith}
+use Rattle.std.specs.Prelude.{◌==◌, if◌then◌else◌}
+use Rattle.std.proofs.lemmas.Bool.Decides.{nat_tests}
+use Rattle.v8_meaning.specs.declared.operation.Operation.{Operation}
+use Rattle.v8_meaning.specs.declared.operation.Operation.TheVariants.{Save, Restore}
+use Rattle.v8_mmu.specs.declared.translation.MmuRegs.{MmuRegs}
+use Rattle.v8_core.specs.declared.turn.Turn.{Turn}
+use Rattle.v8_core.specs.Accesses.{World}
+use Rattle.v8_core.specs.Steps.{next}
+use Rattle.v8_memory.specs.Board.{Device, board}
+use Rattle.v8_loaded.specs.Turns.{after, turn_at}
+use Rattle.v8_board.specs.declared.outcome.Counts.{Counts}
+use Rattle.v8_board.specs.declared.outcome.Ending.{Ending}
+use Rattle.v8_board.specs.Counting.{counts_after}
+use Rattle.v8_board.specs.Runs.{after as board_after}
+use Rattle.v8_board.specs.Seen.{State as BoardState, counts_unless, ending_of, turned}
+use Rattle.sbx_image.specs.declared.parts.Parts.{Parts}
+use Rattle.sbx_flat.specs.Runs.{AreBytes, Behaves, FlatRun, FlatSafe, Run, budget, place_of, weight, weight_at, weight_of, weight_of_word}
+use Rattle.sbx_flat.specs.States.{State}
+use Rattle.sbx_flat.specs.Traffic.{after_operation, after_place, after_word, traffic}
+use Rattle.sbx_flat.specs.Turns.{Step, asked, word_at}
+use Rattle.sbx_flat.specs.declared.path.Place.{Place}
+use Rattle.sbx_flat.specs.declared.path.Traffic.{Traffic}
+use Rattle.sbx_flat.proofs.Turns.{weighs_some}
+use Rattle.sbx_shows.specs.Advances.{Advances, IsMoment, counts_by, more, so_many}
+use Rattle.sbx_shows.specs.Shows.{Shows}
+use Rattle.sbx_shows.specs.Turns.{IsOwnTurn}
+use Rattle.sbx_shows.proofs.Traffics.{traffic_more}
+use Rattle.sbx_windows.specs.Runs.{Came, Finishes, IsTurnBeside, stands}
+
+-- ---- turns of a world as turns of a board that counts them
+
+turn_is : (n : ℕ) (mmu : MmuRegs) (w : World n Device) (c : Counts) → ending_of n w ≡ None → turned n (stands n w mmu c) ≡ ((next board n mmu w).0, stands n (next board n mmu w).1 mmu (counts_after (next board n mmu w).0.event c))
+unfolding turned
+turn_is n mmu w c going = ap (λ (o : Option Ending). ((next board n mmu w).0, stands n (next board n mmu w).1 mmu (counts_unless o (next board n mmu w).0.event c))) going
+
+pub board_is : (n : ℕ) (mmu : MmuRegs) (x : World n Device) (c : Counts) (k : ℕ) → ((j : ℕ) → j < k → ending_of n (after board n mmu j x) ≡ None) → board_after n k (stands n x mmu c) ≡ stands n (after board n mmu k x) mmu (counts_by n mmu x k c)
+board_is n mmu x c zero going = refl
+board_is n mmu x c (suc k) going =
+    ap (λ (s : BoardState n). (turned n s).1) (board_is n mmu x c k (λ j less. going j (omega arith)))
+    ∙ ap (λ (p : Turn × BoardState n). p.1) (turn_is n mmu (after board n mmu k x) (counts_by n mmu x k c) (going k (omega arith)))
+
+-- turns after turns
+pub join : (n k j : ℕ) (s : BoardState n) → board_after n (k + j) s ≡ board_after n j (board_after n k s)
+join n k zero s = let e : k + 0 ≡ k = omega arith in ap (λ q. board_after n q s) e
+join n k (suc j) s = let e : k + suc j ≡ suc (k + j) = omega arith in ap (λ q. board_after n q s) e ∙ ap (λ (t : BoardState n). (turned n t).1) (join n k j s)
+
+-- ---- all steps
+
+-- a place counts no more turns than it weighs
+place_turns : (parts : Parts) (n : ℕ) (p : Place) (t : Traffic) → (after_place parts n p t).turns ≤ t.turns + weight_at parts p
+unfolding after_place weight_at
+place_turns parts n p t = by_annul p.annulled
+  where
+    one_of : (b : Bool) (a c : Traffic) (m : ℕ) → a.turns ≤ m → c.turns ≤ m → (if b then a else c).turns ≤ m
+    one_of true a c m x y = x
+    one_of false a c m x y = y
+
+    of_operation : (op : Operation) → (after_operation n op t).turns ≤ t.turns + weight_of op
+    of_operation (Save f) = one_of (t.windows == n - 1) (record t { overflows = t.overflows + 1; turns = t.turns + 25 }) (record t { windows = t.windows + 1; turns = t.turns + 1 }) (t.turns + 25) (omega arith) (omega arith)
+    of_operation (Restore f) = one_of (t.windows == 1) (record t { underflows = t.underflows + 1; turns = t.turns + 25 }) (record t { windows = t.windows - 1; turns = t.turns + 1 }) (t.turns + 25) (omega arith) (omega arith)
+    of_operation _ = omega arith
+
+    of_word : (o : Option ℕ) → (after_word n o t).turns ≤ t.turns + weight_of_word o
+    of_word None = omega arith
+    of_word (Some word) = of_operation (asked word)
+
+    by_annul : (b : Bool) → (if b then record t { turns = t.turns + 1 } else after_word n (word_at parts.words p.pc) t).turns ≤ t.turns + (if b then 1 else weight_of_word (word_at parts.words p.pc))
+    by_annul true = omega arith
+    by_annul false = of_word (word_at parts.words p.pc)
+
+run_more : (parts : Parts) (s t u : State) (path : List Place) → Run parts s path t → Step parts t u → Run parts s (path ++ place_of parts t ∷ []) u
+run_more parts s t u [] run one = (u, ap (place_of parts) (sym run), subst (λ x. Step parts x u) (sym run) one, refl)
+run_more parts s t u (p ∷ path) run one = (run.0, run.1, run.2, run_more parts run.0 t u path run.3 one)
+
+weight_more : (parts : Parts) (path : List Place) (p : Place) → weight parts (path ++ p ∷ []) ≡ weight parts path + weight_at parts p
+weight_more parts [] p = omega arith
+weight_more parts (q ∷ path) p = let i = weight_more parts path p in omega arith
+
+module _ (n : ℕ) (parts : Parts) (input : List ℕ) (start : BoardState n) (safe : FlatSafe parts) (bytes : AreBytes input) (bound : budget parts < 2 ^ 64) where
+  -- a step with its counts
+  pub record Taken (x : World n Device) (s : State) (r : ℕ) : Type 0 where
+    pub count : ℕ
+    pub overflows : ℕ
+    pub underflows : ℕ
+    pub windows : ℕ
+    pub few : (overflows ≤ count) × (underflows ≤ count)
+    pub advances : Advances n parts start.mmu x s r count overflows underflows windows
+
+  within : (path : List Place) (s : State) → FlatRun parts input path s → weight parts path ≤ budget parts
+  within path s run = (safe input bytes).3.within_budget path s run
+
+  came_more : (x : World n Device) (s : State) (r : ℕ) (c : Came n parts input start x s r) (t : Taken x s r) → Came n parts input start (after board n start.mmu t.count x) t.advances.next_state t.windows
+  came_more x s r c t =
+      let a = t.advances in
+      let place = place_of parts s in
+      let path = c.path ++ place ∷ [] in
+      let run : FlatRun parts input path a.next_state = (c.run.0, c.run.1, run_more parts c.run.0 s a.next_state c.path c.run.2 a.step) in
+      let top = within path a.next_state run in
+      let heavier = weight_more parts c.path place in
+      let traffic_now : traffic parts n path ≡ so_many t.windows (c.overflows + t.overflows) (c.underflows + t.underflows) (c.turns + t.count) =
+      traffic_more parts n c.path place ∙ ap (after_place parts n place) c.traffic_is ∙ a.traffic c.overflows c.underflows c.turns in
+      let turns_at : (after_place parts n place (so_many r c.overflows c.underflows c.turns)).turns ≡ c.turns + t.count = ap (λ (f : Traffic). f.turns) (a.traffic c.overflows c.underflows c.turns) in
+      let no_more = place_turns parts n place (so_many r c.overflows c.underflows c.turns) in
+      let a_few = t.few.0 in
+      let b_few = t.few.1 in
+      let c_few = c.few.0 in
+      let d_few = c.few.1 in
+      let e_few = c.few.2 in
+      let counts : Counts = record { turns = c.turns; overflows = c.overflows; underflows = c.underflows } in
+      let later : (j : ℕ) → j ≤ t.count → board_after n (c.turns + j) start ≡ stands n (after board n start.mmu j x) start.mmu (counts_by n start.mmu x j counts) =
+      λ (j : ℕ) (less : j ≤ t.count). join n c.turns j start ∙ ap (board_after n j) c.board_stands ∙ board_is n start.mmu x counts j (λ i small. a.going i (omega arith)) in
+      record {
+        path = path;
+        run = run;
+        turns = c.turns + t.count;
+        overflows = c.overflows + t.overflows;
+        underflows = c.underflows + t.underflows;
+        traffic_is = traffic_now;
+        few = (omega arith, omega arith, omega arith);
+        board_stands = later t.count (omega arith) ∙ ap (stands n (after board n start.mmu t.count x) start.mmu) (a.counts counts (omega arith) c_few d_few);
+        going = λ j less.
+            let split : (j < c.turns) ⊎ (c.turns ≤ j) = search arith in
+            elim split [
+              | inl before ↦ c.going j before
+              | inr from ↦
+                  let sum : c.turns + (j - c.turns) ≡ j = omega arith in
+                  ap (λ q. ending_of n (board_after n q start).world) (sym sum) ∙ ap (λ (b : BoardState n). ending_of n b.world) (later (j - c.turns) (omega arith)) ∙ a.going (j - c.turns) (omega arith)
+            ];
+        each = λ j less.
+            let split : (j < c.turns) ⊎ (c.turns ≤ j) = search arith in
+            elim split [
+              | inl before ↦ c.each j before
+              | inr from ↦
+                  let i = j - c.turns in
+                  let sum : c.turns + i ≡ j = omega arith in
+                  let here : board_after n j start ≡ stands n (after board n start.mmu i x) start.mmu (counts_by n start.mmu x i counts) = ap (λ q. board_after n q start) (sym sum) ∙ later i (omega arith) in
+                  let same : (turned n (board_after n j start)).0 ≡ turn_at board n start.mmu i x =
+                  ap (λ (b : BoardState n). (turned n b).0) here
+                  ∙ ap (λ (p : Turn × BoardState n). p.0) (turn_is n start.mmu (after board n start.mmu i x) (counts_by n start.mmu x i counts) (a.going i (omega arith))) in
+                  record {
+                    way = c.path;
+                    state = s;
+                    run = c.run;
+                    moment = subst (λ (b : BoardState n). IsMoment n parts b.world s) (sym here) (a.moments i (omega arith));
+                    own = subst (IsOwnTurn parts s.registers) (sym same) (a.own i (omega arith));
+                  }
+            ];
+      }
+
+  pub ends_from : ((x : World n Device) (s : State) (r : ℕ) (way : List Place) → FlatRun parts input way s → Shows n parts x s r → Taken x s r) →
+      (fuel : ℕ) (x : World n Device) (s : State) (r : ℕ) (c : Came n parts input start x s r) → Shows n parts x s r → budget parts < weight parts c.path + fuel → Finishes n parts input start
+  unfolding came_more
+  ends_from advance zero x s r c h enough = let top = within c.path s c.run in absurd (omega arith)
+  ends_from advance (suc fuel) x s r c h enough =
+      let t = advance x s r c.path c.run h in
+      let now = came_more x s r c t in
+      let heavier = weight_more parts c.path (place_of parts s) in
+      let some = weighs_some parts (place_of parts s) in
+      elim t.advances.ends [
+        | inl on ↦ ends_from advance fuel (after board n start.mmu t.count x) t.advances.next_state t.windows now on (omega arith)
+        | inr end ↦ record { last = after board n start.mmu t.count x; state = t.advances.next_state; windows = t.windows; status = end.0; came = now; over = end.1 }
+      ]
