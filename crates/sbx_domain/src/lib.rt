@@ -15,6 +15,7 @@ mod words;
 
 pub use entry::Entry;
 pub use lin::Lin;
+pub use memory::{frame_word_of, offset_from_sp};
 pub use relation::{Related, Relation};
 pub use state::{LOCATIONS, State};
 

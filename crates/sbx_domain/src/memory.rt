@@ -12,7 +12,7 @@ use v8_meaning::{Exchange, Loading, MemoryOperand, Transfer};
 use v8_word::{Reg, Size};
 
 /// The offset from %sp that an address of %sp or %fp and an immediate has, in a frame of so many bytes.
-fn offset_from_sp(frame: u32, rs1: Reg, operand2: Operand) -> Option<i64>
+pub fn offset_from_sp(frame: u32, rs1: Reg, operand2: Operand) -> Option<i64>
     ensures { result ≡ offset_from_sp frame rs1 operand2 }
 {
     match operand2 {
@@ -55,7 +55,7 @@ fn word_at_offset(frame: u32, offset: Option<i64>) -> Option<u16>
 }
 
 /// The location of the frame word that a load or a store of a word names.
-fn frame_word_of(frame: u32, operand: &MemoryOperand) -> Option<u16>
+pub fn frame_word_of(frame: u32, operand: &MemoryOperand) -> Option<u16>
     ensures { result ≡ frame_word_of frame operand.now }
 {
     word_at_offset(frame, offset_from_sp(frame, operand.rs1, operand.operand2))

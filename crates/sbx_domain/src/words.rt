@@ -18,7 +18,7 @@ impl State {
     ghost use Rattle.sbx_domain.specs.Transfer.{transferred, served};
 
     /// What is known of a register; %g0 is 0.
-    pub(crate) fn register_entry(&self, r: Reg) -> Option<Entry>
+    pub fn register_entry(&self, r: Reg) -> Option<Entry>
         ensures { result ≡ register_entry (known self.now) r }
     {
         if r.number() == 0 {
@@ -28,7 +28,7 @@ impl State {
         }
     }
 
-    pub(crate) fn operand_entry(&self, operand: Operand) -> Option<Entry>
+    pub fn operand_entry(&self, operand: Operand) -> Option<Entry>
         ensures { result ≡ operand_entry (known self.now) operand }
     {
         match operand {

@@ -1,0 +1,7 @@
+pub mod Causes
+pub mod Places
+pub mod Ways
+pub mod Operations
+pub mod Fuel
+pub mod Rules
+pub mod Verdicts

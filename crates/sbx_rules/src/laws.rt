@@ -1,0 +1,7 @@
+//! Laws of the rules. Each is the contract of a function that does nothing.
+ghost use Rattle.sbx_rules.specs.Verdicts.{AskingInOrderTellsTheSame};
+
+/// An image that breaks no rule of those that are asked in order breaks none, and the refusal is the same.
+pub fn asking_in_order_tells_the_same()
+    ensures { AskingInOrderTellsTheSame }
+{}
