@@ -5,9 +5,9 @@ use Rattle.std.proofs.lemmas.Bool.Decides.{nat_tests}
 use Rattle.v8_mmu.specs.Ram.{entry_of}
 use Rattle.v8_mmu.specs.Paths.{named_place}
 use Rattle.v8_mmu.specs.Permissions.{allows, acc_of, permits, rights_of, access_type}
-use Rattle.v8_mmu.specs.Walked.{walked, goes_from, ends_with}
+use Rattle.v8_mmu.specs.Walked.{target_of, used, walked}
 use Rattle.v8_mmu.specs.declared.access.Access.{Access}
-use Rattle.v8_mmu.proofs.WalkedIs.{down_one}
+use Rattle.v8_mmu.proofs.WalkedIs.{down_one, goes_from}
 use Rattle.v8_layout.specs.Layout.{Pages, AreFew, HasTables, HasEntry, region_entry, program_entry, system_region_entry, code_entry, data_entry, stack_entry, system_entry}
 use Rattle.v8_layout.specs.AddressMap.{mapped, within, page_at, missing_level, through, reached, translated}
 use Rattle.v8_layout.specs.Laws.{IsMapped}
@@ -22,7 +22,7 @@ missing_ends ram va a (suc left) level place e = rw e refl
 
 -- at a page's entry of level 3
 ends_either : (va : ℕ) (a : Access) (w place : ℕ) (b c : Bool) →
-    ends_with va a 3 place (Some w) (cond b None (cond c (Some 3) (Some 2)))
+    used a (record { pa = w / 256 * 4096 + va % 2 ^ 12; level = 3; place = place }) (cond b None (cond c (Some 3) (Some 2)))
     ≡ cond b (Ok (record { pa = w / 256 * 4096 + va % 2 ^ 12; level = 3; place = place })) (Err (record { ft = cond c 3 2; level = 3; at = access_type a }))
 ends_either va a w place true c = refl
 ends_either va a w place false true = refl
@@ -51,7 +51,7 @@ page_missing ram va a place entry = missing_ends ram va a 0 3 place (entry.there
 -- to the table of 16 MB regions
 from_root : (g : Pages) (ram : List ℕ) → HasTables g ram → (va : ℕ) (a : Access) (i w : ℕ) → va / 2 ^ 24 ≡ i → i < 256 → region_entry i ≡ w →
     (walked ram 0x2000 va a ≡ goes_from ram va a 2 1 (0x2400 + 4 * i) (entry_of ram (0x2400 + 4 * i))) × (entry_of ram (0x2400 + 4 * i) ≡ Some w)
-unfolding walked
+unfolding walked target_of
 from_root g ram t va a i w one small is =
     let at : named_place va 0 0x241 ≡ 0x2400 + 4 * i = omega (arith, one) in
     (down_one ram va a 2 0 0x2000 0x241 t.context refl ∙ ap (λ p. goes_from ram va a 2 1 p (entry_of ram p)) at, t.regions i small ∙ ap Some is)

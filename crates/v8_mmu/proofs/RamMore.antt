@@ -21,15 +21,19 @@ four_before at p ram rest there before =
     let d : take 4 (take (at - p) (drop p ram)) ≡ take 4 (drop p ram) = take-take 4 (at - p) (drop p ram) (omega arith) in
     ap (take 4) (a ∙ ap (λ x. x ++ rest) b) ∙ c ∙ d
 
+-- the four bytes of a place beside n bytes that were written
+four_beside : (ram bs : List ℕ) (at n p : ℕ) → length bs ≡ n → at + n ≤ length ram → (p + 4 ≤ at) ⊎ (at + n ≤ p) → take 4 (drop p (take at ram ++ bs ++ drop (at + n) ram)) ≡ take 4 (drop p ram)
+four_beside ram bs at n p count there (inl before) =
+    let whole : take at ram ++ bs ++ drop (at + n) ram ≡ take at ram ++ (bs ++ drop (at + n) ram) = append_assoc (take at ram) bs (drop (at + n) ram) in
+    ap (λ x. take 4 (drop p x)) whole ∙ four_before at p ram (bs ++ drop (at + n) ram) (omega arith) before
+four_beside ram bs at n p count there (inr past) =
+    let m : length (take at ram) ≡ at = length-take-le at ram (omega arith) in
+    let k : length (take at ram ++ bs) ≡ at + n = omega (arith, length-append (take at ram) bs) in
+    ap (take 4) (drop-append-drop (at + n) ram (take at ram ++ bs) p past k)
+
 pub four_of : (at p w : ℕ) (ram : List ℕ) → at + 4 ≤ length ram → (p + 4 ≤ at) ⊎ (at + 4 ≤ p) → take 4 (drop p (with_entry ram at w)) ≡ take 4 (drop p ram)
 unfolding with_entry
-four_of at p w ram there (inl before) =
-    let whole : take at ram ++ to_be_bytes w32 w ++ drop (at + 4) ram ≡ take at ram ++ (to_be_bytes w32 w ++ drop (at + 4) ram) = append_assoc (take at ram) (to_be_bytes w32 w) (drop (at + 4) ram) in
-    ap (λ x. take 4 (drop p x)) whole ∙ four_before at p ram (to_be_bytes w32 w ++ drop (at + 4) ram) (omega arith) before
-four_of at p w ram there (inr past) =
-    let n : length (take at ram) ≡ at = length-take-le at ram (omega arith) in
-    let m : length (take at ram ++ to_be_bytes w32 w) ≡ at + 4 = omega (arith, length-append (take at ram) (to_be_bytes w32 w)) in
-    ap (take 4) (drop-append-drop (at + 4) ram (take at ram ++ to_be_bytes w32 w) p past m)
+four_of at p w ram there apart = four_beside ram (to_be_bytes w32 w) at 4 p refl there apart
 
 word_by : List ℕ → ℕ → ℕ → Option ℕ
 word_by bytes len p = if p % 4 == 0 && nat_le (p + 4) len then Some (from_be_bytes w32 bytes) else None
@@ -38,13 +42,18 @@ entry_by : (ram : List ℕ) (p : ℕ) → entry_of ram p ≡ word_by (take 4 (dr
 unfolding entry_of word_by
 entry_by ram p = refl
 
+-- a word stays where its bytes do
+word_stays : (old new : List ℕ) (p : ℕ) → length new ≡ length old → take 4 (drop p new) ≡ take 4 (drop p old) → entry_of new p ≡ entry_of old p
+word_stays old new p size bytes =
+    entry_by new p ∙ ap (λ b. word_by b (length new) p) bytes ∙ ap (λ k. word_by (take 4 (drop p old)) k p) size ∙ sym (entry_by old p)
+
 -- a word elsewhere stays
 pub entry_elsewhere : (ram : List ℕ) (at p w : ℕ) → Within ram at → (p + 4 ≤ at) ⊎ (at + 4 ≤ p) → entry_of (with_entry ram at w) p ≡ entry_of ram p
-entry_elsewhere ram at p w there apart =
-    entry_by (with_entry ram at w) p
-    ∙ ap (λ b. word_by b (length (with_entry ram at w)) p) (four_of at p w ram there.fits apart)
-    ∙ ap (λ k. word_by (take 4 (drop p ram)) k p) (length-with_entry ram at w there.fits)
-    ∙ sym (entry_by ram p)
+entry_elsewhere ram at p w there apart = word_stays ram (with_entry ram at w) p (length-with_entry ram at w there.fits) (four_of at p w ram there.fits apart)
+
+-- a word beside n bytes that were written
+pub entry_beside : (ram bs : List ℕ) (at n p : ℕ) → length bs ≡ n → at + n ≤ length ram → (p + 4 ≤ at) ⊎ (at + n ≤ p) → length (take at ram ++ bs ++ drop (at + n) ram) ≡ length ram → entry_of (take at ram ++ bs ++ drop (at + n) ram) p ≡ entry_of ram p
+entry_beside ram bs at n p count there apart size = word_stays ram (take at ram ++ bs ++ drop (at + n) ram) p size (four_beside ram bs at n p count there apart)
 
 -- ---- bytes
 

@@ -12,7 +12,7 @@ use Rattle.v8_mmu.specs.Meaning.{limit_of}
 use Rattle.v8_mmu.specs.Ram.{entry_of, with_entry, half_of, with_half, byte_of, with_byte, joined, double_of, with_double, number_at}
 use Rattle.v8_mmu.specs.Laws.{Stores}
 use Rattle.v8_mmu.proofs.RamLemmas.{Within, entry_is, length-with_entry, entry_of-with_entry}
-use Rattle.v8_mmu.proofs.RamMore.{entry_elsewhere, byte_elsewhere, byte_among, byte_beside_entry}
+use Rattle.v8_mmu.proofs.RamMore.{entry_elsewhere, entry_beside, byte_elsewhere, byte_among, byte_beside_entry}
 
 -- ---- halfwords
 
@@ -46,6 +46,10 @@ pub byte_beside_half : (ram : List ℕ) (at h j : ℕ) → at + 2 ≤ length ram
 unfolding with_half
 byte_beside_half ram at h j fits apart = byte_elsewhere ram (to_be_bytes w16 h) at 2 j refl fits apart
 
+entry_beside_half : (ram : List ℕ) (at h p : ℕ) → at + 2 ≤ length ram → (p + 4 ≤ at) ⊎ (at + 2 ≤ p) → entry_of (with_half ram at h) p ≡ entry_of ram p
+unfolding with_half
+entry_beside_half ram at h p fits apart = entry_beside ram (to_be_bytes w16 h) at 2 p refl fits apart (length-with_half ram at h fits)
+
 -- ---- bytes
 
 pub byte_is : (ram : List ℕ) (at b : ℕ) → byte_of ram at ≡ Some b → at < length ram
@@ -71,6 +75,10 @@ byte_of-with_byte ram at b less =
 pub byte_beside_byte : (ram : List ℕ) (at b j : ℕ) → at < length ram → (j < at) ⊎ (at + 1 ≤ j) → slice_index (with_byte ram at b) j ≡ slice_index ram j
 unfolding with_byte
 byte_beside_byte ram at b j less apart = byte_elsewhere ram (b ∷ []) at 1 j refl (omega arith) apart
+
+entry_beside_byte : (ram : List ℕ) (at b p : ℕ) → at < length ram → (p + 4 ≤ at) ⊎ (at + 1 ≤ p) → entry_of (with_byte ram at b) p ≡ entry_of ram p
+unfolding with_byte
+entry_beside_byte ram at b p less apart = entry_beside ram (b ∷ []) at 1 p refl (omega arith) apart (length-with_byte ram at b less)
 
 -- ---- double words
 
@@ -127,20 +135,31 @@ byte_beside_double ram at v j fits (inr past) =
     let first = length-with_entry ram at (v / 2 ^ 32) (omega arith) in
     byte_beside_entry (with_entry ram at (v / 2 ^ 32)) (at + 4) (v % 2 ^ 32) j (omega (arith, first)) (inr (omega arith)) ∙ byte_beside_entry ram at (v / 2 ^ 32) j (omega arith) (inr (omega arith))
 
+entry_beside_double : (ram : List ℕ) (at v p : ℕ) → HasDouble ram at → (p + 4 ≤ at) ⊎ (at + 8 ≤ p) → entry_of (with_double ram at v) p ≡ entry_of ram p
+unfolding with_double
+entry_beside_double ram at v p there apart =
+    let low = there.low in
+    let once = with_entry ram at (v / 2 ^ 32) in
+    let first = length-with_entry ram at (v / 2 ^ 32) there.high.fits in
+    let second : Within once (at + 4) = record { aligned = low.aligned; fits = omega (arith, first, low.fits) } in
+    let high : (p + 4 ≤ at) ⊎ (at + 4 ≤ p) = elim apart [ inl before ↦ inl before | inr past ↦ inr (omega arith) ] in
+    let beside : (p + 4 ≤ at + 4) ⊎ (at + 4 + 4 ≤ p) = elim apart [ inl before ↦ inl (omega arith) | inr past ↦ inr (omega arith) ] in
+    entry_elsewhere once (at + 4) p (v % 2 ^ 32) second beside ∙ entry_elsewhere ram at p (v / 2 ^ 32) there.high high
+
 -- ---- any size
 
 pub stores : (ram : List ℕ) (at old v : ℕ) (width : Size) → number_at ram at width ≡ Some old → v < limit_of width → Stores ram at v width
 stores ram at old v Byte there small =
     let less = byte_is ram at old there in
-    record { read = byte_of-with_byte ram at v less; size = length-with_byte ram at v less; others = λ j apart. byte_beside_byte ram at v j less apart }
+    record { read = byte_of-with_byte ram at v less; size = length-with_byte ram at v less; others = λ j apart. byte_beside_byte ram at v j less apart; words = λ p apart. entry_beside_byte ram at v p less apart }
 stores ram at old v Half there small =
     let h = half_is ram at old there in
-    record { read = half_of-with_half ram at v h small; size = length-with_half ram at v h.fits; others = λ j apart. byte_beside_half ram at v j h.fits apart }
+    record { read = half_of-with_half ram at v h small; size = length-with_half ram at v h.fits; others = λ j apart. byte_beside_half ram at v j h.fits apart; words = λ p apart. entry_beside_half ram at v p h.fits apart }
 stores ram at old v Word there small =
     let h = (entry_is ram at old there).0 in
-    record { read = entry_of-with_entry ram at v h small; size = length-with_entry ram at v h.fits; others = λ j apart. byte_beside_entry ram at v j h.fits apart }
+    record { read = entry_of-with_entry ram at v h small; size = length-with_entry ram at v h.fits; others = λ j apart. byte_beside_entry ram at v j h.fits apart; words = λ p apart. entry_elsewhere ram at p v h apart }
 stores ram at old v Double there small =
     let h = double_is ram at old there in
     let low = h.low in
     let fits : at + 8 ≤ length ram = omega (arith, low.fits) in
-    record { read = double_of-with_double ram at v h small; size = length-with_double ram at v fits; others = λ j apart. byte_beside_double ram at v j fits apart }
+    record { read = double_of-with_double ram at v h small; size = length-with_double ram at v fits; others = λ j apart. byte_beside_double ram at v j fits apart; words = λ p apart. entry_beside_double ram at v p h apart }

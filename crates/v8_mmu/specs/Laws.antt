@@ -1,10 +1,9 @@
 -- Laws of paths, marks and RAM.
 use Rattle.std.specs.Prelude.{ℕ, ◌≡◌, ◌⊎◌, ◌<◌, ◌≤◌, ◌+◌, ◌/◌, ◌%◌, ◌^◌, Bool, List, length, slice_index, Some, if◌then◌else◌}
 use Rattle.v8_word.specs.declared.Size.{Size}
-use Rattle.v8_word.specs.declared.Size.TheVariants.{Byte, Half, Word, Double}
-use Rattle.v8_mmu.specs.Meaning.{limit_of}
-use Rattle.v8_mmu.specs.Ram.{entry_of, number_at, with_number}
-use Rattle.v8_mmu.specs.Paths.{Translates, Faults, marked, marked_ram}
+use Rattle.v8_mmu.specs.Meaning.{bytes_in, limit_of}
+use Rattle.v8_mmu.specs.Ram.{KeepsWords, entry_of, number_at, with_number}
+use Rattle.v8_mmu.specs.Paths.{LeadsTo, LeadsNowhere, Translates, Faults, marked, marked_ram}
 use Rattle.v8_mmu.specs.declared.access.Access.{Access}
 use Rattle.v8_mmu.specs.declared.translation.Found.{Found}
 use Rattle.v8_mmu.specs.declared.translation.MmuFault.{MmuFault}
@@ -14,6 +13,14 @@ pub record SamePath (f g : Found) : Type 0 where
   pub pa : f.pa ≡ g.pa
   pub level : f.level ≡ g.level
   pub places : (k : ℕ) → k ≤ f.level → slice_index f.places k ≡ slice_index g.places k
+
+-- an address leads to at most one page, whatever the access
+abbrev pub OnePage : Type 0
+OnePage = (ram : List ℕ) (root va : ℕ) (f g : Found) → LeadsTo ram root va f → LeadsTo ram root va g → SamePath f g
+
+-- an address that leads to a page doesn't end without one
+abbrev pub NoEndOnPath : Type 0
+NoEndOnPath = (ram : List ℕ) (root va ft level : ℕ) (f : Found) → LeadsTo ram root va f → ¬ (LeadsNowhere ram root va ft level)
 
 -- there is at most one path
 abbrev pub OnePath : Type 0
@@ -41,18 +48,12 @@ pub record Marks (ram : List ℕ) (at w : ℕ) (store : Bool) : Type 0 where
 abbrev pub MarksTwoBits : Type 0
 MarksTwoBits = (ram : List ℕ) (at w : ℕ) (store : Bool) → entry_of ram at ≡ Some w → w < 2 ^ 32 → Marks ram at w store
 
--- how many bytes a number of this size has
-abbrev pub bytes_in : Size → ℕ
-bytes_in Byte = 1
-bytes_in Half = 2
-bytes_in Word = 4
-bytes_in Double = 8
-
--- a number that was stored is read back, and the other bytes stay
+-- a number that was stored is read back, and the other bytes stay, and so does each word without one of its bytes
 pub record Stores (ram : List ℕ) (at v : ℕ) (width : Size) : Type 0 where
   pub read : number_at (with_number ram at width v) at width ≡ Some v
   pub size : length (with_number ram at width v) ≡ length ram
   pub others : (j : ℕ) → (j < at) ⊎ (at + bytes_in width ≤ j) → slice_index (with_number ram at width v) j ≡ slice_index ram j
+  pub words : KeepsWords ram (with_number ram at width v) at (bytes_in width)
 
 abbrev pub StoresOneNumber : Type 0
 StoresOneNumber = (ram : List ℕ) (at old v : ℕ) (width : Size) → number_at ram at width ≡ Some old → v < limit_of width → Stores ram at v width

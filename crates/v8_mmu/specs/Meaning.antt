@@ -13,6 +13,13 @@ pub record Meaning (D : Type 0) : Type 0 where
   -- RAM, device, place, size, value: the RAM and the device afterwards; None where nothing answers
   pub store : List ℕ → D → ℕ → Size → ℕ → Option (List ℕ × D)
 
+-- how many bytes a number of this size has
+abbrev pub bytes_in : Size → ℕ
+bytes_in Byte = 1
+bytes_in Half = 2
+bytes_in Word = 4
+bytes_in Double = 8
+
 -- one more than the greatest number of this size
 abbrev pub limit_of : Size → ℕ
 limit_of Byte = 2 ^ 8

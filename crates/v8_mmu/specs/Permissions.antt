@@ -1,4 +1,5 @@
--- What the ACC field of a page's entry allows (appendix H, "access permissions"), and which fault it is where it doesn't.
+-- What the ACC field of a page's entry allows (appendix H, "access permissions"), and which fault it is where it doesn't: what an access may do at a page,
+-- wherever that lies.
 use Rattle.std.specs.Prelude.{ℕ, ◌+◌, ◌/◌, ◌%◌, ◌==◌, ◌&&◌, Bool, true, false, nat_le, Option, Some, None, if◌then◌else◌}
 use Rattle.v8_mmu.specs.declared.access.AccessKind.{AccessKind}
 use Rattle.v8_mmu.specs.declared.access.AccessKind.TheVariants.{Load, Fetch, Store, StoreCode}
@@ -34,16 +35,10 @@ acc_of w = w / 4 % 8
 unfoldable pub allows : ℕ → Access → Bool
 allows w a = permits (rights_of (acc_of w) a.user) a.kind
 
--- The fault type of an access whose path ends at this entry of this level; None where it doesn't fault, or the entry is a table descriptor that leads on.
--- 1: invalid entry. 2: forbidden. 3: forbidden to users whatever the access. 4: a descriptor too many, a reserved entry type, or no word there.
-abbrev pub fault_of : Option ℕ → ℕ → Access → Option ℕ
-fault_of None level a = Some 4
-fault_of (Some w) level a =
-    if w % 4 == 0 then Some 1 else
-    (if w % 4 == 1 then (if level == 3 then Some 4 else None) else
-    (if w % 4 == 3 then Some 4 else
-    (if allows w a then None else
-    (if a.user && nat_le 6 (acc_of w) then Some 3 else Some 2))))
+-- The fault type of an access that a page's entry refuses, None where it allows it. 2: forbidden. 3: forbidden to users whatever
+-- the access.
+abbrev pub refusal_of : ℕ → Access → Option ℕ
+refusal_of w a = if allows w a then None else (if a.user && nat_le 6 (acc_of w) then Some 3 else Some 2)
 
 -- the access type of the fault status register
 abbrev pub access_type : Access → ℕ

@@ -1,5 +1,5 @@
 -- RAM as a list of bytes, and the big-endian numbers in it.
-use Rattle.std.specs.Prelude.{ℕ, ◌<◌, ◌+◌, ◌*◌, ◌/◌, ◌%◌, ◌^◌, ◌==◌, ◌&&◌, List, [], ◌∷◌, ◌++◌, length, slice_index, take, drop, nat_le, nat_lt, Option, Some, None, if◌then◌else◌}
+use Rattle.std.specs.Prelude.{ℕ, ◌≡◌, ◌⊎◌, ◌<◌, ◌≤◌, ◌+◌, ◌*◌, ◌/◌, ◌%◌, ◌^◌, ◌==◌, ◌&&◌, List, [], ◌∷◌, ◌++◌, length, slice_index, take, drop, nat_le, nat_lt, Option, Some, None, if◌then◌else◌}
 use Rattle.std.specs.Int.{w16, w32, from_be_bytes, to_be_bytes}
 use Rattle.v8_word.specs.declared.Size.{Size}
 use Rattle.v8_word.specs.declared.Size.TheVariants.{Byte, Half, Word, Double}
@@ -54,6 +54,10 @@ with_number ram at Byte v = with_byte ram at v
 with_number ram at Half v = with_half ram at v
 with_number ram at Word v = with_entry ram at v
 with_number ram at Double v = with_double ram at v
+
+-- the words without one of so many bytes from a place on are as before
+abbrev pub KeepsWords : List ℕ → List ℕ → ℕ → ℕ → Type 0
+KeepsWords old new at count = (p : ℕ) → (p + 4 ≤ at) ⊎ (at + count ≤ p) → entry_of new p ≡ entry_of old p
 
 -- these are bytes
 abbrev pub AreBytes : List ℕ → Type 0

@@ -1,5 +1,11 @@
 // What holds of every walk, every mark and every store, whatever RAM holds.
-ghost use Rattle.v8_mmu.specs.Laws.{OnePath, OneFault, NoFaultOnPath, MarksTwoBits, StoresOneNumber};
+ghost use Rattle.v8_mmu.specs.Laws.{OnePage, NoEndOnPath, OnePath, OneFault, NoFaultOnPath, MarksTwoBits, StoresOneNumber};
+
+/// What an address leads to is one page by one path, or the end of a path, and not both, whatever the access.
+pub fn addresses_lead_one_way()
+    ensures page { OnePage }
+    ensures end { NoEndOnPath }
+{}
 
 /// An access has at most one translation path.
 pub fn path_is_unique()

@@ -3,7 +3,8 @@ ghost use Rattle.std.specs.Prelude.{◌≡◌, ℕ};
 
 use std::process::Abort;
 use v8_mmu::laws::{
-    fault_is_unique, marks_two_bits, no_fault_on_a_path, path_is_unique, stores_one_number,
+    addresses_lead_one_way, fault_is_unique, marks_two_bits, no_fault_on_a_path, path_is_unique,
+    stores_one_number,
 };
 use v8_mmu::{
     Access, AccessKind, Bus, BusFault, Found, MmuFault, MmuRegs, PageEntry, Size, Stop, find_page,
@@ -335,6 +336,7 @@ fn marks_and_takes_marks_away(rt: HostRuntime) {
 
 #[test]
 fn laws_return(_rt: HostRuntime) {
+    addresses_lead_one_way();
     path_is_unique();
     fault_is_unique();
     no_fault_on_a_path();

@@ -1,11 +1,6 @@
-use Rattle.std.proofs.Common.{rules}
+use Rattle.std.proofs.Common.{rules, inr}
 use Rattle.v8_mmu.proofs.walks.search.Goals as goal
 
-pub returns-in_default-clause-fault : goal.returns-in_default-clause-fault
-returns-in_default-clause-fault g c = search rules
-
-pub returns-in-None-clause-found : goal.returns-in-None-clause-found
-returns-in-None-clause-found g c = search rules
-
-pub returns-in-Some-fault_type-clause-fault : goal.returns-in-Some-fault_type-clause-fault
-returns-in-Some-fault_type-clause-fault g c = search rules
+pub returns-in-Some-clause-fault : goal.returns-in-Some-clause-fault
+returns-in-Some-clause-fault g c =
+    (inr (c.in-Ok.path.found, record { path = c.in-Ok.ensures.found; depth = search rules; refused = search rules }), search rules)
