@@ -1,5 +1,6 @@
 -- What a board is seen as: its processor, RAM and device, the MMU's registers, and the counts of its run.
 use Rattle.std.specs.Prelude.{ℕ, List, Option, Some, None}
+use Rattle.v8_mmu.specs.declared.bus.PortFault.{PortFault}
 use Rattle.v8_mmu.specs.declared.bus.Stop.{Stop}
 use Rattle.v8_mmu.specs.declared.bus.Stop.TheVariants as stops
 use Rattle.v8_mmu.specs.declared.translation.MmuRegs.{MmuRegs}
@@ -19,18 +20,22 @@ pub record State (n : ℕ) : Type 0 where
   pub mmu : MmuRegs
   pub counts : Counts
 
--- with how often its port has failed
+-- with how often its port has failed and was called, and the fault that the port answered last
 pub record Seen (n : ℕ) : Type 0 where
   pub state : State n
   pub failed : ℕ
+  pub calls : ℕ
+  pub fault : PortFault
 
--- with a port that has this input left, was given this output and has failed so often
-abbrev pub with_port : {n : ℕ} → Seen n → List ℕ → List ℕ → ℕ → Seen n
-with_port s i o f =
+-- with a port that has this input left, was given this output, has failed and was called so often, and answered this fault last
+abbrev pub with_port : {n : ℕ} → Seen n → List ℕ → List ℕ → ℕ → ℕ → PortFault → Seen n
+with_port s i o f k p =
     let device = record s.state.world.memory.device { input = i; output = o } in
     record {
       state = record s.state { world = record s.state.world { memory = record s.state.world.memory { device = device } } };
       failed = f;
+      calls = k;
+      fault = p;
     }
 
 -- ---- ends

@@ -1,6 +1,8 @@
-ghost use Rattle.std.specs.Prelude.{◌≡◌, ℕ, ◌+◌, ◌-◌, ◌*◌, ◌%◌, ◌^◌, ◌<◌, ◌≤◌, IfOk, OnErr, IsSome, Option, Some, None, List};
+ghost use Rattle.std.specs.Prelude.{◌≡◌, ℕ, ◌+◌, ◌-◌, ◌*◌, ◌%◌, ◌^◌, ◌<◌, ◌≤◌, IfErr, IfOk, OnErr, IsSome, Option, Some, None, List};
 ghost use Rattle.std.specs.Borrow.{Lends, sem};
-ghost use Rattle.v8_mmu.specs.Answers.{Rose};
+ghost use Rattle.v8_mmu.specs.Answers.{Grows, Rose};
+ghost use Rattle.v8_core.specs.Calls.{calls_by, most_calls};
+ghost use Rattle.v8_memory.specs.Board.{board};
 ghost use Rattle.v8_mmu.specs.Ram.{entry_of};
 ghost use Rattle.v8_mmu.specs.Walked.{root_of};
 ghost use Rattle.v8_state.specs.Registers.{psr_of};
@@ -45,6 +47,8 @@ impl<const N: usize, P: Port> Model for Board<N, P> {
         counts = b.counts;
       };
       failed = P.failed b.machine.bus.port;
+      calls = P.calls b.machine.bus.port;
+      fault = P.fault b.machine.bus.port;
     } };
 
     ghost invariant = { λ b. (4 ≤ N) × (N ≤ 32) × (root_of b.machine.mmu ≡ 0x2000) };
@@ -67,6 +71,7 @@ impl<const N: usize, P: Port> Board<N, P> {
         ensures made { IfOk result (λ board. IsNew N (P.input port) (P.output port) board.state) }
         ensures state { IfOk result (λ board. IsState N board.state.mmu board.state.world) }
         ensures failed { IfOk result (λ board. board.failed ≡ P.failed port) }
+        ensures calls { IfOk result (λ board. board.calls ≡ P.calls port) }
     {
         match Memory::new(alloc, port) {
             Ok(memory) => Ok(Board {
@@ -94,6 +99,7 @@ impl<const N: usize, P: Port> Board<N, P> {
         ensures state { AreBytes self.old.state.world.memory.ram → IsState N self.new.state.mmu self.new.state.world }
         ensures contained { Contains N image.now self.new.state }
         ensures failed { self.new.failed ≡ self.old.failed }
+        ensures calls { self.new.calls ≡ self.old.calls }
     {
         place::<N, P>(self.machine.bus_mut(), image);
         self.machine.boot();
@@ -124,6 +130,8 @@ impl<const N: usize, P: Port> Board<N, P> {
         ensures state { OnErr result (self.new.state ≡ self.old.state) }
         ensures count { self.old.failed ≤ self.new.failed }
         ensures cause { OnErr result (Rose self.old.failed self.new.failed) }
+        ensures calls { Grows (most_calls (λ turn. calls_by board self.old.state.world.memory.device turn.access) result) self.old.calls self.new.calls }
+        ensures own { IfErr result (λ fault. self.new.fault ≡ fault) }
     {
         match self.machine.step() {
             Ok(turn) => {
@@ -142,6 +150,8 @@ impl<const N: usize, P: Port> Board<N, P> {
         ensures state { OnErr result (self.new.state ≡ self.old.state) }
         ensures count { self.old.failed ≤ self.new.failed }
         ensures cause { OnErr result (Rose self.old.failed self.new.failed) }
+        ensures calls { Grows (most_calls (λ turn. calls_by board self.old.state.world.memory.device turn.access) result) self.old.calls self.new.calls }
+        ensures own { IfErr result (λ fault. self.new.fault ≡ fault) }
     {
         self.machine.step()
     }
@@ -156,6 +166,8 @@ impl<const N: usize, P: Port> Board<N, P> {
         ensures state { OnErr result (self.new.state ≡ self.old.state) }
         ensures count { self.old.failed ≤ self.new.failed }
         ensures cause { OnErr result (Rose self.old.failed self.new.failed) }
+        ensures calls { Grows (most_calls (λ turn. calls_by board self.old.state.world.memory.device turn.access) result) self.old.calls self.new.calls }
+        ensures own { IfErr result (λ fault. self.new.fault ≡ fault) }
     {
         match self.ending() {
             None => self.turn(),
@@ -192,6 +204,7 @@ impl<const N: usize, P: Port> Board<N, P> {
         ensures goes_on { OnErr result (GoesOn N limit self.old.state self.new.state) }
         ensures count { self.old.failed ≤ self.new.failed }
         ensures cause { OnErr result (Rose self.old.failed self.new.failed) }
+        ensures own { IfErr result (λ fault. self.new.fault ≡ fault) }
     {
         for done in 0..limit {
             let None = self.ending() else {
@@ -252,16 +265,18 @@ impl<const N: usize, P: Port> Board<N, P> {
         ensures input { P.input result.now ≡ self.now.state.world.memory.device.input }
         ensures output { P.output result.now ≡ self.now.state.world.memory.device.output }
         ensures failed { P.failed result.now ≡ self.now.failed }
+        ensures calls { P.calls result.now ≡ self.now.calls }
     {
         self.machine.bus().port()
     }
 
     /// The port, to be written to. The board then goes on with the port as it was left; the rest of the board stays.
     pub fn port_mut(&mut self) -> &mut P
-        ensures* writes_back { sem 𝓛 (Lends (the_row N.row P.row P.Port) P.row self.entry result (λ w. with_port self.old (P.input w) (P.output w) (P.failed w))) }
+        ensures* writes_back { sem 𝓛 (Lends (the_row N.row P.row P.Port) P.row self.entry result (λ w. with_port self.old (P.input w) (P.output w) (P.failed w) (P.calls w) (P.fault w))) }
         ensures input { P.input result.now ≡ self.old.state.world.memory.device.input }
         ensures output { P.output result.now ≡ self.old.state.world.memory.device.output }
         ensures failed { P.failed result.now ≡ self.old.failed }
+        ensures calls { P.calls result.now ≡ self.old.calls }
     {
         self.machine.bus_mut().port_mut()
     }

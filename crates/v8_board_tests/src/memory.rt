@@ -2,7 +2,7 @@ use crate::ports::Probe;
 use std::alloc::{AllocError, Global};
 use std::test::Fail;
 use v8_memory::Memory;
-use v8_mmu::{Bus, BusFault, Stop};
+use v8_mmu::{Bus, BusFault, PortFault, Stop};
 use v8_word::Size;
 
 /// A memory over a port with this input.
@@ -13,6 +13,7 @@ fn memory<'a>(alloc: Global, input: &'a [u8]) -> Result<Memory<Probe<'a>>, Alloc
         calls: 0,
         fails: 0,
         failures: 0,
+        last: PortFault::Memory,
     };
     Memory::new(alloc, port)
 }

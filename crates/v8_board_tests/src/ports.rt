@@ -1,5 +1,5 @@
 ghost use Rattle.std.specs.Prelude.{◌≡◌, ℕ, ◌<◌, ◌≤◌};
-ghost use Rattle.v8_mmu.specs.Answers.{Rose};
+ghost use Rattle.v8_mmu.specs.Answers.{Rose, one_more};
 
 use v8_memory::Port;
 use v8_mmu::PortFault;
@@ -13,6 +13,7 @@ pub(crate) struct Probe<'a> {
     pub(crate) calls: u64,
     pub(crate) fails: u64,
     pub(crate) failures: u64,
+    pub(crate) last: PortFault,
 }
 
 impl Probe<'_> {
@@ -20,6 +21,7 @@ impl Probe<'_> {
     fn is_to_fail(&mut self) -> bool
         ensures left { self.new.left ≡ self.old.left }
         ensures kept { self.new.kept ≡ self.old.kept }
+        ensures calls { self.new.calls ≡ one_more self.old.calls }
         ensures failures { self.new.failures ≡ self.old.failures }
     {
         self.calls = self.calls.saturating_add(1);
@@ -33,10 +35,13 @@ impl Probe<'_> {
         ensures fault { result ≡ fault }
         ensures left { self.new.left ≡ self.old.left }
         ensures kept { self.new.kept ≡ self.old.kept }
+        ensures calls { self.new.calls ≡ self.old.calls }
+        ensures last { self.new.last ≡ fault }
         ensures count { self.old.failures ≤ self.new.failures }
         ensures rose { Rose self.old.failures self.new.failures }
     {
         self.failures = self.failures.saturating_add(1);
+        self.last = fault;
         fault
     }
 }
@@ -47,6 +52,10 @@ impl Port for Probe<'_> {
     ghost output = { λ p. p.kept.items };
 
     ghost failed = { λ p. p.failures };
+
+    ghost calls = { λ p. p.calls };
+
+    ghost fault = { λ p. p.last };
 
     fn get(&mut self) -> Result<Option<u8>, PortFault> {
         if self.is_to_fail() {

@@ -1,4 +1,5 @@
 pub mod Memory
 pub mod Accesses
 pub mod Steps
-pub mod Lending
+pub mod Parts
+pub mod Calls

@@ -1,13 +1,15 @@
-ghost use Rattle.std.specs.Prelude.{◌≡◌, ℕ, ◌+◌, ◌*◌, ◌/◌, ◌%◌, ◌^◌, ◌<◌, ◌≤◌, ◌↔◌, IsTrue, IfOk, OnErr, if◌then◌else◌};
-ghost use Rattle.std.specs.Borrow.{sem};
-ghost use Rattle.v8_mmu.specs.Answers.{Rose};
+ghost use Rattle.std.specs.Prelude.{◌≡◌, ℕ, ◌+◌, ◌*◌, ◌/◌, ◌%◌, ◌^◌, ◌<◌, ◌≤◌, ◌↔◌, IsTrue, IfErr, IfOk, OnErr, if◌then◌else◌};
+ghost use Rattle.std.specs.Borrow.{Lends, sem};
+ghost use Rattle.v8_mmu.specs.Answers.{Grows, Rose};
 ghost use Rattle.v8_windows.specs.Windows.{IsFile, reg_of, with_reg};
 ghost use Rattle.v8_state.specs.Registers.{booted, cleared, psr_of, psr_window, started_with, tbr_of, trap_base, with_psr, with_wim};
 ghost use Rattle.v8_core.specs.Accesses.{world};
+ghost use Rattle.v8_core.specs.Calls.{calls_by, most_calls};
 ghost use Rattle.v8_core.specs.Steps.{next};
 
 use crate::step::{try_one, turn_by};
 use crate::turn::{Event, Turn};
+use std::marker::Model;
 use v8_mmu::{Bus, MmuRegs, PortFault};
 use v8_state::Cpu;
 use v8_word::{Reg, TrapType};
@@ -20,8 +22,16 @@ pub struct Machine<const N: usize, B: Bus> {
     bus: B,
 }
 
+impl<const N: usize, B: Bus> Model for Machine<N, B> {
+    ghost use Rattle.v8_core.specs.Parts.{Parts};
+
+    ghost Value = { Parts N B };
+
+    ghost view = { λ m. record { cpu = m.cpu; mmu = m.mmu; bus = m.bus } };
+}
+
 impl<const N: usize, B: Bus> Machine<N, B> {
-    ghost use Rattle.v8_core.specs.Lending.{lends_bus};
+    ghost use Rattle.v8_core.specs.contracts.machine.Machine.{the_row};
 
     /// A machine that has booted; its other registers and Y are 0.
     pub fn new(bus: B, mmu: MmuRegs) -> Self
@@ -51,8 +61,9 @@ impl<const N: usize, B: Bus> Machine<N, B> {
     }
 
     /// One turn (chapters 5 to 7). A machine that has stopped or is in error mode tells that again, without a word or an
-    /// access, and changes nothing. On a fault of the bus's port nothing has changed either, page bits included, and the port's
-    /// count of failures rose; it never falls.
+    /// access, and changes nothing. The port is called at most once: by the access that is told of, where the bus's meaning says
+    /// that it may be, or by the one that it failed. On its fault nothing has changed, page bits included, and its count of failures
+    /// rose, which never falls; the fault is the one that the port answered.
     #[tactic(auto, unfolding(crate::specs::Steps::next))]
     #[inline(always)]
     pub fn step(&mut self) -> Result<Turn, PortFault>
@@ -65,6 +76,8 @@ impl<const N: usize, B: Bus> Machine<N, B> {
         ensures device { OnErr result (B.device self.new.bus ≡ B.device self.old.bus) }
         ensures count { B.failed self.old.bus ≤ B.failed self.new.bus }
         ensures cause { OnErr result (Rose (B.failed self.old.bus) (B.failed self.new.bus)) }
+        ensures calls { Grows (most_calls (λ turn. calls_by B.meaning (B.device self.old.bus) turn.access) result) (B.calls self.old.bus) (B.calls self.new.bus) }
+        ensures own { IfErr result (λ fault. B.fault self.new.bus ≡ fault) }
     {
         if let Some(stop) = self.bus.stop() {
             return Ok(turn_by(&self.cpu, Event::Stopped(stop), None, None));
@@ -225,9 +238,10 @@ impl<const N: usize, B: Bus> Machine<N, B> {
         &self.bus
     }
 
-    /// The bus, to be written to. The machine then goes on with the bus as it was left; the rest of the machine stays.
+    /// The bus, to be written to. The machine then goes on with the bus as it was left; its processor and the registers of its MMU
+    /// stay.
     pub fn bus_mut(&mut self) -> &mut B
-        ensures* writes_back { sem 𝓛 (lends_bus N.row B.row self.entry result) }
+        ensures* writes_back { sem 𝓛 (Lends (the_row N.row B.row B.Bus) B.row self.entry result (λ w. record self.old { bus = w })) }
         ensures value { result.now ≡ self.old.bus }
     {
         &mut self.bus

@@ -4,7 +4,7 @@ use Rattle.std.specs.Int.{w64, from_be_bytes, to_be_bytes}
 use Rattle.std.specs.Option.{option_map}
 use Rattle.v8_word.specs.declared.Size.{Size}
 use Rattle.v8_word.specs.declared.Size.TheVariants.{Byte, Half, Word, Double}
-use Rattle.v8_mmu.specs.Meaning.{Meaning}
+use Rattle.v8_mmu.specs.Meaning.{Meaning, exchanged_after}
 use Rattle.v8_mmu.specs.Ram.{entry_of, with_entry}
 use Rattle.v8_mmu.specs.declared.bus.Stop.{Stop}
 use Rattle.v8_mmu.specs.declared.bus.Stop.TheVariants.{Exit}
@@ -57,5 +57,9 @@ stored_with d None = None
 abbrev pub small_store : List ℕ → Option Stop → ℕ → Size → ℕ → Option (List ℕ × Option Stop)
 small_store ram d at size v = if is_device at size then Some (ram, Some (Exit v)) else stored_with d (ram_store ram at size v)
 
+abbrev pub small_swap : List ℕ → Option Stop → ℕ → Size → ℕ → Option (ℕ × List ℕ × Option Stop)
+small_swap ram d at size v = exchanged_after small_store ram at size v (small_load ram d at size)
+
+-- a port that is broken fails wherever it is called
 abbrev pub small : Meaning (Option Stop)
-small = record { stopped = λ d. d; load = small_load; store = small_store }
+small = record { stopped = λ d. d; load = small_load; store = small_store; swap = small_swap; asks = λ d at size store. true }

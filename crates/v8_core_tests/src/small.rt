@@ -3,7 +3,7 @@
 ghost use Rattle.std.specs.Prelude.{◌≡◌, ℕ, ◌+◌, ◌*◌, ◌/◌, ◌%◌, ◌^◌, ◌<◌, ◌≤◌, take, drop, ◌++◌, length, nat_le, ◌==◌, ◌&&◌, IsTrue, ◌↔◌, IfSome, Some, None, IsSome, false, replicate};
 ghost use Rattle.std.specs.Option.{unwrap_or};
 ghost use Rattle.std.specs.Int.{w32, w64, from_be_bytes, to_be_bytes};
-ghost use Rattle.v8_mmu.specs.Answers.{Rose};
+ghost use Rattle.v8_mmu.specs.Answers.{one_more};
 ghost use Rattle.v8_mmu.specs.Meaning.{limit_of};
 ghost use Rattle.v8_mmu.specs.Ram.{entry_of, with_entry, HasBytes};
 ghost use Rattle.v8_core_tests.specs.Small.{has_half, kept, ram_load, ram_store};
@@ -22,6 +22,7 @@ pub struct Small<const M: usize> {
     stop: Option<Stop>,
     pub broken: bool,
     failures: u64,
+    fault: PortFault,
 }
 
 impl<const M: usize> Small<M> {
@@ -37,6 +38,7 @@ impl<const M: usize> Small<M> {
             stop: None,
             broken: false,
             failures: 0,
+            fault: PortFault::Reader,
         }
     }
 
@@ -57,6 +59,19 @@ impl<const M: usize> Small<M> {
         ensures { result ≡ entry_of self.now.bytes place }
     {
         self.word(place)
+    }
+
+    /// A call of the port that fails.
+    fn fails(&mut self, fault: PortFault) -> BusFault
+        ensures fault { result ≡ BusFault.Port fault }
+        ensures bytes { self.new.bytes ≡ self.old.bytes }
+        ensures stop { self.new.stop ≡ self.old.stop }
+        ensures count { self.new.failures ≡ one_more self.old.failures }
+        ensures last { self.new.fault ≡ fault }
+    {
+        self.failures = self.failures.saturating_add(1);
+        self.fault = fault;
+        BusFault::Port(fault)
     }
 
     fn has(&self, pa: u64, count: u64) -> bool
@@ -109,6 +124,7 @@ impl<const M: usize> Small<M> {
         ensures stop { self.new.stop ≡ self.old.stop }
         ensures broken { self.new.broken ≡ self.old.broken }
         ensures failures { self.new.failures ≡ self.old.failures }
+        ensures fault { self.new.fault ≡ self.old.fault }
     {
         let at = pa as usize;
         let bytes = &mut self.bytes[..];
@@ -297,6 +313,11 @@ impl<const M: usize> Bus for Small<M> {
 
     ghost failed = { λ b. b.failures };
 
+    // Each call of the port fails.
+    ghost calls = { λ b. b.failures };
+
+    ghost fault = { λ b. b.fault };
+
     ghost meaning = { small };
 
     fn entry(&self, pa: u64) -> Option<u32> {
@@ -309,8 +330,7 @@ impl<const M: usize> Bus for Small<M> {
 
     fn read(&mut self, pa: u64, size: Size) -> Result<u64, BusFault> {
         if self.broken {
-            self.failures = self.failures.saturating_add(1);
-            return Err(BusFault::Port(PortFault::Reader));
+            return Err(self.fails(PortFault::Reader));
         }
         match self.answer(pa, size) {
             Some(value) => Ok(value),
@@ -320,8 +340,7 @@ impl<const M: usize> Bus for Small<M> {
 
     fn write(&mut self, pa: u64, size: Size, value: u64) -> Result<(), BusFault> {
         if self.broken {
-            self.failures = self.failures.saturating_add(1);
-            return Err(BusFault::Port(PortFault::Writer));
+            return Err(self.fails(PortFault::Writer));
         }
         if self.take(pa, size, value) {
             Ok(())
@@ -332,8 +351,7 @@ impl<const M: usize> Bus for Small<M> {
 
     fn swap(&mut self, pa: u64, size: Size, value: u64) -> Result<u64, BusFault> {
         if self.broken {
-            self.failures = self.failures.saturating_add(1);
-            return Err(BusFault::Port(PortFault::Memory));
+            return Err(self.fails(PortFault::Memory));
         }
         match self.answer(pa, size) {
             Some(old) => {

@@ -499,345 +499,92 @@ const PROGRAMS: [Program; 47] = [
     },
 ];
 
-/// Words of which the last traps, with the fault status that it leaves.
-#[derive(Clone, Copy)]
-struct Trapping {
-    psr: u32,
-    acc: u32,
-    words: &'static [u32],
-    trap: u8,
-    status: u32,
-}
+/// Words of which the last traps: PSR before them, the pages' ACC, the words, the trap, and the fault status that it leaves.
+type Trapping = (u32, u32, &'static [u32], u8, u32);
 
 const TRAPS: [Trapping; 41] = [
     // sethi 0x20000,%g1; jmpl %g1,%g0; nop
-    Trapping {
-        psr: 0x20,
-        acc: 3,
-        words: &[0x03020000, 0x81C04000, 0x01000000],
-        trap: 0x01,
-        status: 0x56,
-    },
+    (0x20, 3, &[0x03020000, 0x81C04000, 0x01000000], 0x01, 0x56),
     // unimp 0
-    Trapping {
-        psr: 0x20,
-        acc: 3,
-        words: &[0x00000000],
-        trap: 0x02,
-        status: 0x0,
-    },
+    (0x20, 3, &[0x00000000], 0x02, 0x0),
     // rd %psr,%g1
-    Trapping {
-        psr: 0x20,
-        acc: 3,
-        words: &[0x83480000],
-        trap: 0x03,
-        status: 0x0,
-    },
+    (0x20, 3, &[0x83480000], 0x03, 0x0),
     // .word 0x81A00000
-    Trapping {
-        psr: 0x20,
-        acc: 3,
-        words: &[0x81A00000],
-        trap: 0x04,
-        status: 0x0,
-    },
+    (0x20, 3, &[0x81A00000], 0x04, 0x0),
     // .word 0x81B00000
-    Trapping {
-        psr: 0x20,
-        acc: 3,
-        words: &[0x81B00000],
-        trap: 0x24,
-        status: 0x0,
-    },
+    (0x20, 3, &[0x81B00000], 0x24, 0x0),
     // ldf [%g0+%g0],%f0
-    Trapping {
-        psr: 0x20,
-        acc: 3,
-        words: &[0xC1000000],
-        trap: 0x04,
-        status: 0x0,
-    },
+    (0x20, 3, &[0xC1000000], 0x04, 0x0),
     // ldc [%g0+%g0],%c0
-    Trapping {
-        psr: 0x20,
-        acc: 3,
-        words: &[0xC1800000],
-        trap: 0x24,
-        status: 0x0,
-    },
+    (0x20, 3, &[0xC1800000], 0x24, 0x0),
     // fba .+0
-    Trapping {
-        psr: 0x20,
-        acc: 3,
-        words: &[0x11800000],
-        trap: 0x04,
-        status: 0x0,
-    },
+    (0x20, 3, &[0x11800000], 0x04, 0x0),
     // cba .+0
-    Trapping {
-        psr: 0x20,
-        acc: 3,
-        words: &[0x11C00000],
-        trap: 0x24,
-        status: 0x0,
-    },
+    (0x20, 3, &[0x11C00000], 0x24, 0x0),
     // save %g0,%g0,%g0
-    Trapping {
-        psr: 0x22,
-        acc: 3,
-        words: &[0x81E00000],
-        trap: 0x05,
-        status: 0x0,
-    },
+    (0x22, 3, &[0x81E00000], 0x05, 0x0),
     // restore %g0,%g0,%g0
-    Trapping {
-        psr: 0x20,
-        acc: 3,
-        words: &[0x81E80000],
-        trap: 0x06,
-        status: 0x0,
-    },
+    (0x20, 3, &[0x81E80000], 0x06, 0x0),
     // ld [%g0+2],%g1
-    Trapping {
-        psr: 0x20,
-        acc: 3,
-        words: &[0xC2002002],
-        trap: 0x07,
-        status: 0x0,
-    },
+    (0x20, 3, &[0xC2002002], 0x07, 0x0),
     // jmpl %g0+2,%g1
-    Trapping {
-        psr: 0x20,
-        acc: 3,
-        words: &[0x83C02002],
-        trap: 0x07,
-        status: 0x0,
-    },
+    (0x20, 3, &[0x83C02002], 0x07, 0x0),
     // sethi 0x20000,%g1; ld [%g1],%g2
-    Trapping {
-        psr: 0x20,
-        acc: 3,
-        words: &[0x03020000, 0xC4004000],
-        trap: 0x09,
-        status: 0x16,
-    },
+    (0x20, 3, &[0x03020000, 0xC4004000], 0x09, 0x16),
     // or %g0,1,%g1; taddcctv %g1,0,%g2
-    Trapping {
-        psr: 0x20,
-        acc: 3,
-        words: &[0x82102001, 0x85106000],
-        trap: 0x0A,
-        status: 0x0,
-    },
+    (0x20, 3, &[0x82102001, 0x85106000], 0x0A, 0x0),
     // udiv %g1,0,%g2
-    Trapping {
-        psr: 0x20,
-        acc: 3,
-        words: &[0x84706000],
-        trap: 0x2A,
-        status: 0x0,
-    },
+    (0x20, 3, &[0x84706000], 0x2A, 0x0),
     // ta 5
-    Trapping {
-        psr: 0x20,
-        acc: 3,
-        words: &[0x91D02005],
-        trap: 0x85,
-        status: 0x0,
-    },
+    (0x20, 3, &[0x91D02005], 0x85, 0x0),
     // ldd [%g0+1],%g1
-    Trapping {
-        psr: 0x20,
-        acc: 3,
-        words: &[0xC2182001],
-        trap: 0x02,
-        status: 0x0,
-    },
+    (0x20, 3, &[0xC2182001], 0x02, 0x0),
     // std %g1,[%g0+1]
-    Trapping {
-        psr: 0x20,
-        acc: 3,
-        words: &[0xC2382001],
-        trap: 0x02,
-        status: 0x0,
-    },
+    (0x20, 3, &[0xC2382001], 0x02, 0x0),
     // lda [%g0+%g0] 0xB,%g1
-    Trapping {
-        psr: 0x20,
-        acc: 3,
-        words: &[0xC2800160],
-        trap: 0x03,
-        status: 0x0,
-    },
+    (0x20, 3, &[0xC2800160], 0x03, 0x0),
     // lda [%g0+1],%g1
-    Trapping {
-        psr: 0x20,
-        acc: 3,
-        words: &[0xC2802001],
-        trap: 0x03,
-        status: 0x0,
-    },
+    (0x20, 3, &[0xC2802001], 0x03, 0x0),
     // lda [%g0+1],%g1
-    Trapping {
-        psr: 0xA0,
-        acc: 3,
-        words: &[0xC2802001],
-        trap: 0x02,
-        status: 0x0,
-    },
+    (0xA0, 3, &[0xC2802001], 0x02, 0x0),
     // ldda [%g0+%g0] 0xB,%g1
-    Trapping {
-        psr: 0xA0,
-        acc: 3,
-        words: &[0xC2980160],
-        trap: 0x02,
-        status: 0x0,
-    },
+    (0xA0, 3, &[0xC2980160], 0x02, 0x0),
     // or %g0,2,%g1; lda [%g1+%g0] 0x20,%g2
-    Trapping {
-        psr: 0xA0,
-        acc: 3,
-        words: &[0x82102002, 0xC4804400],
-        trap: 0x07,
-        status: 0x0,
-    },
+    (0xA0, 3, &[0x82102002, 0xC4804400], 0x07, 0x0),
     // lda [%g0+%g0] 0x20,%g1
-    Trapping {
-        psr: 0xA0,
-        acc: 3,
-        words: &[0xC2800400],
-        trap: 0x09,
-        status: 0x0,
-    },
+    (0xA0, 3, &[0xC2800400], 0x09, 0x0),
     // rett %g0
-    Trapping {
-        psr: 0x20,
-        acc: 3,
-        words: &[0x81C80000],
-        trap: 0x03,
-        status: 0x0,
-    },
+    (0x20, 3, &[0x81C80000], 0x03, 0x0),
     // rett %g0+2
-    Trapping {
-        psr: 0xA0,
-        acc: 3,
-        words: &[0x81C82002],
-        trap: 0x02,
-        status: 0x0,
-    },
+    (0xA0, 3, &[0x81C82002], 0x02, 0x0),
     // wr %g0,0x88,%psr
-    Trapping {
-        psr: 0x20,
-        acc: 3,
-        words: &[0x81882088],
-        trap: 0x03,
-        status: 0x0,
-    },
+    (0x20, 3, &[0x81882088], 0x03, 0x0),
     // wr %g0,0x88,%psr
-    Trapping {
-        psr: 0xA0,
-        acc: 3,
-        words: &[0x81882088],
-        trap: 0x02,
-        status: 0x0,
-    },
+    (0xA0, 3, &[0x81882088], 0x02, 0x0),
     // lda [%g0+%g0] 0xA,%g1
-    Trapping {
-        psr: 0xA0,
-        acc: 4,
-        words: &[0xC2800140],
-        trap: 0x09,
-        status: 0xA,
-    },
+    (0xA0, 4, &[0xC2800140], 0x09, 0xA),
     // lda [%g0+%g0] 0xB,%g1
-    Trapping {
-        psr: 0xA0,
-        acc: 4,
-        words: &[0xC2800160],
-        trap: 0x09,
-        status: 0x2A,
-    },
+    (0xA0, 4, &[0xC2800160], 0x09, 0x2A),
     // sta %g0,[%g0+%g0] 8
-    Trapping {
-        psr: 0xA0,
-        acc: 4,
-        words: &[0xC0A00100],
-        trap: 0x09,
-        status: 0xCA,
-    },
+    (0xA0, 4, &[0xC0A00100], 0x09, 0xCA),
     // sta %g0,[%g0+%g0] 9
-    Trapping {
-        psr: 0xA0,
-        acc: 4,
-        words: &[0xC0A00120],
-        trap: 0x09,
-        status: 0xEA,
-    },
+    (0xA0, 4, &[0xC0A00120], 0x09, 0xEA),
     // sta %g0,[%g0+%g0] 0xA
-    Trapping {
-        psr: 0xA0,
-        acc: 4,
-        words: &[0xC0A00140],
-        trap: 0x09,
-        status: 0x8A,
-    },
+    (0xA0, 4, &[0xC0A00140], 0x09, 0x8A),
     // sta %g0,[%g0+%g0] 0xB
-    Trapping {
-        psr: 0xA0,
-        acc: 4,
-        words: &[0xC0A00160],
-        trap: 0x09,
-        status: 0xAA,
-    },
+    (0xA0, 4, &[0xC0A00160], 0x09, 0xAA),
     // swapa [%g0+%g0] 0xB,%g1
-    Trapping {
-        psr: 0xA0,
-        acc: 4,
-        words: &[0xC2F80160],
-        trap: 0x09,
-        status: 0xAA,
-    },
+    (0xA0, 4, &[0xC2F80160], 0x09, 0xAA),
     // lda [%g0+%g0] 8,%g1
-    Trapping {
-        psr: 0xA0,
-        acc: 7,
-        words: &[0xC2800100],
-        trap: 0x09,
-        status: 0x4E,
-    },
+    (0xA0, 7, &[0xC2800100], 0x09, 0x4E),
     // lda [%g0+%g0] 0xA,%g1
-    Trapping {
-        psr: 0xA0,
-        acc: 7,
-        words: &[0xC2800140],
-        trap: 0x09,
-        status: 0xE,
-    },
+    (0xA0, 7, &[0xC2800140], 0x09, 0xE),
     // sta %g0,[%g0+%g0] 8
-    Trapping {
-        psr: 0xA0,
-        acc: 7,
-        words: &[0xC0A00100],
-        trap: 0x09,
-        status: 0xCE,
-    },
+    (0xA0, 7, &[0xC0A00100], 0x09, 0xCE),
     // sta %g0,[%g0+%g0] 0xA
-    Trapping {
-        psr: 0xA0,
-        acc: 7,
-        words: &[0xC0A00140],
-        trap: 0x09,
-        status: 0x8E,
-    },
+    (0xA0, 7, &[0xC0A00140], 0x09, 0x8E),
     // ldstuba [%g0+%g0] 0xA,%g1
-    Trapping {
-        psr: 0xA0,
-        acc: 7,
-        words: &[0xC2E80140],
-        trap: 0x09,
-        status: 0x8E,
-    },
+    (0xA0, 7, &[0xC2E80140], 0x09, 0x8E),
 ];
 
 // PSR and WIM before the word, and the trap that leads to error mode
@@ -910,30 +657,31 @@ fn first_end(machine: &mut Tested) -> Option<Event> {
 }
 
 /// Whether a machine has entered the trap of a case: at its vector, traps disabled, the mode before it kept.
-fn has_entered(machine: &Tested, case: &Trapping) -> bool {
-    machine.pc() == VECTORS + u32::from(case.trap) * 16
+fn has_entered(machine: &Tested, psr: u32, trap: u8) -> bool {
+    machine.pc() == VECTORS + u32::from(trap) * 16
         && machine.npc() == machine.pc().wrapping_add(4)
-        && machine.psr() & 0xE0 == 0x80 + (case.psr & 0x80) / 2
+        && machine.psr() & 0xE0 == 0x80 + (psr & 0x80) / 2
         && machine.reg(Reg::L2) == machine.reg(Reg::L1).wrapping_add(4)
 }
 
 /// What traps writes no register: no word before it sets %g2, and before the first word %g1 is 0.
-fn wrote_no_register(machine: &Tested, case: &Trapping) -> bool {
-    global(machine, 2) == 0 && (case.words.len() > 1 || global(machine, 1) == 0)
+fn wrote_no_register(machine: &Tested, words: &[u32]) -> bool {
+    global(machine, 2) == 0 && (words.len() > 1 || global(machine, 1) == 0)
 }
 
 fn traps_as_told(case: &Trapping) -> bool {
-    let mut machine = machine(case.acc, case.psr, case.words);
-    first_end(&mut machine) == Some(Event::Trapped(TrapType::new(case.trap)))
-        && machine.fault_status() == case.status
-        && has_entered(&machine, case)
-        && wrote_no_register(&machine, case)
+    let (psr, acc, words, trap, status) = *case;
+    let mut machine = machine(acc, psr, words);
+    first_end(&mut machine) == Some(Event::Trapped(TrapType::new(trap)))
+        && machine.fault_status() == status
+        && has_entered(&machine, psr, trap)
+        && wrote_no_register(&machine, words)
 }
 
 #[test]
 fn traps_are_told_by_priority(rt: HostRuntime) {
     for case in &TRAPS {
-        assert!(rt; traps_as_told(case), "{:?} {}", case.words, case.psr);
+        assert!(rt; traps_as_told(case), "{:?} {}", case.2, case.0);
     }
 }
 

@@ -1,10 +1,10 @@
 -- What the board's bus does: 1 MiB of RAM from physical address 0, and a device of four word registers at 100000000.
-use Rattle.std.specs.Prelude.{ℕ, ◌≡◌, ◌-◌, ◌%◌, ◌^◌, ◌==◌, ◌&&◌, not, Bool, true, false, List, [], ◌∷◌, ◌++◌, length, slice_index, nat_lt, Option, Some, None, if◌then◌else◌}
+use Rattle.std.specs.Prelude.{ℕ, ◌≡◌, ◌+◌, ◌-◌, ◌%◌, ◌^◌, ◌==◌, ◌&&◌, not, Bool, true, false, List, [], ◌∷◌, ◌++◌, length, slice_index, nat_lt, Option, Some, None, if◌then◌else◌}
 use Rattle.v8_word.specs.declared.Size.{Size}
 use Rattle.v8_word.specs.declared.Size.TheVariants as sizes
 use Rattle.v8_mmu.specs.declared.bus.Stop.{Stop}
 use Rattle.v8_mmu.specs.declared.bus.Stop.TheVariants.{Exit, Trapped}
-use Rattle.v8_mmu.specs.Meaning.{Meaning}
+use Rattle.v8_mmu.specs.Meaning.{Meaning, exchanged_after}
 use Rattle.v8_mmu.specs.Ram.{number_at, with_number}
 use Rattle.v8_memory.specs.Input.{next_byte}
 
@@ -85,5 +85,14 @@ unfoldable pub board_store : List ℕ → Device → ℕ → Size → ℕ → Op
 board_store ram d pa size v =
     if nat_lt pa device_base then overwritten ram d pa size v (number_at ram pa size) else with_ram ram (device_store d (pa - device_base) size v)
 
+-- an exchange is a load and then a store: the device has no register that answers both
+abbrev pub board_swap : List ℕ → Device → ℕ → Size → ℕ → Option (ℕ × List ℕ × Device)
+board_swap ram d pa size v = exchanged_after board_store ram pa size v (board_load ram d pa size)
+
+-- the port is called by a load of the first register while the input hasn't ended, and by a store to the second one
+abbrev pub board_asks : Device → ℕ → Size → Bool → Bool
+board_asks d pa size false = is_word size && pa == device_base && not d.ended
+board_asks d pa size true = is_word size && pa == device_base + 4
+
 abbrev pub board : Meaning Device
-board = record { stopped = λ d. d.stopped; load = board_load; store = board_store }
+board = record { stopped = λ d. d.stopped; load = board_load; store = board_store; swap = board_swap; asks = board_asks }

@@ -1,6 +1,6 @@
-ghost use Rattle.std.specs.Prelude.{◌≡◌, ℕ, ◌+◌, ◌*◌, ◌%◌, ◌-◌, ◌^◌, ◌<◌, ◌≤◌, [], length, IfOk, OnOk, OnErr, None, false, Option};
+ghost use Rattle.std.specs.Prelude.{◌≡◌, ℕ, ◌+◌, ◌*◌, ◌%◌, ◌-◌, ◌^◌, ◌<◌, ◌≤◌, ◌==◌, not, [], length, IfErr, IfOk, OnOk, OnErr, None, false, Option};
 ghost use Rattle.std.specs.Borrow.{sem};
-ghost use Rattle.v8_mmu.specs.Answers.{OnPort, OnUnanswered, Rose};
+ghost use Rattle.v8_mmu.specs.Answers.{Grows, IfPort, OnPort, OnUnanswered, Rose, call_if, calls_of};
 ghost use Rattle.v8_memory.specs.Placing.{HasWords, HasBytesOf};
 ghost use Rattle.v8_mmu.specs.Ram.{entry_of};
 ghost use Rattle.v8_memory.specs.Board.{IsBlank, device_store, gets, seen};
@@ -119,6 +119,8 @@ impl<P: Port> Memory<P> {
         ensures output { P.output self.new.port ≡ P.output self.old.port }
         ensures count { P.failed self.old.port ≤ P.failed self.new.port }
         ensures cause { OnErr result (Rose (P.failed self.old.port) (P.failed self.new.port)) }
+        ensures calls { Grows (call_if (not self.old.ended)) (P.calls self.old.port) (P.calls self.new.port) }
+        ensures own { IfErr result (λ fault. P.fault self.new.port ≡ fault) }
     {
         if self.ended {
             return Ok(NO_BYTE);
@@ -146,6 +148,8 @@ impl<P: Port> Memory<P> {
         ensures output { OnErr result (P.output self.new.port ≡ P.output self.old.port) }
         ensures count { P.failed self.old.port ≤ P.failed self.new.port }
         ensures cause { OnPort result (Rose (P.failed self.old.port) (P.failed self.new.port)) }
+        ensures calls { Grows (calls_of (place == 4) result) (P.calls self.old.port) (P.calls self.new.port) }
+        ensures own { IfPort result (λ fault. P.fault self.new.port ≡ fault) }
     {
         match place {
             4 => match self.port.put((value & 0xFF) as u8) {
@@ -176,6 +180,10 @@ impl<P: Port> Bus for Memory<P> {
     ghost device = { λ m. seen (P.input m.port) m.ended (P.output m.port) m.stopped };
 
     ghost failed = { λ m. P.failed m.port };
+
+    ghost calls = { λ m. P.calls m.port };
+
+    ghost fault = { λ m. P.fault m.port };
 
     ghost meaning = { board };
 

@@ -2,10 +2,12 @@ use v8_mmu::PortFault;
 
 /// A source of input bytes and a sink of output bytes.
 ///
-/// An implementor says which bytes it has yet to give, which it was given, and how often it has failed.
+/// An implementor says which bytes it has yet to give, which it was given, how often it was called and has failed, and which
+/// fault it answered last.
 pub trait Port: Drop {
-    ghost use Rattle.std.specs.Prelude.{◌≡◌, ℕ, ◌≤◌, List, [], ◌∷◌, ◌++◌, IfOk, OnOk, OnErr};
-    ghost use Rattle.v8_mmu.specs.Answers.{Rose};
+    ghost use Rattle.std.specs.Prelude.{◌≡◌, ℕ, ◌≤◌, List, [], ◌∷◌, ◌++◌, IfErr, IfOk, OnOk, OnErr};
+    ghost use Rattle.v8_mmu.specs.Answers.{Rose, one_more};
+    ghost use Rattle.v8_mmu.specs.declared.bus.PortFault.{PortFault};
     ghost use Rattle.v8_memory.specs.Input.{next_byte};
 
     /// The bytes that it has yet to give.
@@ -17,13 +19,21 @@ pub trait Port: Drop {
     /// How often it has failed. A count of 2^64 - 1 stays there.
     ghost failed: { Self → ℕ };
 
+    /// How often it was called, to give a byte or to take one. A count of 2^64 - 1 stays there.
+    ghost calls: { Self → ℕ };
+
+    /// The fault that it answered last, once it has failed.
+    ghost fault: { Self → PortFault };
+
     /// The next byte, or None at the end of the input. A fault leaves input and output as they were.
     fn get(&mut self) -> Result<Option<u8>, PortFault>
         ensures byte { IfOk result (λ byte. next_byte (input self.old) ≡ (byte, input self.new)) }
         ensures input { OnErr result (input self.new ≡ input self.old) }
         ensures output { output self.new ≡ output self.old }
         ensures count { failed self.old ≤ failed self.new }
-        ensures cause { OnErr result (Rose (failed self.old) (failed self.new)) };
+        ensures cause { OnErr result (Rose (failed self.old) (failed self.new)) }
+        ensures calls { calls self.new ≡ one_more (calls self.old) }
+        ensures own { IfErr result (λ f. fault self.new ≡ f) };
 
     /// Puts a byte out. A fault leaves input and output as they were.
     fn put(&mut self, byte: u8) -> Result<(), PortFault>
@@ -31,7 +41,9 @@ pub trait Port: Drop {
         ensures output { OnErr result (output self.new ≡ output self.old) }
         ensures input { input self.new ≡ input self.old }
         ensures count { failed self.old ≤ failed self.new }
-        ensures cause { OnErr result (Rose (failed self.old) (failed self.new)) };
+        ensures cause { OnErr result (Rose (failed self.old) (failed self.new)) }
+        ensures calls { calls self.new ≡ one_more (calls self.old) }
+        ensures own { IfErr result (λ f. fault self.new ≡ f) };
 
     /// How often it has failed, up to 2^64 - 1.
     fn failures(&self) -> u64

@@ -2,10 +2,11 @@
 use Rattle.std.proofs.Common.{◌≡◌, ℕ, ◌+◌, ◌-◌, ◌/◌, ◌%◌, ◌^◌, ◌<◌, ◌≤◌, ◌⊎◌, inl, inr, Bool, true, false, List, ◌++◌, length, take, drop, Option, Some, None, refl, sym, ap, ◌∙◌, arith}
 use Rattle.std.specs.Int.{w32, from_be_bytes, to_be_bytes}
 use Rattle.std.specs.Prelude.{◌==◌, ◌&&◌, nat_le, bit_or, slice_index, if◌then◌else◌}
-use Rattle.std.proofs.lemmas.List.{take-take, drop-take, take-append-le, drop-append-le, length-take-le, length-append, append_assoc, length-drop, get_or_append_left, get_or-append_right, get_or-take, get_or-drop}
+use Rattle.std.proofs.lemmas.List.{take-take, drop-take, take-append-le, drop-append-le, length-take-le, length-append, append_assoc, length-take, length-drop, get_or_append_left, get_or-append_right, get_or-take, get_or-drop}
+use Rattle.std.proofs.lemmas.Grind.{same_number_lists}
 use Rattle.std.proofs.lemmas.Slice.{drop-append-drop}
 use Rattle.std.proofs.lemmas.Nat.{or_shr, or_mod, or_comm}
-use Rattle.v8_mmu.specs.Ram.{entry_of, with_entry}
+use Rattle.v8_mmu.specs.Ram.{KeepsWords, entry_of, with_entry}
 use Rattle.v8_mmu.specs.Paths.{marked, marked_ram}
 use Rattle.v8_mmu.specs.Laws.{Marks}
 use Rattle.v8_mmu.proofs.RamLemmas.{Within, entry_is, length-with_entry, entry_of-with_entry, length-marked_ram}
@@ -46,6 +47,21 @@ entry_by ram p = refl
 word_stays : (old new : List ℕ) (p : ℕ) → length new ≡ length old → take 4 (drop p new) ≡ take 4 (drop p old) → entry_of new p ≡ entry_of old p
 word_stays old new p size bytes =
     entry_by new p ∙ ap (λ b. word_by b (length new) p) bytes ∙ ap (λ k. word_by (take 4 (drop p old)) k p) size ∙ sym (entry_by old p)
+
+four_same : (old new : List ℕ) (p : ℕ) → length new ≡ length old → ((j : ℕ) → p ≤ j → j < p + 4 → slice_index new j ≡ slice_index old j) → take 4 (drop p new) ≡ take 4 (drop p old)
+four_same old new p size same =
+    same_number_lists (take 4 (drop p new)) (take 4 (drop p old))
+    (omega (arith, length-take 4 (drop p new), length-take 4 (drop p old), length-drop p new, length-drop p old))
+    (λ k less.
+    let few : k < 4 = omega (arith, length-take 4 (drop p new)) in
+    get_or-take 4 (drop p new) k 0 few ∙ get_or-drop p new k 0 ∙ same (p + k) (omega arith) (omega arith)
+    ∙ sym (get_or-drop p old k 0) ∙ sym (get_or-take 4 (drop p old) k 0 few))
+
+-- where all bytes but these stay, so do the words without one of them
+pub words_kept : (old new : List ℕ) (at count : ℕ) → length new ≡ length old → ((j : ℕ) → (j < at) ⊎ (at + count ≤ j) → slice_index new j ≡ slice_index old j) → KeepsWords old new at count
+words_kept old new at count size same p apart =
+    word_stays old new p size
+    (four_same old new p size (λ j low high. same j (elim apart [ inl before ↦ inl (omega arith) | inr past ↦ inr (omega arith) ])))
 
 -- a word elsewhere stays
 pub entry_elsewhere : (ram : List ℕ) (at p w : ℕ) → Within ram at → (p + 4 ≤ at) ⊎ (at + 4 ≤ p) → entry_of (with_entry ram at w) p ≡ entry_of ram p

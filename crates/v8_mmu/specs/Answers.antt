@@ -1,5 +1,6 @@
--- Facts for each kind of a bus's answer.
-use Rattle.std.specs.Prelude.{ℕ, ◌-◌, ◌^◌, ◌<◌, Result, Ok, Err}
+-- Facts for each kind of a bus's answer, and the counts of a port's calls and failures.
+use Rattle.std.specs.Prelude.{ℕ, ◌+◌, ◌-◌, ◌^◌, ◌<◌, ◌≤◌, ◌==◌, Bool, true, false, Result, Ok, Err, if◌then◌else◌}
+use Rattle.v8_mmu.specs.declared.bus.PortFault.{PortFault}
 use Rattle.v8_mmu.specs.declared.bus.BusFault.{BusFault}
 use Rattle.v8_mmu.specs.declared.bus.BusFault.TheVariants.{Unanswered, Port}
 
@@ -14,6 +15,31 @@ abbrev pub OnPort : {T : Type 0} → Result T BusFault → Type 0 → Type 0
 OnPort (Ok x) P = Unit {0}
 OnPort (Err Unanswered) P = Unit {0}
 OnPort (Err (Port p)) P = P
+
+-- a fact of the port's fault
+abbrev pub IfPort : {T : Type 0} → Result T BusFault → (PortFault → Type 0) → Type 0
+IfPort (Ok x) P = Unit {0}
+IfPort (Err Unanswered) P = Unit {0}
+IfPort (Err (Port p)) P = P p
+
+-- one more, up to the greatest number of 64 bits, where a count stays
+abbrev pub one_more : ℕ → ℕ
+one_more k = if k == 2 ^ 64 - 1 then k else k + 1
+
+-- a count rose by at most so much
+abbrev pub Grows : ℕ → ℕ → ℕ → Type 0
+Grows most old new = (old ≤ new) × (new ≤ old + most)
+
+-- how many calls of the port this allows
+abbrev pub call_if : Bool → ℕ
+call_if true = 1
+call_if false = 0
+
+-- the most calls of the port in an access with this answer, which may call it or not: none where nothing answers
+abbrev pub calls_of : {T : Type 0} → Bool → Result T BusFault → ℕ
+calls_of asks (Ok x) = call_if asks
+calls_of asks (Err Unanswered) = 0
+calls_of asks (Err (Port p)) = call_if asks
 
 -- a count of failures rose, unless it stood at the greatest number of 64 bits
 abbrev pub Rose : ℕ → ℕ → Type 0

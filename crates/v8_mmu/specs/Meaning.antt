@@ -1,5 +1,5 @@
 -- What a bus does, as functions of its RAM and its device.
-use Rattle.std.specs.Prelude.{ℕ, ◌^◌, List, Option, Some, None}
+use Rattle.std.specs.Prelude.{ℕ, ◌^◌, Bool, List, Option, Some, None}
 use Rattle.v8_word.specs.declared.Size.{Size}
 use Rattle.v8_word.specs.declared.Size.TheVariants.{Byte, Half, Word, Double}
 use Rattle.v8_mmu.specs.declared.bus.Stop.{Stop}
@@ -12,6 +12,11 @@ pub record Meaning (D : Type 0) : Type 0 where
   pub load : List ℕ → D → ℕ → Size → Option (ℕ × D)
   -- RAM, device, place, size, value: the RAM and the device afterwards; None where nothing answers
   pub store : List ℕ → D → ℕ → Size → ℕ → Option (List ℕ × D)
+  -- RAM, device, place, size, value, of an exchange, which is one access: the value that was there, and the RAM and the device
+  -- afterwards; None where nothing answers
+  pub swap : List ℕ → D → ℕ → Size → ℕ → Option (ℕ × List ℕ × D)
+  -- device, place, size, whether it is a store or an exchange: whether an access there may call the port
+  pub asks : D → ℕ → Size → Bool → Bool
 
 -- how many bytes a number of this size has
 abbrev pub bytes_in : Size → ℕ
@@ -31,10 +36,8 @@ abbrev pub stored_after : {D : Type 0} → ℕ → Option (List ℕ × D) → Op
 stored_after old (Some new) = Some (old, new.0, new.1)
 stored_after old None = None
 
-abbrev pub exchanged_after : {D : Type 0} → Meaning D → List ℕ → ℕ → Size → ℕ → Option (ℕ × D) → Option (ℕ × List ℕ × D)
-exchanged_after m ram at size value (Some loaded) = stored_after loaded.0 (m.store ram loaded.1 at size value)
-exchanged_after m ram at size value None = None
-
--- A load and a store at one place: the old value, and the RAM and the device afterwards. Nothing answers where either has no answer.
-abbrev pub exchanged : {D : Type 0} → Meaning D → List ℕ → D → ℕ → Size → ℕ → Option (ℕ × List ℕ × D)
-exchanged m ram device at size value = exchanged_after m ram at size value (m.load ram device at size)
+-- After a load at a place, a store there: the old value, and the RAM and the device afterwards. Nothing answers where either has no
+-- answer. The exchange of a bus that takes it for a load and a store.
+abbrev pub exchanged_after : {D : Type 0} → (List ℕ → D → ℕ → Size → ℕ → Option (List ℕ × D)) → List ℕ → ℕ → Size → ℕ → Option (ℕ × D) → Option (ℕ × List ℕ × D)
+exchanged_after store ram at size value (Some loaded) = stored_after loaded.0 (store ram loaded.1 at size value)
+exchanged_after store ram at size value None = None

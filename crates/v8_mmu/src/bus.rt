@@ -24,13 +24,15 @@ pub enum Stop {
 
 /// RAM and a device at physical addresses of 36 bits. Memory is big-endian.
 ///
-/// An implementor says what its RAM holds, what state its device is in, how often its port has failed, and, as its
-/// `meaning`, what loads and stores do with them.
+/// An implementor says what its RAM holds, what state its device is in, how often its port was called and has failed, which
+/// fault the port answered last, and, as its `meaning`, what loads, stores and exchanges do with RAM and device, and which of
+/// them may call the port. An access calls the port at most once, and writes no byte of RAM but those that it stores.
 pub trait Bus {
-    ghost use Rattle.v8_mmu.specs.Meaning.{Meaning, limit_of, exchanged};
-    ghost use Rattle.v8_mmu.specs.Ram.{entry_of, with_entry, HasBytes};
-    ghost use Rattle.v8_mmu.specs.Answers.{OnUnanswered, OnPort, Rose};
-    ghost use Rattle.std.specs.Prelude.{◌≡◌, ℕ, ◌<◌, ◌≤◌, List, Option, Some, None, IsSome, IfOk, OnOk, OnErr};
+    ghost use Rattle.v8_mmu.specs.Meaning.{Meaning, bytes_in, limit_of};
+    ghost use Rattle.v8_mmu.specs.Ram.{entry_of, with_entry, HasBytes, KeepsWords};
+    ghost use Rattle.v8_mmu.specs.Answers.{Grows, IfPort, OnUnanswered, OnPort, Rose, calls_of};
+    ghost use Rattle.v8_mmu.specs.declared.bus.PortFault.{PortFault};
+    ghost use Rattle.std.specs.Prelude.{◌≡◌, ℕ, ◌<◌, ◌≤◌, List, Option, Some, None, true, false, IsSome, IfOk, OnOk, OnErr};
 
     /// What the device's state is.
     ghost Device: { Type 0 };
@@ -43,6 +45,12 @@ pub trait Bus {
 
     /// How often the port has failed. A count of 2^64 - 1 stays there.
     ghost failed: { Self → ℕ };
+
+    /// How often the port was called. A count of 2^64 - 1 stays there.
+    ghost calls: { Self → ℕ };
+
+    /// The fault that the port answered last, once it has failed.
+    ghost fault: { Self → PortFault };
 
     /// What answers where, and what an access does.
     ghost meaning: { Meaning Device };
@@ -57,7 +65,9 @@ pub trait Bus {
         requires { IsSome (entry_of (ram self.old) pa) }
         ensures ram { ram self.new ≡ with_entry (ram self.old) pa word }
         ensures device { device self.new ≡ device self.old }
-        ensures failed { failed self.new ≡ failed self.old };
+        ensures failed { failed self.new ≡ failed self.old }
+        ensures calls { calls self.new ≡ calls self.old }
+        ensures fault { fault self.new ≡ fault self.old };
 
     /// The number in the bytes of this size at `pa`, most significant byte first.
     fn read(&mut self, pa: u64, size: Size) -> Result<u64, BusFault>
@@ -67,28 +77,36 @@ pub trait Bus {
         ensures ram { ram self.new ≡ ram self.old }
         ensures device { OnErr result (device self.new ≡ device self.old) }
         ensures count { failed self.old ≤ failed self.new }
-        ensures port { OnPort result (Rose (failed self.old) (failed self.new)) };
+        ensures calls { Grows (calls_of (meaning.asks (device self.old) pa size false) result) (calls self.old) (calls self.new) }
+        ensures port { OnPort result (Rose (failed self.old) (failed self.new)) }
+        ensures own { IfPort result (λ f. fault self.new ≡ f) };
 
     /// Writes a number to the bytes of this size at `pa`.
     fn write(&mut self, pa: u64, size: Size, value: u64) -> Result<(), BusFault>
         requires { value < limit_of size }
         ensures ok { OnOk result (meaning.store (ram self.old) (device self.old) pa size value ≡ Some (ram self.new, device self.new)) }
         ensures refused { OnUnanswered result (meaning.store (ram self.old) (device self.old) pa size value ≡ None) }
+        ensures elsewhere { KeepsWords (ram self.old) (ram self.new) pa (bytes_in size) }
         ensures ram { OnErr result (ram self.new ≡ ram self.old) }
         ensures device { OnErr result (device self.new ≡ device self.old) }
         ensures count { failed self.old ≤ failed self.new }
-        ensures port { OnPort result (Rose (failed self.old) (failed self.new)) };
+        ensures calls { Grows (calls_of (meaning.asks (device self.old) pa size true) result) (calls self.old) (calls self.new) }
+        ensures port { OnPort result (Rose (failed self.old) (failed self.new)) }
+        ensures own { IfPort result (λ f. fault self.new ≡ f) };
 
     /// Writes a number to the bytes of this size at `pa` and gives the number that was there, as one access.
     fn swap(&mut self, pa: u64, size: Size, value: u64) -> Result<u64, BusFault>
         requires { value < limit_of size }
         ensures small { IfOk result (λ v. v < limit_of size) }
-        ensures ok { IfOk result (λ v. exchanged meaning (ram self.old) (device self.old) pa size value ≡ Some (v, ram self.new, device self.new)) }
-        ensures refused { OnUnanswered result (exchanged meaning (ram self.old) (device self.old) pa size value ≡ None) }
+        ensures ok { IfOk result (λ v. meaning.swap (ram self.old) (device self.old) pa size value ≡ Some (v, ram self.new, device self.new)) }
+        ensures refused { OnUnanswered result (meaning.swap (ram self.old) (device self.old) pa size value ≡ None) }
+        ensures elsewhere { KeepsWords (ram self.old) (ram self.new) pa (bytes_in size) }
         ensures ram { OnErr result (ram self.new ≡ ram self.old) }
         ensures device { OnErr result (device self.new ≡ device self.old) }
         ensures count { failed self.old ≤ failed self.new }
-        ensures port { OnPort result (Rose (failed self.old) (failed self.new)) };
+        ensures calls { Grows (calls_of (meaning.asks (device self.old) pa size true) result) (calls self.old) (calls self.new) }
+        ensures port { OnPort result (Rose (failed self.old) (failed self.new)) }
+        ensures own { IfPort result (λ f. fault self.new ≡ f) };
 
     /// What stopped the machine, once something has.
     fn stop(&self) -> Option<Stop>

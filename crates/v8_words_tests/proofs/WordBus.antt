@@ -5,9 +5,10 @@ use Rattle.std.specs.Int.{w32, from_be_bytes, to_be_bytes}
 use Rattle.std.proofs.lemmas.Bool.Decides.{nat_tests}
 use Rattle.std.proofs.lemmas.List.{take_at, drop_at, drop_more, length-append, append_assoc, take-append-drop, length-take-le, set_split}
 use Rattle.std.proofs.lemmas.Nat.{from_be_bytes-to_be_bytes_4}
-use Rattle.v8_mmu.specs.Ram.{entry_of, with_entry, HasBytes}
+use Rattle.v8_mmu.specs.Ram.{KeepsWords, entry_of, with_entry, HasBytes}
 use Rattle.v8_words_tests.specs.WordBus.{bytes_of}
 use Rattle.v8_mmu.proofs.RamLemmas.{within_entry, entry_is}
+use Rattle.v8_mmu.proofs.RamMore.{entry_elsewhere}
 
 four : (w : ℕ) → length (to_be_bytes w32 w) ≡ 4
 four w = refl
@@ -100,3 +101,11 @@ number_of ws pa (Some w) e h =
 
 pub has_number : (ws : List ℕ) (pa : ℕ) → IsSome (entry_of (bytes_of ws) pa) → HasNumber ws pa
 has_number ws pa h = number_of ws pa (entry_of (bytes_of ws) pa) refl h
+
+beside_by : (old new : List ℕ) (at w : ℕ) (o : Option ℕ) → entry_of old at ≡ o → IsSome o → new ≡ with_entry old at w → KeepsWords old new at 4
+beside_by old new at w (Some x) is there made = λ p apart. ap (λ r. entry_of r p) made ∙ entry_elsewhere old at p w (entry_is old at x is).0 apart
+beside_by old new at w None is there made = λ p apart. let bad : false ≡ true = there in cc
+
+-- a word that was written keeps the words beside it
+pub words_beside : (old new : List ℕ) (at w : ℕ) → IsSome (entry_of old at) → new ≡ with_entry old at w → KeepsWords old new at 4
+words_beside old new at w there made = beside_by old new at w (entry_of old at) refl there made

@@ -19,6 +19,7 @@ struct Words<const M: usize> {
 
 impl<const M: usize> Bus for Words<M> {
     ghost use Rattle.v8_words_tests.specs.WordBus.{word_bus, bytes_of};
+    ghost use Rattle.v8_mmu.specs.declared.bus.PortFault.TheVariants as faults;
 
     ghost Device = { Unit {0} };
 
@@ -27,6 +28,10 @@ impl<const M: usize> Bus for Words<M> {
     ghost device = { λ b. tt };
 
     ghost failed = { λ b. 0 };
+
+    ghost calls = { λ b. 0 };
+
+    ghost fault = { λ b. faults.Memory };
 
     ghost meaning = { word_bus };
 
