@@ -2,7 +2,6 @@
 use Rattle.std.proofs.Common.{◌≡◌, ℕ, ◌^◌, ◌<◌, Bool, true, false, Option, Some, None, refl, sym, ap, ◌∙◌, arith, subst}
 use Rattle.std.specs.Prelude.{◌==◌, ◌||◌, if◌then◌else◌}
 use Rattle.std.proofs.lemmas.Bool.Decides.{nat_tests}
-use Rattle.v8_alu.specs.Results.{difference_codes}
 use Rattle.v8_word.specs.declared.Icc.{Icc}
 use Rattle.sbx_form.specs.Forms.{Cells}
 use Rattle.sbx_range.specs.Laws.{HasSigns}
@@ -11,7 +10,7 @@ use Rattle.sbx_domain.specs.declared.relation.Related.{Related}
 use Rattle.sbx_domain.specs.declared.relation.Related.TheVariants.{Location, Word}
 use Rattle.sbx_domain.specs.declared.relation.Relation.{Relation}
 use Rattle.sbx_domain.specs.declared.relation.Relation.TheVariants.{Compared, Signs}
-use Rattle.sbx_domain.specs.Fits.{HasAlignment, HasForm, HasInterval, Near, Relates, Words, word_of_related}
+use Rattle.sbx_domain.specs.Fits.{AreCodesOf, HasAlignment, HasForm, HasInterval, Near, Relates, Words, word_of_related}
 use Rattle.sbx_domain.specs.Known.{Known, form_of_entry, is_at, is_location, names, range_of_entry, with_entry, without_location}
 use Rattle.sbx_domain.specs.Laws.{WritesKeepFitting}
 
@@ -37,8 +36,8 @@ second_of false t h = h
 
 relates_on : (l v : ℕ) (words : Words) (icc : Icc) (r : Relation) → names l r ≡ false → Relates words icc (Some r) → Relates (put l v words) icc (Some r)
 relates_on l v words icc (Compared x y) h is =
-    is ∙ (ap (λ a. difference_codes a (word_of_related words y) false) (sym (same_related l v words x (first_of (is_at l x) (is_at l y) h)))
-    ∙ ap (λ b. difference_codes (word_of_related (put l v words) x) b false) (sym (same_related l v words y (second_of (is_at l x) (is_at l y) h))))
+    subst (λ b. AreCodesOf icc (word_of_related (put l v words) x) b) (sym (same_related l v words y (second_of (is_at l x) (is_at l y) h)))
+    (subst (λ a. AreCodesOf icc a (word_of_related words y)) (sym (same_related l v words x (first_of (is_at l x) (is_at l y) h))) is)
 relates_on l v words icc (Signs k) h is = subst (HasSigns icc) (sym (other_word l v words k h)) is
 
 relates_without : (l v : ℕ) (words : Words) (icc : Icc) (r : Option Relation) → Relates words icc r → Relates (put l v words) icc (without_location l r)

@@ -37,9 +37,15 @@ abbrev pub word_of_related : Words → Related → ℕ
 word_of_related words (Location l) = words l
 word_of_related words (Word w) = w
 
+-- codes of a word less another
+pub record AreCodesOf (icc : Icc) (x y : ℕ) : Type 0 where
+  pub first : x < 2 ^ 32
+  pub second : y < 2 ^ 32
+  pub codes : icc ≡ difference_codes x y false
+
 abbrev pub Relates : Words → Icc → Option Relation → Type 0
 Relates words icc None = Unit {0}
-Relates words icc (Some (Compared x y)) = icc ≡ difference_codes (word_of_related words x) (word_of_related words y) false
+Relates words icc (Some (Compared x y)) = AreCodesOf icc (word_of_related words x) (word_of_related words y)
 Relates words icc (Some (Signs l)) = HasSigns icc (words l)
 
 -- Words that lie in the intervals, have the forms over these starting numbers, and relate as is known: all that fuel looks at.

@@ -30,7 +30,7 @@ use Rattle.sbx_domain.specs.declared.entry.Entry.{Entry}
 use Rattle.sbx_domain.specs.declared.relation.Related.TheVariants.{Location, Word}
 use Rattle.sbx_domain.specs.declared.relation.Related.{Related}
 use Rattle.sbx_domain.specs.declared.relation.Relation.{Relation}
-use Rattle.sbx_domain.specs.Known.{Known, plain_entry, with_entry, with_icc, with_y}
+use Rattle.sbx_domain.specs.Known.{Known, plain_entry, plain_entry_of, with_entry, with_icc, with_y}
 use Rattle.sbx_domain.specs.Results.{constant_entry, entry_of_y, operand_entry, quotient_of, register_entry, result_of, tagged_of, written_y}
 
 -- ---- condition codes and Y
@@ -211,11 +211,7 @@ is_kept_by_calls l = nat_le 16 l
 
 -- the results in %o0 and on
 abbrev pub result_entry : List Range → ℕ → Option Entry
-result_entry results l = if is_out l then of_range (slice_get results (l - 8)) else None
-  where
-    of_range : Option Range → Option Entry
-    of_range None = None
-    of_range (Some r) = Some (plain_entry r)
+result_entry results l = if is_out l then plain_entry_of (slice_get results (l - 8)) else None
 
 -- What is known where a call's callee has returned: its results, and locals, ins and frame words as they were; other outs,
 -- globals, codes and Y are undefined.

@@ -1,1 +1,3 @@
 pub mod Asking
+pub mod Quiet
+pub mod Examples

@@ -5,3 +5,4 @@ pub mod Operations
 pub mod Fuel
 pub mod Rules
 pub mod Verdicts
+pub mod Examples

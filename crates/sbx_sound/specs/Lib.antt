@@ -1,0 +1,4 @@
+pub mod Shared
+pub mod Running
+pub mod Order
+pub mod LowFields
