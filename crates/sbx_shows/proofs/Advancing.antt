@@ -1,5 +1,5 @@
 -- One turn, and an annulled one, as a step with its counts and traffic.
-use Rattle.std.proofs.Common.{◌≡◌, ◌≢◌, ℕ, zero, suc, ◌+◌, ◌-◌, ◌*◌, ◌^◌, ◌<◌, ◌≤◌, ◌⊎◌, inl, inr, Bool, true, false, List, Option, Some, None, refl, sym, ap, ◌∙◌, subst, arith}
+use Rattle.std.proofs.Common.{◌≡◌, ℕ, ◌+◌, ◌-◌, ◌^◌, ◌<◌, inl, inr, Bool, true, false, Some, None, refl, sym, ap, ◌∙◌, subst, arith}
 use Rattle.std.specs.Prelude.{◌==◌, if◌then◌else◌}
 use Rattle.std.proofs.lemmas.Bool.Decides.{nat_tests}
 use Rattle.v8_meaning.specs.Admitted.{is_admitted}
@@ -7,10 +7,9 @@ use Rattle.v8_meaning.specs.Operands.{following}
 use Rattle.v8_meaning.specs.declared.operation.Operation.{Operation}
 use Rattle.v8_mmu.specs.declared.translation.MmuRegs.{MmuRegs}
 use Rattle.v8_state.specs.Effects.{advanced as board_advanced}
-use Rattle.v8_core.specs.declared.turn.Event.{Event}
 use Rattle.v8_core.specs.declared.turn.Event.TheVariants.{Annulled, Ran}
 use Rattle.v8_core.specs.declared.turn.Turn.{Turn}
-use Rattle.v8_core.specs.Accesses.{World, world}
+use Rattle.v8_core.specs.Accesses.{World}
 use Rattle.v8_core.specs.Steps.{goes_on, next, skipped, turn_of}
 use Rattle.v8_memory.specs.Board.{Device, board}
 use Rattle.v8_loaded.specs.Turns.{after, turn_at}
@@ -29,9 +28,9 @@ use Rattle.sbx_flat.specs.declared.path.Place.{Place}
 use Rattle.sbx_flat.specs.declared.path.Traffic.{Traffic}
 use Rattle.sbx_flat.proofs.Law.{still_is_fresh}
 use Rattle.sbx_flat.proofs.Turns.{performs_admitted, place_at_word, turn_at as flat_turn_at}
-use Rattle.sbx_shows.specs.Advances.{Advances, IsMoment, counts_by, more, so_many}
+use Rattle.sbx_shows.specs.Advances.{Advances, IsMoment, more, so_many}
 use Rattle.sbx_shows.specs.Shows.{Shows}
-use Rattle.sbx_shows.specs.Steps.{OneTurn, Over, Stands}
+use Rattle.sbx_shows.specs.Steps.{OneTurn, Stands}
 use Rattle.sbx_shows.specs.Turns.{IsOwnTurn}
 use Rattle.sbx_shows.proofs.Own.{user_own}
 use Rattle.sbx_shows.proofs.Places.{here, word}
@@ -66,10 +65,13 @@ no_traps windows o u k =
 
 module _ (n : ℕ) (parts : Parts) (mmu : MmuRegs) (x : World n Device) (s : State) (r i : ℕ) (h : Stands n parts mmu x s r i) (op : Operation) (is : AsksFor parts.words i op) (admitted : is_admitted op ≡ true) where
   pub step_of : (fresh : Fresh) (next_state : State) → IsFresh fresh → does parts fresh op s ≡ Goes next_state → Step parts s next_state
-  step_of fresh next_state words goes =
-      (fresh, words, flat_turn_at parts fresh s (word n parts mmu x s r i h) h.shows.going h.straight (here n parts mmu x s r i h)
-      ∙ performs_admitted parts fresh (asked (word n parts mmu x s r i h)) s (subst (λ o. is_admitted o ≡ true) (sym is) admitted)
-      ∙ ap (λ o. does parts fresh o s) is ∙ goes)
+  step_of fresh next_state words goes = (
+    fresh,
+    words,
+    flat_turn_at parts fresh s (word n parts mmu x s r i h) h.shows.going h.straight (here n parts mmu x s r i h)
+        ∙ performs_admitted parts fresh (asked (word n parts mmu x s r i h)) s (subst (λ o. is_admitted o ≡ true) (sym is) admitted)
+        ∙ ap (λ o. does parts fresh o s) is ∙ goes,
+  )
 
   pub traffic_of : (t : Traffic) → after_place parts n (place_of parts s) t ≡ after_operation n op t
   traffic_of t =
@@ -130,7 +132,7 @@ annulled_advances n parts mmu x s r h annul =
     let turn_is : (next board n mmu x).0 ≡ plain = ap (λ (p : Turn × World n Device). p.0) told in
     let mine : IsOwnTurn parts s.registers plain = record { trap = tt; within = refl } in
     let shown = control_shows n parts x s r s.npc (following s.npc) false s.icc s.y (record (board_advanced c) { annul = false }) h
-        (record { pc = a.npc; npc = ap following a.npc; npc_word = next_word c.npc; npc_whole = next_whole c.npc a.npc_whole; annul = refl; icc = a.icc; y = a.y; y_word = a.y_word; user = a.user; traps = a.traps; sane = a.sane; table = a.table }) in
+    (record { pc = a.npc; npc = ap following a.npc; npc_word = next_word c.npc; npc_whole = next_whole c.npc a.npc_whole; annul = refl; icc = a.icc; y = a.y; y_word = a.y_word; user = a.user; traps = a.traps; sane = a.sane; table = a.table }) in
     record {
       next_state = t;
       step = annulled_step parts s h.going annul;

@@ -1,16 +1,15 @@
 -- Files of the flat machine that hold the same words are shown alike, so that two registers may be written in either order.
-use Rattle.std.proofs.Common.{◌≡◌, ◌≢◌, ℕ, zero, suc, ◌+◌, ◌-◌, ◌*◌, ◌/◌, ◌%◌, ◌^◌, ◌<◌, ◌≤◌, ◌⊎◌, inl, inr, Bool, true, false, not, List, refl, sym, ap, ◌∙◌, subst, arith}
-use Rattle.std.specs.Prelude.{◌==◌, ◌&&◌, nat_lt, if◌then◌else◌}
+use Rattle.std.proofs.Common.{◌≡◌, ◌≢◌, ℕ, ◌+◌, ◌-◌, ◌*◌, ◌/◌, ◌%◌, ◌<◌, ◌≤◌, ◌⊎◌, inl, inr, Bool, true, false, refl, sym, ap, ◌∙◌, arith}
+use Rattle.std.specs.Prelude.{◌==◌, ◌&&◌, if◌then◌else◌}
 use Rattle.std.proofs.lemmas.Bool.Decides.{nat_tests}
-use Rattle.v8_windows.specs.Windows.{Windows}
 use Rattle.v8_core.specs.Accesses.{World}
 use Rattle.v8_memory.specs.Board.{Device}
 use Rattle.v8_board.specs.Start.{pages_of}
 use Rattle.sbx_image.specs.declared.parts.Parts.{Parts}
 use Rattle.sbx_flat.specs.Registers.{Registers, Words, with_word, written}
 use Rattle.sbx_flat.specs.States.{State}
-use Rattle.sbx_shows.specs.Calls.{base, cell, depth, slot}
-use Rattle.sbx_shows.specs.Shows.{Shows, ShowsCalls}
+use Rattle.sbx_shows.specs.Calls.{cell, depth, slot}
+use Rattle.sbx_shows.specs.Shows.{Shows}
 use Rattle.sbx_shows.proofs.Users.{device_kept}
 use Rattle.sbx_shows.proofs.Writing.{SameCalls, cell_ins, cell_local, cell_out, flat_globals, flat_shape, global_cell, saved_same, slots_same, stacked_same, written_global, written_zero}
 
@@ -126,8 +125,8 @@ module _ (a b x y : ℕ) (file : Registers) (apart : a ≢ b) where
   of_zero : a ≡ 0 → SameFile second first
   of_zero none =
       let e : first ≡ second =
-          ap (λ q. written q x (written b y file)) none ∙ written_zero x (written b y file)
-          ∙ sym (ap (λ q. written b y (written q x file)) none ∙ ap (written b y) (written_zero x file)) in
+      ap (λ q. written q x (written b y file)) none ∙ written_zero x (written b y file)
+      ∙ sym (ap (λ q. written b y (written q x file)) none ∙ ap (written b y) (written_zero x file)) in
       record { deep = ap (λ (f : Registers). depth f) e; cells = λ k j. ap (λ (f : Registers). cell f k j) e; slots = λ k c. ap (λ (f : Registers). slot f k c) e; globals = λ k. ap (λ (f : Registers). f.globals k) e }
 
 -- an even register and the odd one after it

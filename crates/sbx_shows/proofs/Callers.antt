@@ -1,6 +1,6 @@
 -- Turns of user code that begin and end a call where no window trap comes: SAVE and RESTORE.
-use Rattle.std.proofs.Common.{◌≡◌, ◌≢◌, ℕ, zero, suc, ◌+◌, ◌-◌, ◌*◌, ◌/◌, ◌%◌, ◌^◌, ◌<◌, ◌≤◌, Bool, true, false, List, [], ◌∷◌, length, Option, Some, None, refl, sym, ap, ◌∙◌, subst, arith}
-use Rattle.std.specs.Prelude.{◌==◌, ◌&&◌, ◌||◌, nat_le, if◌then◌else◌}
+use Rattle.std.proofs.Common.{◌≡◌, ◌≢◌, ℕ, suc, ◌+◌, ◌-◌, ◌*◌, ◌%◌, ◌^◌, ◌<◌, ◌≤◌, Bool, true, false, List, [], ◌∷◌, Some, None, refl, ap, ◌∙◌, subst, arith}
+use Rattle.std.specs.Prelude.{◌==◌, ◌&&◌, ◌||◌}
 use Rattle.std.proofs.lemmas.Bool.Decides.{nat_tests}
 use Rattle.v8_formats.specs.declared.instr.Three.{Three}
 use Rattle.v8_meaning.specs.Admitted.{is_admitted}
@@ -20,12 +20,12 @@ use Rattle.v8_services.proofs.Frames.{file_moved}
 use Rattle.v8_board.specs.Start.{pages_of}
 use Rattle.v8_board.proofs.Placed.{pages_few}
 use Rattle.sbx_image.specs.declared.parts.Parts.{Parts}
-use Rattle.sbx_flat.specs.Effects.{is_base, restores, saves, writes}
+use Rattle.sbx_flat.specs.Effects.{is_base, restores}
 use Rattle.sbx_flat.specs.Registers.{Frame, Fresh, IsFresh, Registers, popped, pushed}
-use Rattle.sbx_flat.specs.States.{Fails, Goes, State, advanced, reg, with_reg as flat_with_reg}
+use Rattle.sbx_flat.specs.States.{Goes, State, advanced, reg, with_reg as flat_with_reg}
 use Rattle.sbx_flat.specs.Turns.{IsWrong}
 use Rattle.sbx_flat.specs.declared.path.Wrong.TheVariants.{BadFrame, NoCaller, StackPointer}
-use Rattle.sbx_shows.specs.Calls.{base, cell, depth}
+use Rattle.sbx_shows.specs.Calls.{base, cell}
 use Rattle.sbx_shows.specs.Shows.{IsStacked, Shows, ShowsCalls, ShowsSaved, ShowsSlots}
 use Rattle.sbx_shows.specs.Steps.{OneTurn, Stands}
 use Rattle.sbx_shows.proofs.Distances.{below_is}

@@ -4,7 +4,7 @@ use Rattle.std.specs.Prelude.{if◌then◌else◌}
 use Rattle.std.specs.List.{AllByRecursion}
 use Rattle.std.proofs.lemmas.Bool.Decides.{nat_tests}
 use Rattle.v8_word.specs.Word.{bits_of, sign_extend}
-use Rattle.v8_formats.specs.Fields.{alternate, is_immediate, place, rd, rs1, rs2, three, two, shift}
+use Rattle.v8_formats.specs.Fields.{alternate, is_immediate, place, rd, rs2, three, two, shift}
 use Rattle.v8_formats.specs.Table.{Row, lookup, matches, meaning, table}
 use Rattle.v8_formats.specs.declared.instr.Instr.{Instr}
 use Rattle.v8_formats.specs.declared.instr.Instr.TheVariants.{Undefined}
@@ -82,7 +82,6 @@ one_of P false x y p q = q
 found_in : (P : Instr → Type 0) (rows : List Row) (w : ℕ) → AllByRecursion (λ r. P (r.gives w)) rows → P (Undefined w) → P (lookup rows w)
 found_in P [] w all none = none
 found_in P (r ∷ rows) w all none = one_of P (matches r w) (r.gives w) (lookup rows w) all.0 (found_in P rows w all.1 none)
-
 
 memory_in : (w : ℕ) → MemoryIn (normal (three w))
 memory_in w = record { destination = omega arith; first = omega arith; second = λ e. second_in w (is_immediate w) }

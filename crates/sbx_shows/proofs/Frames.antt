@@ -1,17 +1,16 @@
 -- A call begun and ended: the windows move by one, and the calls' ages with them.
-use Rattle.std.proofs.Common.{◌≡◌, ◌≢◌, ℕ, zero, suc, ◌+◌, ◌-◌, ◌*◌, ◌/◌, ◌%◌, ◌^◌, ◌<◌, ◌≤◌, ◌⊎◌, inl, inr, Bool, true, false, List, [], ◌∷◌, length, Option, Some, None, refl, sym, ap, ◌∙◌, subst, arith}
+use Rattle.std.proofs.Common.{◌≡◌, ◌≢◌, ℕ, zero, suc, ◌+◌, ◌-◌, ◌*◌, ◌%◌, ◌^◌, ◌<◌, ◌≤◌, Bool, true, false, List, ◌∷◌, length, Some, None, refl, sym, ap, ◌∙◌, arith}
 use Rattle.std.specs.Prelude.{slice_index, ◌==◌, ◌&&◌, nat_lt, nat_le, if◌then◌else◌}
-use Rattle.std.specs.Prelude.{unwrap_or}
 use Rattle.std.proofs.lemmas.Bool.Decides.{nat_tests}
 use Rattle.v8_mmu.specs.Ram.{entry_of}
 use Rattle.v8_windows.specs.Windows.{Windows, IsFile, above, below, moved, with_reg, word_at}
-use Rattle.v8_windows.proofs.AfterWrites.{above_less, written_at, written_current}
+use Rattle.v8_windows.proofs.AfterWrites.{written_at, written_current}
 use Rattle.v8_services.proofs.Frames.{file_moved}
 use Rattle.v8_loaded.proofs.Stack.{word_in, word_there}
 use Rattle.v8_loaded.proofs.Windows.{below_within}
-use Rattle.sbx_flat.specs.Registers.{Frame, Fresh, IsFresh, Registers, Words, is_slot, pushed}
+use Rattle.sbx_flat.specs.Registers.{Frame, Fresh, IsFresh, Registers, is_slot, pushed}
 use Rattle.sbx_shows.specs.Calls.{base, cell, depth, slot}
-use Rattle.sbx_shows.specs.Shows.{window, ShowsCalls, IsStacked, ShowsSaved, IsSlot, ShowsSlot, ShowsSlots, HasStack}
+use Rattle.sbx_shows.specs.Shows.{window, ShowsCalls, IsStacked, ShowsSaved, ShowsSlot, ShowsSlots, HasStack}
 use Rattle.sbx_shows.proofs.Distances.{below_is, same_distance, window_above, window_below, window_here}
 use Rattle.sbx_shows.proofs.Writing.{mask_kept}
 

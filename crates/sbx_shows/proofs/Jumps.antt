@@ -1,12 +1,11 @@
 -- Turns of user code that transfer control: branches, CALL and JMPL.
-use Rattle.std.proofs.Common.{◌≡◌, ◌≢◌, ℕ, ◌+◌, ◌*◌, ◌/◌, ◌%◌, ◌^◌, ◌<◌, ◌≤◌, Bool, true, false, List, Some, None, refl, sym, ap, ◌∙◌, subst, arith}
-use Rattle.std.specs.Prelude.{◌==◌, ◌&&◌, if◌then◌else◌}
+use Rattle.std.proofs.Common.{◌≡◌, ◌≢◌, ℕ, ◌%◌, ◌^◌, ◌<◌, Bool, true, false, List, Some, None, refl, ap, ◌∙◌, subst, arith}
+use Rattle.std.specs.Prelude.{◌==◌, if◌then◌else◌}
 use Rattle.std.proofs.lemmas.Bool.Decides.{nat_tests}
 use Rattle.v8_word.specs.Conditions.{holds}
-use Rattle.v8_word.specs.declared.Icc.{Icc}
 use Rattle.v8_formats.specs.declared.instr.Branch.{Branch}
 use Rattle.v8_formats.specs.declared.instr.Three.{Three}
-use Rattle.v8_meaning.specs.Admitted.{is_admitted, is_immediate_of}
+use Rattle.v8_meaning.specs.Admitted.{is_admitted}
 use Rattle.v8_meaning.specs.Operands.{address, annuls, following, target}
 use Rattle.v8_meaning.specs.declared.operation.Operation.{Operation}
 use Rattle.v8_meaning.specs.declared.operation.Operation.TheVariants.{BranchOnCondition, Call, JumpAndLink}
@@ -21,12 +20,11 @@ use Rattle.v8_core.specs.Accesses.{World, quiet, world}
 use Rattle.v8_core.specs.Steps.{acts, turn_of}
 use Rattle.v8_memory.specs.Board.{Device, board}
 use Rattle.v8_loaded.specs.Users.{AsksFor}
-use Rattle.v8_board.specs.Start.{pages_of}
 use Rattle.v8_board.proofs.Placed.{pages_few}
 use Rattle.sbx_image.specs.declared.parts.Parts.{Parts}
 use Rattle.sbx_flat.specs.Effects.{branched as flat_branched, branches, does}
 use Rattle.sbx_flat.specs.Registers.{still}
-use Rattle.sbx_flat.specs.States.{Fails, Goes, State, transferred, with_reg as flat_with_reg, reg}
+use Rattle.sbx_flat.specs.States.{Goes, State, transferred, with_reg as flat_with_reg, reg}
 use Rattle.sbx_flat.specs.Turns.{IsWrong}
 use Rattle.sbx_flat.specs.declared.path.Wrong.TheVariants.{Misaligned}
 use Rattle.sbx_flat.proofs.Law.{still_is_fresh}
@@ -59,7 +57,7 @@ unfolding branched board_advanced jumped
 branch_control c s b a whole =
     let both = by_taken (holds b.cond c.icc) in
     subst (λ k. ShowsControl (if holds b.cond c.icc then record (jumped c (target c.pc b.displacement)) { annul = annuls b c.icc } else record (board_advanced c) { annul = annuls b c.icc })
-        (record (transferred (if holds b.cond k then target s.pc b.displacement else following s.npc) s) { annulled = annuls b s.icc })) a.icc both
+    (record (transferred (if holds b.cond k then target s.pc b.displacement else following s.npc) s) { annulled = annuls b s.icc })) a.icc both
   where
     by_taken : (t : Bool) → ShowsControl (if t then record (jumped c (target c.pc b.displacement)) { annul = annuls b c.icc } else record (board_advanced c) { annul = annuls b c.icc })
         (record (transferred (if t then target s.pc b.displacement else following s.npc) s) { annulled = annuls b s.icc })

@@ -1,5 +1,5 @@
 -- RAM that is the same above the tables shows the same.
-use Rattle.std.proofs.Common.{◌≡◌, ℕ, suc, ◌+◌, ◌-◌, ◌*◌, ◌/◌, ◌%◌, ◌^◌, ◌<◌, ◌≤◌, ◌⊎◌, inl, inr, Bool, false, List, length, Some, refl, sym, ap, ◌∙◌, subst, arith}
+use Rattle.std.proofs.Common.{◌≡◌, ℕ, ◌+◌, ◌-◌, ◌*◌, ◌≤◌, inr, Bool, List, sym, ◌∙◌, arith}
 use Rattle.std.specs.Prelude.{slice_index}
 use Rattle.v8_mmu.specs.Ram.{entry_of}
 use Rattle.v8_mmu.specs.Paths.{marked_ram}
@@ -8,8 +8,8 @@ use Rattle.v8_loaded.proofs.Turns.{marked_byte}
 use Rattle.sbx_image.specs.declared.parts.Parts.{Parts}
 use Rattle.sbx_flat.specs.Memory.{Bytes}
 use Rattle.sbx_flat.specs.Registers.{Registers}
-use Rattle.sbx_shows.specs.Calls.{base, cell, depth, slot}
-use Rattle.sbx_shows.specs.Shows.{IsStacked, ShowsSaved, IsSlot, ShowsSlots, ShowsData, HasStack}
+use Rattle.sbx_shows.specs.Calls.{base}
+use Rattle.sbx_shows.specs.Shows.{IsStacked, ShowsSaved, ShowsSlots, ShowsData, HasStack}
 
 pub record SameAbove (old new : List ℕ) : Type 0 where
   pub words : (p : ℕ) → 0x2E00 ≤ p → entry_of new p ≡ entry_of old p

@@ -1,6 +1,6 @@
 -- Bytes of the data: what a load finds there, and what a store leaves, for each size.
-use Rattle.std.proofs.Common.{◌≡◌, ◌≢◌, ℕ, zero, suc, ◌+◌, ◌-◌, ◌*◌, ◌/◌, ◌%◌, ◌^◌, ◌<◌, ◌≤◌, ◌⊎◌, inl, inr, Bool, true, false, List, [], ◌∷◌, length, get_or, take, drop, Option, Some, None, refl, sym, ap, ◌∙◌, subst, arith}
-use Rattle.std.specs.Prelude.{slice_index, ◌==◌, ◌&&◌, nat_le, nat_lt, if◌then◌else◌}
+use Rattle.std.proofs.Common.{◌≡◌, ℕ, zero, suc, ◌+◌, ◌-◌, ◌*◌, ◌/◌, ◌%◌, ◌^◌, ◌<◌, ◌≤◌, ◌⊎◌, inl, inr, Bool, true, false, List, [], ◌∷◌, length, get_or, take, drop, Option, Some, None, refl, sym, ap, ◌∙◌, subst, arith}
+use Rattle.std.specs.Prelude.{slice_index, ◌&&◌, nat_le, nat_lt, if◌then◌else◌}
 use Rattle.std.specs.Int.{w16, w32, from_be_bytes, to_be_bytes}
 use Rattle.std.proofs.lemmas.Bool.Decides.{nat_tests}
 use Rattle.std.proofs.lemmas.List.{get_or-take, get_or-drop}
@@ -8,10 +8,10 @@ use Rattle.v8_word.specs.declared.Size.{Size}
 use Rattle.v8_word.specs.declared.Size.TheVariants.{Byte, Half, Word, Double}
 use Rattle.v8_meaning.specs.Transfers.{bytes_in}
 use Rattle.v8_mmu.specs.Meaning.{limit_of}
-use Rattle.v8_mmu.specs.Ram.{with_double, entry_of, half_of, byte_of as byte_in, number_at as board_number, with_byte, with_half, with_entry, with_number as board_with}
+use Rattle.v8_mmu.specs.Ram.{with_double, entry_of, number_at as board_number, with_byte, with_half, with_entry, with_number as board_with}
 use Rattle.v8_mmu.proofs.RamMore.{byte_among, byte_beside_entry}
 use Rattle.v8_mmu.proofs.RamLemmas.{length-with_entry}
-use Rattle.v8_mmu.proofs.RamNumbers.{HasHalf, byte_beside_byte, byte_beside_double, byte_beside_half, has_byte, has_double, length-with_double, has_half, length-with_byte, length-with_half}
+use Rattle.v8_mmu.proofs.RamNumbers.{byte_beside_byte, byte_beside_double, byte_beside_half, has_byte, has_double, length-with_double, has_half, length-with_byte, length-with_half}
 use Rattle.v8_layout.specs.Layout.{IsLoaded}
 use Rattle.v8_layout.proofs.Marks.{loaded_by}
 use Rattle.v8_loaded.proofs.Stack.{word_there}
@@ -22,8 +22,8 @@ use Rattle.sbx_image.specs.declared.parts.Parts.{Parts}
 use Rattle.sbx_flat.specs.Memory.{Bytes, byte_of, followed_by, number_at, with_number}
 use Rattle.sbx_flat.specs.Registers.{Registers}
 use Rattle.sbx_shows.specs.Marks.{OwnMarks}
-use Rattle.sbx_shows.specs.Calls.{base, cell, depth, slot}
-use Rattle.sbx_shows.specs.Shows.{Fits, IsStacked, ShowsSaved, IsSlot, ShowsSlots, ShowsData, ShowsByte, HasStack}
+use Rattle.sbx_shows.specs.Calls.{base}
+use Rattle.sbx_shows.specs.Shows.{Fits, IsStacked, ShowsSaved, ShowsSlots, ShowsData, ShowsByte, HasStack}
 
 -- ---- numbers of bytes
 
@@ -293,7 +293,6 @@ module _ (parts : Parts) (memory : Bytes) (ram : List ℕ) (a n : ℕ) (fits : F
       word_there ram place length_is (omega arith) (omega arith)
       ∙ ap Some (four_is (take 4 (drop place ram)) first.1 second.1 third.1 fourth.1 n
       (shown 0 first.1 4 (omega arith) first.3 (omega arith)) (shown 1 second.1 4 (omega arith) second.3 (omega arith)) (shown 2 third.1 4 (omega arith) third.3 (omega arith)) (shown 3 fourth.1 4 (omega arith) fourth.3 (omega arith)) (omega arith))
-
 
 -- four bytes one after another
 two_words : (memory : Bytes) (a fifth sixth seventh eighth : ℕ) → memory (a + 4) ≡ Some fifth → memory (a + 5) ≡ Some sixth → memory (a + 6) ≡ Some seventh → memory (a + 7) ≡ Some eighth →

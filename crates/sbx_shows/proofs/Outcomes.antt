@@ -1,8 +1,7 @@
 -- Results and Y are words.
-use Rattle.std.proofs.Common.{◌≡◌, ℕ, zero, suc, ◌+◌, ◌-◌, ◌*◌, ◌/◌, ◌%◌, ◌^◌, ◌<◌, ◌≤◌, Bool, true, false, Option, Some, None, refl, sym, ap, ◌∙◌, arith}
-use Rattle.std.specs.Prelude.{bit_and, bit_or, bit_xor, min, ◌==◌, if◌then◌else◌, ℤ, ◌*ℤ◌, pos, negsuc}
-use Rattle.std.specs.Int.{cast_unsigned, int_div_euclid, w32, w64}
-use Rattle.std.proofs.lemmas.Nat.{and_le_l, or_lt, xor_lt, pow_pos}
+use Rattle.std.proofs.Common.{ℕ, ◌-◌, ◌*◌, ◌/◌, ◌%◌, ◌^◌, ◌<◌, ◌≤◌, Bool, true, false, Option, Some, None, arith}
+use Rattle.std.specs.Prelude.{bit_and, bit_xor, min, ◌==◌, if◌then◌else◌}
+use Rattle.std.proofs.lemmas.Nat.{and_le_l, or_lt, xor_lt}
 use Rattle.std.proofs.Math.Nat.{div-le_self}
 use Rattle.v8_word.specs.declared.Icc.{Icc}
 use Rattle.v8_alu.specs.Outcomes.{complement, divided, division_of, outcome, tagged_outcome}
@@ -10,9 +9,9 @@ use Rattle.v8_alu.specs.declared.Division.{Division}
 use Rattle.v8_alu.specs.declared.Division.TheVariants.{Udiv, UdivCc, Sdiv, SdivCc}
 use Rattle.v8_alu.specs.declared.TaggedOp.{TaggedOp}
 use Rattle.v8_alu.specs.declared.TaggedOp.TheVariants.{TaggedAdd, TaggedSub}
-use Rattle.v8_alu.specs.Results.{difference, from_flag, quotient, signed_quotient, sum, high_word, shifted_right, shifted_right_signed, signed, signed_product, step_addend, step_operand, step_y}
+use Rattle.v8_alu.specs.Results.{difference, quotient, signed_quotient, sum, shifted_right, signed_product, step_y}
 use Rattle.v8_alu.specs.declared.Op.{Op}
-use Rattle.v8_alu.specs.declared.Op.TheVariants.{Add, AddCc, Addx, AddxCc, Sub, SubCc, Subx, SubxCc, And, AndCc, Andn, AndnCc, Or, OrCc, Orn, OrnCc, Xor, XorCc, Xnor, XnorCc, Sll, Srl, Sra, Umul, UmulCc, Smul, SmulCc, TaddCc, TsubCc, MulsCc}
+use Rattle.v8_alu.specs.declared.Op.TheVariants.{And, AndCc, Andn, AndnCc, Or, OrCc, Orn, OrnCc, Xor, XorCc, Xnor, XnorCc, Srl, Sra, Umul, UmulCc, Smul, SmulCc, MulsCc}
 use Rattle.v8_alu.specs.declared.AluOut.{AluOut}
 use Rattle.sbx_shows.proofs.Signed.{nearest_small, product_word, shift_word}
 

@@ -1,13 +1,11 @@
 -- Where user code stands: what both machines read there, and a turn that reaches no data.
-use Rattle.std.proofs.Common.{◌≡◌, ◌≢◌, ℕ, zero, suc, ◌+◌, ◌-◌, ◌*◌, ◌/◌, ◌%◌, ◌^◌, ◌<◌, ◌≤◌, Bool, true, false, List, length, Some, None, refl, sym, ap, ◌∙◌, subst, arith}
+use Rattle.std.proofs.Common.{◌≡◌, ◌≢◌, ℕ, ◌*◌, ◌^◌, ◌<◌, true, List, Some, None, refl, sym, ap, ◌∙◌, subst, arith}
 use Rattle.std.specs.Prelude.{slice_index, ◌==◌, ◌||◌, if◌then◌else◌}
 use Rattle.std.proofs.lemmas.Bool.Decides.{nat_tests}
-use Rattle.v8_formats.specs.Table.{meaning}
 use Rattle.v8_formats.specs.declared.instr.Operand.{Operand}
 use Rattle.v8_formats.specs.declared.instr.Operand.TheVariants.{Register, Immediate}
 use Rattle.v8_meaning.specs.Admitted.{is_admitted}
 use Rattle.v8_meaning.specs.Operands.{address, second, sum_address}
-use Rattle.v8_meaning.specs.Operations.{operation_of}
 use Rattle.v8_meaning.specs.declared.operation.Operation.{Operation}
 use Rattle.v8_windows.specs.Windows.{Windows, reg_of}
 use Rattle.v8_mmu.specs.declared.translation.MmuRegs.{MmuRegs}
@@ -30,7 +28,6 @@ use Rattle.sbx_flat.specs.declared.path.Wrong.TheVariants.{StackPointer}
 use Rattle.sbx_flat.specs.Turns.{IsWrong, asked, turn, word_at}
 use Rattle.sbx_flat.proofs.Law.{still_is_fresh}
 use Rattle.sbx_flat.proofs.Turns.{performs_admitted, turn_at, word_at_place}
-use Rattle.sbx_shows.specs.Shows.{Shows}
 use Rattle.sbx_shows.specs.Steps.{Stands}
 use Rattle.sbx_shows.proofs.Fields.{FieldsIn, SecondIn, fields_in}
 use Rattle.sbx_shows.proofs.Files.{reads_word}

@@ -1,13 +1,13 @@
 -- Both machines read the same.
-use Rattle.std.proofs.Common.{◌≡◌, ◌≢◌, ℕ, zero, suc, ◌+◌, ◌-◌, ◌^◌, ◌<◌, ◌≤◌, ◌⊎◌, inl, inr, Bool, true, false, List, [], ◌∷◌, refl, sym, ap, ◌∙◌, subst, arith}
-use Rattle.std.specs.Prelude.{slice_index, ◌==◌, nat_lt, not, if◌then◌else◌}
+use Rattle.std.proofs.Common.{◌≡◌, ◌≢◌, ℕ, zero, suc, ◌+◌, ◌-◌, ◌^◌, ◌<◌, ◌≤◌, ◌⊎◌, inl, inr, true, false, List, [], ◌∷◌, refl, sym, ap, ◌∙◌, subst, arith}
+use Rattle.std.specs.Prelude.{nat_lt, not}
 use Rattle.std.proofs.lemmas.Bool.Decides.{nat_tests}
-use Rattle.v8_windows.specs.Windows.{Windows, IsFile, above, below, can_enter, is_masked, reg_of, word_at}
+use Rattle.v8_windows.specs.Windows.{Windows, IsFile, above, can_enter, is_masked, reg_of, word_at}
 use Rattle.v8_loaded.proofs.Windows.{not_masked}
 use Rattle.sbx_flat.specs.Registers.{Frame, Registers, Words, ins_of, word_in}
 use Rattle.sbx_shows.specs.Calls.{cell, cell_in}
 use Rattle.sbx_shows.specs.Shows.{window, ShowsCalls}
-use Rattle.sbx_shows.proofs.Distances.{below_is, other_window, same_distance, window_here, window_within}
+use Rattle.sbx_shows.proofs.Distances.{same_distance, window_here, window_within}
 
 reads_out : (n : ℕ) (v : Windows) (file : Registers) (r q : ℕ) → IsFile n v → ShowsCalls n v file r → 8 ≤ q → q < 16 → reg_of n v q ≡ word_in file q
 unfolding reg_of cell

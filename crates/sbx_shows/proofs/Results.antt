@@ -1,5 +1,5 @@
 -- Turns of user code that write a register, Y or the codes: results of every operation that reaches no memory and no window.
-use Rattle.std.proofs.Common.{◌≡◌, ◌≢◌, ℕ, ◌*◌, ◌/◌, ◌%◌, ◌^◌, ◌<◌, ◌≤◌, Bool, true, false, Option, Some, None, refl, sym, ap, ◌∙◌, subst, arith}
+use Rattle.std.proofs.Common.{◌≡◌, ◌≢◌, ℕ, ◌^◌, ◌<◌, Bool, true, false, Option, Some, None, refl, sym, ap, ◌∙◌, subst, arith}
 use Rattle.std.specs.Prelude.{bit_xor, ◌==◌, ◌||◌, if◌then◌else◌}
 use Rattle.std.proofs.lemmas.Bool.Decides.{nat_tests}
 use Rattle.std.proofs.lemmas.Nat.{xor_lt}
@@ -13,7 +13,6 @@ use Rattle.v8_alu.specs.declared.Op.{Op}
 use Rattle.v8_alu.specs.declared.TaggedOp.{TaggedOp}
 use Rattle.v8_alu.specs.Outcomes.{division_of, outcome, tagged_outcome}
 use Rattle.v8_meaning.specs.Admitted.{is_admitted}
-use Rattle.v8_meaning.specs.Operands.{second}
 use Rattle.v8_meaning.specs.declared.operation.Operation.{Operation}
 use Rattle.v8_meaning.specs.declared.operation.Operation.TheVariants.{Compute, Divide, TaggedTrap, SetHigh, ReadY, WriteY}
 use Rattle.v8_windows.specs.Windows.{reg_of}
@@ -23,12 +22,12 @@ use Rattle.v8_state.specs.Traps.{first_trap}
 use Rattle.v8_state.specs.declared.state.Cpu.{Cpu}
 use Rattle.v8_core.specs.declared.turn.Event.TheVariants.{Ran}
 use Rattle.v8_core.specs.Accesses.{World, quiet, world}
-use Rattle.v8_core.specs.Steps.{acts, next, turn_of}
+use Rattle.v8_core.specs.Steps.{acts, turn_of}
 use Rattle.v8_memory.specs.Board.{Device, board}
 use Rattle.v8_loaded.specs.Users.{AsksFor}
 use Rattle.sbx_image.specs.declared.parts.Parts.{Parts}
 use Rattle.sbx_flat.specs.Effects.{does, high_word, operand_value, writes, writes_result, writes_some}
-use Rattle.sbx_flat.specs.Registers.{Fresh, still}
+use Rattle.sbx_flat.specs.Registers.{still}
 use Rattle.sbx_flat.specs.States.{Fails, Goes, State, Turn, advanced, reg, with_reg as flat_with_reg}
 use Rattle.sbx_flat.specs.Turns.{IsWrong}
 use Rattle.sbx_flat.specs.declared.path.Wrong.{Wrong}
@@ -36,10 +35,10 @@ use Rattle.sbx_flat.specs.declared.path.Wrong.TheVariants.{StackPointer, TagOver
 use Rattle.sbx_flat.proofs.Law.{still_is_fresh}
 use Rattle.sbx_shows.specs.Shows.{Shows}
 use Rattle.sbx_shows.specs.Steps.{OneTurn, Stands}
-use Rattle.sbx_shows.proofs.Fields.{SecondIn, ThreeIn, TwoIn}
+use Rattle.sbx_shows.proofs.Fields.{ThreeIn, TwoIn}
 use Rattle.sbx_shows.proofs.Files.{reads_word}
 use Rattle.sbx_shows.proofs.Outcomes.{AreWords, IfWords, division_words, outcome_words, tagged_words}
-use Rattle.sbx_shows.proofs.Places.{fails_not, fetched, fields, marks, not_stack, plain_turn, same_reg, same_second, second_word, word}
+use Rattle.sbx_shows.proofs.Places.{fails_not, fetched, fields, marks, plain_turn, same_reg, same_second, second_word, word}
 use Rattle.sbx_shows.proofs.Processor.{adds_tagged, board_outcome, calm_compute, calm_divide, calm_high, calm_read, calm_tagged, calm_write, computes, divides, moved_on, reads_y, sets_high, with_result, with_value, writes_y}
 use Rattle.sbx_shows.proofs.Users.{marked_shows, moved_shows, value_shows, write_shows}
 

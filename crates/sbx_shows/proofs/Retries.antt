@@ -1,22 +1,19 @@
 -- A window trap, the turns of its handler, and the same instruction again, as one step.
-use Rattle.std.proofs.Common.{◌≡◌, ◌≢◌, ℕ, zero, suc, ◌+◌, ◌-◌, ◌*◌, ◌/◌, ◌%◌, ◌^◌, ◌<◌, ◌≤◌, ◌⊎◌, inl, inr, Bool, true, false, not, List, ◌∷◌, length, Option, Some, None, refl, sym, ap, ◌∙◌, subst, arith}
+use Rattle.std.proofs.Common.{◌≡◌, ℕ, zero, suc, ◌+◌, ◌-◌, ◌/◌, ◌^◌, ◌<◌, ◌≤◌, ◌⊎◌, inl, inr, Bool, true, false, not, length, Option, Some, None, refl, sym, ap, ◌∙◌, subst, arith}
 use Rattle.std.specs.Prelude.{◌==◌, ◌||◌}
 use Rattle.std.proofs.lemmas.Bool.Decides.{nat_tests}
-use Rattle.v8_word.specs.declared.Size.TheVariants.{Double}
-use Rattle.v8_formats.specs.declared.instr.Three.{Three}
 use Rattle.v8_meaning.specs.Admitted.{is_admitted}
 use Rattle.v8_meaning.specs.Transfers.{bytes_in}
 use Rattle.v8_meaning.specs.declared.operation.Operation.{Operation}
 use Rattle.v8_meaning.specs.declared.operation.Operation.TheVariants.{Restore, Save}
 use Rattle.v8_mmu.specs.declared.bus.Stop.{Stop}
 use Rattle.v8_mmu.specs.declared.translation.MmuRegs.{MmuRegs}
-use Rattle.v8_state.specs.declared.state.Control.{Control}
 use Rattle.v8_core.specs.declared.turn.DataAccess.{DataAccess}
 use Rattle.v8_core.specs.declared.turn.Event.{Event}
 use Rattle.v8_core.specs.declared.turn.Event.TheVariants.{Annulled, ErrorMode, Ran, Stopped, Trapped}
 use Rattle.v8_core.specs.declared.turn.Turn.{Turn}
 use Rattle.v8_core.specs.Accesses.{World, is_user}
-use Rattle.v8_core.specs.Steps.{attempts, ends, goes_on, next, tries, turn_of}
+use Rattle.v8_core.specs.Steps.{attempts, ends, goes_on, next, tries}
 use Rattle.v8_memory.specs.Board.{Device, board}
 use Rattle.v8_loaded.specs.Turns.{IsHandlers, ReachesArea, after, turn_at}
 use Rattle.v8_loaded.specs.Users.{AsksFor, IsHandled}
@@ -26,19 +23,17 @@ use Rattle.v8_board.specs.declared.outcome.Counts.{Counts}
 use Rattle.v8_board.specs.Counting.{counted, counts_after, with_turn}
 use Rattle.v8_board.specs.Seen.{ending_of}
 use Rattle.v8_board.specs.Start.{pages_of}
-use Rattle.v8_board.proofs.Placed.{pages_few}
 use Rattle.sbx_image.specs.declared.parts.Parts.{Parts}
-use Rattle.sbx_flat.specs.Registers.{Frame, Registers}
+use Rattle.sbx_flat.specs.Registers.{Registers}
 use Rattle.sbx_flat.specs.States.{State}
 use Rattle.sbx_flat.specs.Traffic.{after_operation}
-use Rattle.sbx_flat.specs.Turns.{IsWrong}
 use Rattle.sbx_shows.specs.Advances.{Advances, IsMoment, counts_by, more, so_many}
 use Rattle.sbx_shows.specs.Calls.{base, depth}
-use Rattle.sbx_shows.specs.Shows.{IsStacked, Shows}
+use Rattle.sbx_shows.specs.Shows.{IsStacked}
 use Rattle.sbx_shows.specs.Steps.{OneTurn, Stands}
-use Rattle.sbx_shows.specs.Turns.{IsOwnEvent, IsOwnTurn, ReachesCall, StaysBeside, StaysOnWord}
+use Rattle.sbx_shows.specs.Turns.{IsOwnEvent, IsOwnTurn, ReachesCall, StaysBeside}
 use Rattle.sbx_shows.proofs.Advancing.{counted_is, counts_are, not_ended, one_own, one_ran, one_shows, step_of, traffic_of}
-use Rattle.sbx_shows.proofs.Callers.{Returns, restore_turn, returns, save_turn}
+use Rattle.sbx_shows.proofs.Callers.{restore_turn, returns, save_turn}
 use Rattle.sbx_shows.proofs.Own.{no_word, on_word, user_own}
 use Rattle.sbx_shows.proofs.Places.{word}
 use Rattle.sbx_shows.proofs.Traffics.{overflow_counts, underflow_counts}
@@ -133,8 +128,8 @@ all_counts n mmu x c t o u (suc k) trap ran first less small =
 -- ---- the trap, the 23 turns of its handler, and the instruction again
 
 module _ (n : ℕ) (parts : Parts) (mmu : MmuRegs) (x : World n Device) (s : State) (r i : ℕ) (h : Stands n parts mmu x s r i) (op : Operation) (is : AsksFor parts.words i op) (admitted : is_admitted op ≡ true)
-  (t sp j : ℕ) (store : Bool) (handled : IsHandled n parts.words mmu x i t sp store) (own_trap : IsOwnEvent parts (Trapped t)) (open_call : j < depth s.registers) (at : sp ≡ base s.registers j)
-  (mid windows : ℕ) (shown : Stands n parts mmu (after board n mmu 24 x) s mid i) (one : OneTurn n parts mmu (after board n mmu 24 x) s op windows) where
+    (t sp j : ℕ) (store : Bool) (handled : IsHandled n parts.words mmu x i t sp store) (own_trap : IsOwnEvent parts (Trapped t)) (open_call : j < depth s.registers) (at : sp ≡ base s.registers j)
+    (mid windows : ℕ) (shown : Stands n parts mmu (after board n mmu 24 x) s mid i) (one : OneTurn n parts mmu (after board n mmu 24 x) s op windows) where
   turns : (k : ℕ) → k < 23 → IsHandlers (base s.registers j) 64 store (turn_at board n mmu (suc k) x)
   turns k less = subst (λ q. IsHandlers q 64 store (turn_at board n mmu (suc k) x)) at (handled.turns k less)
 
@@ -196,13 +191,12 @@ saves_overflow n parts mmu x s r i f h is good full =
     let pointer = spilling.pointer_is n parts mmu x s r i h f is full in
     let after_it : Stands n parts mmu (after board n mmu 24 x) s (r - 1) i = record { fits = h.fits; root = h.root; shows = shown; straight = h.straight; place = h.place; within = h.within } in
     let back : suc (r - 1) ≡ r = omega arith in
-    let one = subst (λ q. OneTurn n parts mmu (after board n mmu 24 x) s (Save f) q) back (save_turn n parts mmu (after board n mmu 24 x) s (r - 1) i after_it f is good (omega arith)) in
-    (
+    let one = subst (λ q. OneTurn n parts mmu (after board n mmu 24 x) s (Save f) q) back (save_turn n parts mmu (after board n mmu 24 x) s (r - 1) i after_it f is good (omega arith)) in (
       first_event n parts mmu x s r i h (Save f) is refl 5 (stack_pointer n x.cpu) (r - 1) true handled.turns refl (omega arith) pointer (r - 1) r after_it one,
       shown,
       retried_advances n parts mmu x s r i h (Save f) is refl 5 (stack_pointer n x.cpu) (r - 1) true handled.turns refl (omega arith) pointer (r - 1) r after_it one 1 0
-      (λ c small a b. overflow_counted c small a)
-      (λ p q k. let e : q ≡ q + 0 = omega arith in overflow_counts n r p q k f full ∙ ap (λ z. so_many r (p + 1) z (k + 25)) e),
+          (λ c small a b. overflow_counted c small a)
+          (λ p q k. let e : q ≡ q + 0 = omega arith in overflow_counts n r p q k f full ∙ ap (λ z. so_many r (p + 1) z (k + 25)) e),
     )
 
 pub restores_underflow : RestoresUnderflow
@@ -216,11 +210,10 @@ restores_underflow n parts mmu x s i f h is good =
     let shown = filling.underflow_shows n parts mmu x s i h f is two in
     let pointer = filling.pointer_is n parts mmu x s i h f is two in
     let after_it : Stands n parts mmu (after board n mmu 24 x) s 2 i = record { fits = h.fits; root = h.root; shows = shown; straight = h.straight; place = h.place; within = h.within } in
-    let one = restore_turn n parts mmu (after board n mmu 24 x) s 2 i after_it f is good (omega arith) in
-    (
+    let one = restore_turn n parts mmu (after board n mmu 24 x) s 2 i after_it f is good (omega arith) in (
       first_event n parts mmu x s 1 i h (Restore f) is refl 6 (filled_pointer n x.cpu) 1 false handled.turns refl two pointer 2 1 after_it one,
       shown,
       retried_advances n parts mmu x s 1 i h (Restore f) is refl 6 (filled_pointer n x.cpu) 1 false handled.turns refl two pointer 2 1 after_it one 0 1
-      (λ c small a b. underflow_counted c small b)
-      (λ p q k. let e : p ≡ p + 0 = omega arith in underflow_counts n p q k f ∙ ap (λ z. so_many 1 z (q + 1) (k + 25)) e),
+          (λ c small a b. underflow_counted c small b)
+          (λ p q k. let e : p ≡ p + 0 = omega arith in underflow_counts n p q k f ∙ ap (λ z. so_many 1 z (q + 1) (k + 25)) e),
     )

@@ -1,14 +1,12 @@
 -- Calls of services: what their turns leave is shown, and each with its vector is a step.
-use Rattle.std.proofs.Common.{◌≡◌, ◌≢◌, ℕ, zero, suc, ◌+◌, ◌-◌, ◌*◌, ◌/◌, ◌%◌, ◌^◌, ◌<◌, ◌≤◌, ◌⊎◌, inl, inr, Bool, true, false, List, [], ◌∷◌, ◌++◌, length, Option, Some, None, refl, sym, ap, ◌∙◌, subst, arith}
-use Rattle.std.specs.Prelude.{slice_get, slice_index, ◌==◌, if◌then◌else◌}
+use Rattle.std.proofs.Common.{◌≡◌, ◌≢◌, ℕ, zero, suc, ◌+◌, ◌-◌, ◌%◌, ◌^◌, ◌<◌, ◌≤◌, inl, inr, Bool, true, false, List, [], ◌∷◌, ◌++◌, length, Some, None, refl, sym, ap, ◌∙◌, subst, arith}
+use Rattle.std.specs.Prelude.{slice_get, if◌then◌else◌}
 use Rattle.std.specs.List.{AllByRecursion}
-use Rattle.std.proofs.lemmas.Bool.Decides.{nat_tests}
 use Rattle.v8_meaning.specs.Admitted.{is_admitted}
 use Rattle.v8_meaning.specs.Operands.{following}
-use Rattle.v8_windows.specs.Windows.{IsFile, Windows, below, can_enter, reg_of, with_reg, with_word, word_at}
+use Rattle.v8_windows.specs.Windows.{IsFile, Windows, below, can_enter, reg_of, with_word, word_at}
 use Rattle.v8_mmu.specs.declared.translation.MmuRegs.{MmuRegs}
 use Rattle.v8_core.specs.declared.turn.Event.{Event}
-use Rattle.v8_core.specs.declared.turn.Event.TheVariants.{Ran, Stopped, Trapped}
 use Rattle.v8_core.specs.Accesses.{World, world}
 use Rattle.v8_layout.specs.Layout.{IsLoaded}
 use Rattle.v8_layout.proofs.Marks.{system_markable}
@@ -18,7 +16,7 @@ use Rattle.v8_loaded.specs.Turns.{Leads, after, turn_at}
 use Rattle.v8_loaded.specs.Users.{RunsUser}
 use Rattle.v8_loaded.proofs.Fetches.{device_kept as device_loaded, table_kept}
 use Rattle.v8_loaded.proofs.Windows.{below_within}
-use Rattle.v8_services.specs.Services.{Calls, calls, code_marked, device_address, device_marked, exit_events, exited, got, put, returned_from, scratched, served_events, table_marked, vector_marked}
+use Rattle.v8_services.specs.Services.{Calls, calls, code_marked, device_address, device_marked, exit_events, exited, got, put, scratched, served_events, table_marked, vector_marked}
 use Rattle.v8_services.proofs.Frames.{file_with, scratched_file, word_apart, word_beside}
 use Rattle.v8_services.proofs.Served.{exit_law, exit_system, get_law, get_system, loaded_after, put_law, put_system}
 use Rattle.v8_board.specs.declared.outcome.Counts.{Counts}
@@ -30,12 +28,11 @@ use Rattle.sbx_image.specs.declared.parts.Parts.{Parts}
 use Rattle.sbx_flat.specs.Effects.{declares, does, exits, gets as flat_gets, puts}
 use Rattle.sbx_flat.specs.Registers.{Registers, still}
 use Rattle.sbx_flat.specs.Runs.{AreBytes}
-use Rattle.sbx_flat.specs.States.{Fails, Goes, State, advanced, reg, with_reg as flat_with_reg}
+use Rattle.sbx_flat.specs.States.{Goes, State, advanced, with_reg as flat_with_reg}
 use Rattle.sbx_flat.specs.Turns.{IsWrong}
 use Rattle.sbx_flat.specs.declared.path.Wrong.TheVariants.{NoService}
 use Rattle.sbx_flat.proofs.Law.{still_is_fresh}
 use Rattle.sbx_shows.specs.Advances.{Advances, IsMoment, counts_by, more, so_many}
-use Rattle.sbx_shows.specs.Calls.{cell}
 use Rattle.sbx_shows.specs.Marks.{OwnMarks}
 use Rattle.sbx_shows.specs.Shows.{Shows, ShowsCalls, window}
 use Rattle.sbx_shows.specs.Steps.{Over, Stands}
@@ -47,7 +44,7 @@ use Rattle.sbx_shows.proofs.Own.{no_word, touching_own}
 use Rattle.sbx_shows.proofs.Pages.{served_own, vector_own}
 use Rattle.sbx_shows.proofs.Places.{fails_not, same_reg, user}
 use Rattle.sbx_shows.proofs.Reading.{current_free}
-use Rattle.sbx_shows.proofs.Users.{OnlyMarks, control_moved, device_kept, fetch_marks, marked_shows, next_whole, next_word, register_shows}
+use Rattle.sbx_shows.proofs.Users.{OnlyMarks, fetch_marks, marked_shows, next_whole, next_word, register_shows}
 
 -- ---- what the device gives
 
@@ -196,7 +193,7 @@ abbrev IsOneTurn : Event → Type 0
 IsOneTurn event = (c : Counts) → counts_after event c ≡ with_turn c
 
 module _ (n : ℕ) (parts : Parts) (mmu : MmuRegs) (file : Registers) (fits : length parts.words ≤ 65536) (events : List Event) (x new : World n Device) (leads : Leads n (pages_of parts) mmu x events new)
-  (plain : AllByRecursion IsOneTurn events) (own : AllByRecursion (IsOwnEvent parts) events) where
+    (plain : AllByRecursion IsOneTurn events) (own : AllByRecursion (IsOwnEvent parts) events) where
   led_going : (k : ℕ) → k < length events → ending_of n (after board n mmu k x) ≡ None
   led_going k less =
       let e = event_at IsOneTurn events k less plain in

@@ -1,6 +1,6 @@
 -- A slot of the newest call written, and the page that its access marks.
-use Rattle.std.proofs.Common.{◌≡◌, ◌≢◌, ℕ, zero, suc, ◌+◌, ◌-◌, ◌*◌, ◌/◌, ◌%◌, ◌^◌, ◌<◌, ◌≤◌, ◌⊎◌, inl, inr, Bool, true, false, List, length, Option, Some, None, refl, sym, ap, ◌∙◌, subst, arith}
-use Rattle.std.specs.Prelude.{slice_index, ◌==◌, ◌&&◌, ◌||◌, nat_le, nat_lt, if◌then◌else◌}
+use Rattle.std.proofs.Common.{◌≡◌, ◌≢◌, ℕ, zero, suc, ◌+◌, ◌-◌, ◌*◌, ◌/◌, ◌%◌, ◌^◌, ◌<◌, ◌≤◌, ◌⊎◌, inl, inr, Bool, true, false, List, length, Some, refl, sym, ap, ◌∙◌, subst, arith}
+use Rattle.std.specs.Prelude.{◌==◌, if◌then◌else◌}
 use Rattle.std.proofs.lemmas.Bool.Decides.{nat_tests}
 use Rattle.v8_mmu.specs.Ram.{entry_of, with_entry}
 use Rattle.v8_mmu.specs.Paths.{marked_ram}
@@ -16,7 +16,7 @@ use Rattle.sbx_image.specs.declared.parts.Parts.{Parts}
 use Rattle.sbx_flat.specs.Registers.{Registers, with_slot}
 use Rattle.sbx_flat.specs.States.{State}
 use Rattle.sbx_flat.specs.Traffic.{is_own_data_page}
-use Rattle.sbx_shows.specs.Calls.{base, cell, depth, slot}
+use Rattle.sbx_shows.specs.Calls.{base, cell, slot}
 use Rattle.sbx_shows.specs.Marks.{is_own_page}
 use Rattle.sbx_shows.specs.Shows.{Fits, HasStack, IsSlot, IsStacked, Shows, ShowsSaved, ShowsSlots}
 use Rattle.sbx_shows.proofs.Kept.{marked_same}

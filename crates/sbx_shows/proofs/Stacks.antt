@@ -1,15 +1,13 @@
 -- Where the 64 bytes of calls and their slots lie, and that the stack's pages are the image's own.
-use Rattle.std.proofs.Common.{◌≡◌, ◌≢◌, ℕ, suc, ◌+◌, ◌-◌, ◌*◌, ◌/◌, ◌%◌, ◌<◌, ◌≤◌, ◌⊎◌, inl, inr, Bool, true, false, List, length, Some, refl, sym, ap, ◌∙◌, subst, arith}
-use Rattle.std.specs.Prelude.{◌==◌, ◌&&◌, ◌||◌, nat_le, nat_lt, if◌then◌else◌}
+use Rattle.std.proofs.Common.{◌≡◌, ◌≢◌, ℕ, ◌+◌, ◌-◌, ◌*◌, ◌/◌, ◌%◌, ◌<◌, ◌≤◌, ◌⊎◌, inl, inr, Bool, true, List, length, sym, ap, ◌∙◌, subst, arith}
+use Rattle.std.specs.Prelude.{nat_le, if◌then◌else◌}
 use Rattle.std.proofs.lemmas.Bool.Decides.{nat_tests}
 use Rattle.v8_mmu.specs.Ram.{entry_of}
-use Rattle.v8_mmu.specs.Paths.{marked_ram}
 use Rattle.v8_layout.specs.Layout.{IsLoaded}
 use Rattle.v8_loaded.specs.Areas.{HasRoom, area_of}
 use Rattle.v8_loaded.specs.Places.{code_marked, stack_entry_place}
 use Rattle.v8_board.specs.Marks.{bit_of}
 use Rattle.v8_board.specs.Start.{at_most, pages_of}
-use Rattle.v8_board.proofs.Placed.{pages_few}
 use Rattle.sbx_image.specs.declared.parts.Parts.{Parts}
 use Rattle.sbx_flat.specs.Registers.{Registers}
 use Rattle.sbx_flat.specs.Traffic.{is_own_data_page}
@@ -72,7 +70,7 @@ handled_own n parts old new i sp fits loaded within room same own =
     let last_own = stack_own parts (sp + 60) fits (omega arith) (omega arith) in
     let beside : (k : ℕ) → k < 192 → 0x40 + k ≢ sp / 4096 → 0x40 + k ≢ (sp + 60) / 4096 → entry_of new (0x2A00 + 4 * k) ≡ entry_of mid (0x2A00 + 4 * k) =
     λ (k : ℕ) (less : k < 192) (a : 0x40 + k ≢ sp / 4096) (b : 0x40 + k ≢ (sp + 60) / 4096).
-        same (0x2A00 + 4 * k) (omega arith) (omega arith) (λ j small e. apart_by k j sp (omega arith) (omega arith) small a b e) in
+    same (0x2A00 + 4 * k) (omega arith) (omega arith) (λ j small e. apart_by k j sp (omega arith) (omega arith) small a b e) in
     record {
       referenced = λ k less is.
           let one : (0x40 + k ≡ sp / 4096) ⊎ (0x40 + k ≢ sp / 4096) = search arith in

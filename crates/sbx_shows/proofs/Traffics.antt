@@ -1,15 +1,13 @@
 -- The counts of a board run are the window traffic of the flat path, one step more at its end each time.
-use Rattle.std.proofs.Common.{◌≡◌, ◌≢◌, ℕ, suc, ◌+◌, ◌-◌, ◌*◌, ◌<◌, ◌≤◌, Bool, true, false, List, [], ◌∷◌, ◌++◌, Some, refl, sym, ap, ◌∙◌, arith}
+use Rattle.std.proofs.Common.{◌≡◌, ℕ, ◌+◌, ◌-◌, ◌<◌, ◌≤◌, Bool, true, false, List, [], ◌∷◌, ◌++◌, Some, refl, ap, ◌∙◌, arith}
 use Rattle.std.specs.Prelude.{◌==◌, if◌then◌else◌}
 use Rattle.std.proofs.lemmas.Bool.Decides.{nat_tests}
 use Rattle.v8_formats.specs.declared.instr.Three.{Three}
-use Rattle.v8_meaning.specs.declared.operation.Operation.{Operation}
 use Rattle.v8_meaning.specs.declared.operation.Operation.TheVariants.{Save, Restore}
 use Rattle.sbx_image.specs.declared.parts.Parts.{Parts}
-use Rattle.sbx_flat.specs.Runs.{weight_of}
 use Rattle.sbx_flat.specs.declared.path.Place.{Place}
 use Rattle.sbx_flat.specs.declared.path.Traffic.{Traffic}
-use Rattle.sbx_flat.specs.Traffic.{after_operation, after_place, after_word, no_traffic, restored, saved, traffic, traffic_from}
+use Rattle.sbx_flat.specs.Traffic.{after_operation, after_place, after_word, no_traffic, traffic, traffic_from}
 use Rattle.sbx_flat.specs.Turns.{asked, word_at}
 use Rattle.sbx_shows.specs.Advances.{so_many}
 

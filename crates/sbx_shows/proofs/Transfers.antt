@@ -1,6 +1,6 @@
 -- Turns of user code that load, store or exchange, in a slot of the newest call or in the data.
-use Rattle.std.proofs.Common.{◌≡◌, ◌≢◌, ℕ, zero, suc, ◌+◌, ◌-◌, ◌*◌, ◌/◌, ◌%◌, ◌^◌, ◌<◌, ◌≤◌, Bool, true, false, not, List, length, Option, Some, None, Ok, refl, sym, ap, ◌∙◌, subst, arith}
-use Rattle.std.specs.Prelude.{◌==◌, ◌&&◌, ◌||◌, nat_lt, if◌then◌else◌}
+use Rattle.std.proofs.Common.{◌≡◌, ℕ, ◌+◌, ◌-◌, ◌*◌, ◌/◌, ◌%◌, ◌^◌, ◌<◌, ◌≤◌, Bool, true, false, not, List, length, Option, Some, None, Ok, refl, sym, ap, ◌∙◌, subst, arith}
+use Rattle.std.specs.Prelude.{◌==◌, ◌&&◌, nat_lt, if◌then◌else◌}
 use Rattle.std.proofs.lemmas.Bool.Decides.{nat_tests}
 use Rattle.v8_word.specs.declared.Size.{Size}
 use Rattle.v8_word.specs.declared.Size.TheVariants as sizes
@@ -21,7 +21,7 @@ use Rattle.v8_meaning.specs.declared.operation.Transfer.TheVariants.{Load, Store
 use Rattle.v8_mmu.specs.Meaning.{limit_of}
 use Rattle.v8_mmu.specs.Permissions.{permits, rights_of}
 use Rattle.v8_mmu.specs.Paths.{marked_ram}
-use Rattle.v8_mmu.specs.Ram.{entry_of, number_at as board_number, with_entry}
+use Rattle.v8_mmu.specs.Ram.{entry_of, number_at as board_number}
 use Rattle.v8_mmu.specs.Walked.{Page, root_of, walked}
 use Rattle.v8_mmu.specs.declared.access.Access.{Access}
 use Rattle.v8_mmu.specs.declared.translation.MmuRegs.{MmuRegs}
@@ -44,20 +44,19 @@ use Rattle.v8_loaded.proofs.Users.{user_runs}
 use Rattle.v8_board.specs.Start.{pages_of}
 use Rattle.v8_board.proofs.Placed.{pages_few}
 use Rattle.sbx_image.specs.declared.parts.Parts.{Parts}
-use Rattle.sbx_flat.specs.Effects.{does, aligned, is_stack_pointer, leaves_in_data, leaves_in_slot, slot_of, takes, transfers, transfers_data, transfers_in, with_regs}
-use Rattle.sbx_flat.specs.Memory.{number_at, with_number}
-use Rattle.sbx_flat.specs.Registers.{still, with_slot}
-use Rattle.sbx_flat.specs.States.{Fails, Goes, State, Turn, advanced, reg}
+use Rattle.sbx_flat.specs.Effects.{does, is_stack_pointer, leaves_in_data, leaves_in_slot, slot_of, takes, transfers_data, transfers_in, with_regs}
+use Rattle.sbx_flat.specs.Memory.{number_at}
+use Rattle.sbx_flat.specs.Registers.{still}
+use Rattle.sbx_flat.specs.States.{Fails, Goes, State, advanced, reg}
 use Rattle.sbx_flat.specs.Traffic.{is_own_data_page}
 use Rattle.sbx_flat.specs.Turns.{IsWrong}
-use Rattle.sbx_flat.specs.declared.path.Wrong.{Wrong}
 use Rattle.sbx_flat.specs.declared.path.Wrong.TheVariants.{Misaligned, OutsideData, StackPointer}
 use Rattle.sbx_flat.proofs.Law.{still_is_fresh}
-use Rattle.sbx_shows.specs.Calls.{base, depth, slot}
+use Rattle.sbx_shows.specs.Calls.{slot}
 use Rattle.sbx_shows.specs.Shows.{Shows}
 use Rattle.sbx_shows.specs.Steps.{OneTurn, Stands}
 use Rattle.sbx_shows.proofs.Data.{data_at, data_entry_place, data_marks, data_own, data_room, data_stored_shows}
-use Rattle.sbx_shows.proofs.Fields.{MemoryIn, SecondIn}
+use Rattle.sbx_shows.proofs.Fields.{MemoryIn}
 use Rattle.sbx_shows.proofs.Files.{reads_word}
 use Rattle.sbx_shows.proofs.Moved.{answers_ram, brought, left, received_brought, received_shows, same_sent, sent_byte}
 use Rattle.sbx_shows.proofs.Numbers.{inside, number_fits, number_there, some_bytes}
@@ -65,7 +64,7 @@ use Rattle.sbx_shows.proofs.Places.{fails_not, fetched, fields, marks, same_addr
 use Rattle.sbx_shows.proofs.Processor.{calm_transfer}
 use Rattle.sbx_shows.proofs.Slots.{slot_stored_shows, stack_marks}
 use Rattle.sbx_shows.proofs.Stacks.{stack_own}
-use Rattle.sbx_shows.proofs.Users.{OnlyMarks, marked_shows, next_shows}
+use Rattle.sbx_shows.proofs.Users.{marked_shows, next_shows}
 
 -- an access of the mode's own data
 abbrev pub at_operand : ℕ → ℕ → Operand → MemoryOperand
@@ -86,7 +85,7 @@ in_ram : (pa : ℕ) → pa < 0x100000 → nat_lt pa device_base ≡ true
 in_ram pa less = grind (arith, nat_tests)
 
 module _ (n : ℕ) (parts : Parts) (mmu : MmuRegs) (x : World n Device) (s : State) (r i : ℕ) (h : Stands n parts mmu x s r i) (good : IsWrong parts s → ⊥)
-  (t : Transfer) (rd rs1 : ℕ) (o : Operand) (is : AsksFor parts.words i (operation.Transfer t (at_operand rd rs1 o))) (pair : splits_pair (size_of t) rd ≡ false) (fit : MemoryIn (at_operand rd rs1 o)) where
+    (t : Transfer) (rd rs1 : ℕ) (o : Operand) (is : AsksFor parts.words i (operation.Transfer t (at_operand rd rs1 o))) (pair : splits_pair (size_of t) rd ≡ false) (fit : MemoryIn (at_operand rd rs1 o)) where
   abbrev op : Operation
   op = operation.Transfer t (at_operand rd rs1 o)
 
@@ -200,9 +199,9 @@ module _ (n : ℕ) (parts : Parts) (mmu : MmuRegs) (x : World n Device) (s : Sta
       let zero_rest : a % bytes_in size ≡ 0 = grind (arith, nat_tests, whole) in
       let there = number_there parts s.memory (marked (data_entry_place a)) a number size h.fits shown.bytes m.loaded.tables.size zero_rest found in
       let goes : does parts still op s ≡ takes (received t rd number) (leaves_in_data t a v s) =
-          ap (λ (b : Bool). if b then transfers_in t rd a (slot_of t s a) s else Fails Misaligned) whole
-          ∙ ap (λ p. transfers_in t rd a p s) none
-          ∙ ap (λ p. transfers_data t rd a p s) found in
+      ap (λ (b : Bool). if b then transfers_in t rd a (slot_of t s a) s else Fails Misaligned) whole
+      ∙ ap (λ p. transfers_in t rd a p s) none
+      ∙ ap (λ p. transfers_data t rd a p s) found in
       ends (a - 0x30000) (data_entry_place a) number (left t (marked (data_entry_place a)) (a - 0x30000) v) (leaves_in_data t a v s) whole (data_walk low high)
       (answers_ram (marked (data_entry_place a)) x.memory.device (a - 0x30000) v number (in_ram (a - 0x30000) (omega arith)) t there)
       (data_own parts a low high) goes (data_left (marked (data_entry_place a)) number (writes_memory t) refl found shown) (number_fits parts s.memory x.memory.ram a number size h.shows.bytes found)
@@ -266,8 +265,8 @@ module _ (n : ℕ) (parts : Parts) (mmu : MmuRegs) (x : World n Device) (s : Sta
       let number : board_number (marked (stack_entry_place a)) (a - 0x60000) size ≡ Some old = subst (λ z. board_number (marked (stack_entry_place a)) (a - 0x60000) z ≡ Some old) (sym which.0) word_there in
       let small : old < limit_of size = subst (λ z. old < limit_of z) (sym which.0) (h.shows.stack (a - 0x60000) old (omega arith) p.there) in
       let goes : does parts still op s ≡ takes (received t rd old) (leaves_in_slot t a v s) =
-          ap (λ (b : Bool). if b then transfers_in t rd a (slot_of t s a) s else Fails Misaligned) whole
-          ∙ ap (λ p. transfers_in t rd a p s) there in
+      ap (λ (b : Bool). if b then transfers_in t rd a (slot_of t s a) s else Fails Misaligned) whole
+      ∙ ap (λ p. transfers_in t rd a p s) there in
       ends (a - 0x60000) (stack_entry_place a) old (left t (marked (stack_entry_place a)) (a - 0x60000) v) (leaves_in_slot t a v s) whole (slot_walk low high)
       (answers_ram (marked (stack_entry_place a)) x.memory.device (a - 0x60000) v old (in_ram (a - 0x60000) (omega arith)) t number)
       (stack_own parts a h.fits low high) goes (slot_left (marked (stack_entry_place a)) old (writes_memory t) refl which.0 held shown) small
@@ -279,7 +278,7 @@ module _ (n : ℕ) (parts : Parts) (mmu : MmuRegs) (x : World n Device) (s : Sta
   by_place None (Some number) whole e f = in_data number whole e f
   by_place None None whole e f =
       absurd (fails_not n parts mmu x s r i h op is admitted good OutsideData
-        (ap (λ (b : Bool). if b then transfers_in t rd a (slot_of t s a) s else Fails Misaligned) whole ∙ ap (λ p. transfers_in t rd a p s) e ∙ ap (λ p. transfers_data t rd a p s) f))
+      (ap (λ (b : Bool). if b then transfers_in t rd a (slot_of t s a) s else Fails Misaligned) whole ∙ ap (λ p. transfers_in t rd a p s) e ∙ ap (λ p. transfers_data t rd a p s) f))
 
   by_alignment : (b : Bool) → (a % bytes_in size == 0) ≡ b → OneTurn n parts mmu x s op r
   by_alignment false e = absurd (fails_not n parts mmu x s r i h op is admitted good Misaligned (ap (λ (b : Bool). if b then transfers_in t rd a (slot_of t s a) s else Fails Misaligned) e))

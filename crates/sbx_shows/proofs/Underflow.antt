@@ -1,26 +1,25 @@
 -- A RESTORE that finds its window marked: the 24 turns of its trap keep what the board shows, with one call more in windows.
-use Rattle.std.proofs.Common.{◌≡◌, ◌≢◌, ℕ, zero, suc, ◌+◌, ◌-◌, ◌*◌, ◌/◌, ◌%◌, ◌^◌, ◌<◌, ◌≤◌, ◌⊎◌, inl, inr, Bool, true, false, List, length, Some, refl, sym, ap, ◌∙◌, subst, arith}
+use Rattle.std.proofs.Common.{◌≡◌, ℕ, zero, suc, ◌+◌, ◌-◌, ◌*◌, ◌%◌, ◌^◌, ◌<◌, ◌≤◌, inl, List, Some, refl, sym, ap, ◌∙◌, subst, arith}
 use Rattle.std.specs.Prelude.{slice_index}
 use Rattle.v8_formats.specs.declared.instr.Three.{Three}
 use Rattle.v8_meaning.specs.declared.operation.Operation.TheVariants.{Restore}
 use Rattle.v8_mmu.specs.Ram.{entry_of}
 use Rattle.v8_mmu.specs.declared.translation.MmuRegs.{MmuRegs}
-use Rattle.v8_mmu.proofs.RamLemmas.{entry_is}
-use Rattle.v8_windows.specs.Windows.{above, word_at}
+use Rattle.v8_windows.specs.Windows.{word_at}
 use Rattle.v8_state.specs.declared.state.Control.{Control}
 use Rattle.v8_core.specs.Accesses.{World}
 use Rattle.v8_memory.specs.Board.{Device, board}
-use Rattle.v8_loaded.specs.Areas.{HasFrame, area_of}
+use Rattle.v8_loaded.specs.Areas.{HasFrame}
 use Rattle.v8_loaded.specs.Places.{entered_window}
 use Rattle.v8_loaded.specs.Turns.{after}
 use Rattle.v8_loaded.specs.Users.{AsksFor}
-use Rattle.v8_refill.specs.Laws.{Handled, Refilled, Underflows, next_window, refilled_window, stack_pointer}
+use Rattle.v8_refill.specs.Laws.{Handled, Refilled, Underflows, next_window, stack_pointer}
 use Rattle.v8_refill.proofs.Law.{underflow_law}
 use Rattle.v8_board.specs.Start.{pages_of}
 use Rattle.v8_board.proofs.Placed.{pages_few}
 use Rattle.sbx_image.specs.declared.parts.Parts.{Parts}
 use Rattle.sbx_flat.specs.States.{State}
-use Rattle.sbx_shows.specs.Calls.{base, cell, depth, slot}
+use Rattle.sbx_shows.specs.Calls.{base, cell, depth}
 use Rattle.sbx_shows.specs.Shows.{HasStack, Shows, ShowsCalls, ShowsControl, ShowsData, ShowsDevice, ShowsSaved, ShowsSlots, window}
 use Rattle.sbx_shows.specs.Steps.{Stands}
 use Rattle.sbx_shows.proofs.Distances.{below_is, same_distance, window_above}

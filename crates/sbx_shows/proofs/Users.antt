@@ -1,8 +1,8 @@
 -- A turn of user code that writes a register, whatever it loads: both machines go on.
-use Rattle.std.proofs.Common.{◌≡◌, ◌≢◌, ℕ, ◌+◌, ◌-◌, ◌*◌, ◌/◌, ◌%◌, ◌^◌, ◌<◌, ◌≤◌, Bool, true, false, List, length, refl, sym, ap, ◌∙◌, subst, arith}
+use Rattle.std.proofs.Common.{◌≡◌, ◌≢◌, ℕ, ◌+◌, ◌*◌, ◌/◌, ◌%◌, ◌^◌, ◌<◌, Bool, false, List, refl, sym, ap, ◌∙◌, subst, arith}
 use Rattle.v8_word.specs.declared.Icc.{Icc}
 use Rattle.v8_meaning.specs.Operands.{following}
-use Rattle.v8_windows.specs.Windows.{Windows, IsFile, with_reg}
+use Rattle.v8_windows.specs.Windows.{with_reg}
 use Rattle.v8_mmu.specs.Walked.{root_of}
 use Rattle.v8_mmu.specs.declared.translation.MmuRegs.{MmuRegs}
 use Rattle.v8_state.specs.Effects.{advanced as board_advanced}
@@ -16,7 +16,7 @@ use Rattle.v8_loaded.proofs.Fetches.{code_kept}
 use Rattle.v8_board.specs.Start.{pages_of}
 use Rattle.v8_board.proofs.Placed.{pages_few}
 use Rattle.sbx_image.specs.declared.parts.Parts.{Parts}
-use Rattle.sbx_flat.specs.Registers.{Registers, written}
+use Rattle.sbx_flat.specs.Registers.{written}
 use Rattle.sbx_flat.specs.Runs.{AreBytes}
 use Rattle.sbx_flat.specs.States.{State, advanced, with_reg as flat_with_reg, reg}
 use Rattle.sbx_shows.specs.Marks.{OwnMarks}
@@ -25,9 +25,9 @@ use Rattle.sbx_shows.proofs.Reading.{reads_same}
 use Rattle.sbx_shows.proofs.Processor.{moved_on}
 use Rattle.sbx_shows.proofs.Files.{file_written}
 use Rattle.sbx_shows.specs.Laws.{ReadsTheSame}
-use Rattle.sbx_shows.specs.Shows.{Shows, ShowsCalls, ShowsControl, ShowsDevice, IsStacked, ShowsSaved, ShowsSlots}
+use Rattle.sbx_shows.specs.Shows.{Shows, ShowsControl, ShowsDevice}
 use Rattle.sbx_shows.proofs.Kept.{SameAbove, data_kept, marked_same, saved_kept, slots_kept, stack_kept}
-use Rattle.sbx_shows.proofs.Writing.{SameCalls, calls_written, same_calls, saved_same, slots_same, stacked_same}
+use Rattle.sbx_shows.proofs.Writing.{calls_written, same_calls, saved_same, slots_same, stacked_same}
 
 -- RAM that differs in marks of own pages alone
 pub record OnlyMarks (n : ℕ) (parts : Parts) (old new : List ℕ) : Type 0 where

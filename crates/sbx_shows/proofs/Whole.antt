@@ -1,13 +1,13 @@
 -- Every operation without a window trap, and what a state that does not fail asks for.
-use Rattle.std.proofs.Common.{◌≡◌, ◌≢◌, ℕ, zero, suc, ◌+◌, ◌-◌, ◌*◌, ◌<◌, ◌≤◌, Bool, true, false, Option, Some, None, refl, sym, ap, ◌∙◌, subst, arith}
-use Rattle.std.specs.Prelude.{◌==◌, ◌&&◌, ◌||◌, if◌then◌else◌}
+use Rattle.std.proofs.Common.{◌≡◌, ℕ, zero, suc, ◌+◌, ◌-◌, Bool, true, false, refl, sym, ap, ◌∙◌, subst, arith}
+use Rattle.std.specs.Prelude.{◌==◌, ◌&&◌, if◌then◌else◌}
 use Rattle.std.proofs.lemmas.Bool.Decides.{nat_tests}
 use Rattle.v8_word.specs.declared.Cond.{Cond}
 use Rattle.v8_word.specs.declared.Cond.TheVariants.{Always}
 use Rattle.v8_formats.specs.declared.instr.Operand.{Operand}
 use Rattle.v8_formats.specs.declared.instr.Operand.TheVariants.{Register, Immediate}
 use Rattle.v8_formats.specs.declared.instr.Trap.{Trap}
-use Rattle.v8_meaning.specs.Admitted.{is_admitted, is_immediate, is_service_call}
+use Rattle.v8_meaning.specs.Admitted.{is_admitted, is_immediate}
 use Rattle.v8_meaning.specs.Operands.{is_always}
 use Rattle.v8_meaning.specs.declared.operation.Operation.{Operation}
 use Rattle.v8_meaning.specs.declared.operation.Operation.TheVariants.{BranchOnCondition, Call, Compute, Coprocessor, Divide, FloatingPoint, Illegal, JumpAndLink, Nothing, ReadState, ReadY, Restore, ReturnFromTrap, Save, SetHigh, TaggedTrap, TrapOnCondition, WriteState, WriteY}
@@ -22,7 +22,7 @@ use Rattle.sbx_flat.specs.Effects.{declares, does}
 use Rattle.sbx_flat.specs.Registers.{still}
 use Rattle.sbx_flat.specs.States.{Fails, State}
 use Rattle.sbx_flat.specs.Traffic.{after_operation}
-use Rattle.sbx_flat.specs.Turns.{IsWrong, asked}
+use Rattle.sbx_flat.specs.Turns.{IsWrong}
 use Rattle.sbx_flat.specs.declared.path.Wrong.TheVariants.{NoService, NotAdmitted}
 use Rattle.sbx_flat.proofs.Law.{still_is_fresh}
 use Rattle.sbx_flat.proofs.Turns.{turn_at}
@@ -80,9 +80,14 @@ module _ (n : ℕ) (parts : Parts) (mmu : MmuRegs) (x : World n Device) (s : Sta
       by_test true e = e
       by_test false e =
           let w = word n parts mmu x s r i h in
-          absurd (good (still, still_is_fresh, NotAdmitted, turn_at parts still s w h.shows.going h.straight (here n parts mmu x s r i h)
-            ∙ ap (λ (o : Operation). if is_admitted o then does parts still o s else Fails NotAdmitted) is
-            ∙ ap (λ (b : Bool). if b then does parts still op s else Fails NotAdmitted) e))
+          absurd (good (
+            still,
+            still_is_fresh,
+            NotAdmitted,
+            turn_at parts still s w h.shows.going h.straight (here n parts mmu x s r i h)
+                ∙ ap (λ (o : Operation). if is_admitted o then does parts still o s else Fails NotAdmitted) is
+                ∙ ap (λ (b : Bool). if b then does parts still op s else Fails NotAdmitted) e,
+          ))
 
   one : (op : Operation) → AsksFor parts.words i op → OneTurn n parts mmu x s op r → ((o u k : ℕ) → after_operation n op (so_many r o u k) ≡ so_many r o u (k + 1)) → Advances n parts mmu x s r 1 0 0 r
   one op is turn traffic = one_advances n parts mmu x s r i h op is (admitted op is) r turn traffic

@@ -1,14 +1,14 @@
 -- A register written on both machines.
-use Rattle.std.proofs.Common.{◌≡◌, ◌≢◌, ℕ, zero, suc, ◌+◌, ◌-◌, ◌*◌, ◌%◌, ◌^◌, ◌<◌, ◌≤◌, ◌⊎◌, inl, inr, Bool, true, false, List, [], ◌∷◌, length, get_or, Option, Some, refl, sym, ap, ◌∙◌, subst, arith}
+use Rattle.std.proofs.Common.{◌≡◌, ◌≢◌, ℕ, zero, suc, ◌+◌, ◌-◌, ◌*◌, ◌%◌, ◌^◌, ◌<◌, ◌≤◌, ◌⊎◌, inl, inr, Bool, true, false, List, [], ◌∷◌, length, Some, refl, sym, ap, ◌∙◌, subst, arith}
 use Rattle.std.specs.Prelude.{slice_index, slice_set, ◌==◌, ◌&&◌, nat_lt, if◌then◌else◌}
 use Rattle.std.proofs.lemmas.Bool.Decides.{nat_tests}
 use Rattle.std.proofs.lemmas.List.{get_or-set_same, get_or-set_other}
 use Rattle.v8_mmu.specs.Ram.{entry_of}
-use Rattle.v8_windows.specs.Windows.{Windows, IsFile, above, reg_of, with_reg, word_at}
+use Rattle.v8_windows.specs.Windows.{Windows, IsFile, above, with_reg, word_at}
 use Rattle.v8_windows.proofs.AfterWrites.{written_at, written_current}
 use Rattle.sbx_flat.specs.Registers.{Frame, Registers, Words, with_in, with_word as with_number, written}
-use Rattle.sbx_shows.specs.Calls.{base, cell, cell_in, depth, slot}
-use Rattle.sbx_shows.specs.Shows.{window, ShowsCalls, IsStacked, ShowsSaved, IsSlot, ShowsSlots}
+use Rattle.sbx_shows.specs.Calls.{base, cell, depth, slot}
+use Rattle.sbx_shows.specs.Shows.{window, ShowsCalls, IsStacked, ShowsSaved, ShowsSlots}
 use Rattle.sbx_shows.proofs.Distances.{window_here, window_test}
 
 -- ---- the flat machine

@@ -1,5 +1,5 @@
 -- What a board with n windows shows of the flat machine, r of whose calls have windows of their own.
-use Rattle.std.specs.Prelude.{ℕ, suc, ◌≡◌, ◌+◌, ◌*◌, ◌-◌, ◌%◌, ◌^◌, ◌<◌, ◌≤◌, true, false, List, [], length, slice_index, Option, Some, None}
+use Rattle.std.specs.Prelude.{ℕ, suc, ◌≡◌, ◌+◌, ◌*◌, ◌-◌, ◌%◌, ◌^◌, ◌<◌, ◌≤◌, true, false, List, [], length, slice_index, Some, None}
 use Rattle.v8_mmu.specs.Ram.{entry_of}
 use Rattle.v8_windows.specs.Windows.{Windows, IsFile, word_at}
 use Rattle.v8_state.specs.declared.state.Control.{Control}

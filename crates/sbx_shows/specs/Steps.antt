@@ -1,5 +1,5 @@
 -- User code beside the flat machine, and what its turns come to.
-use Rattle.std.specs.Prelude.{ℕ, ◌≡◌, ◌+◌, ◌*◌, ◌<◌, false, length, Option, Some, None}
+use Rattle.std.specs.Prelude.{ℕ, ◌≡◌, ◌+◌, ◌*◌, ◌<◌, false, length, Option, Some}
 use Rattle.v8_meaning.specs.declared.operation.Operation.{Operation}
 use Rattle.v8_mmu.specs.Walked.{root_of}
 use Rattle.v8_mmu.specs.declared.bus.Stop.TheVariants.{Exit}

@@ -1,8 +1,8 @@
 -- A whole run of a safe image.
-use Rattle.std.proofs.Common.{◌≡◌, ◌≢◌, ℕ, zero, suc, ◌+◌, ◌-◌, ◌*◌, ◌/◌, ◌%◌, ◌^◌, ◌<◌, ◌≤◌, ◌⊎◌, inl, inr, Bool, true, false, List, [], length, Option, Some, None, refl, sym, ap, ◌∙◌, subst, arith}
+use Rattle.std.proofs.Common.{◌≡◌, ℕ, suc, ◌+◌, ◌-◌, ◌*◌, ◌/◌, ◌%◌, ◌<◌, ◌≤◌, ◌⊎◌, inl, inr, Bool, true, false, List, [], length, Option, Some, None, refl, sym, ap, ◌∙◌, subst, arith}
 use Rattle.std.specs.Prelude.{slice_get, slice_index, ◌==◌, ◌&&◌, nat_le, if◌then◌else◌}
 use Rattle.std.proofs.lemmas.Bool.Decides.{nat_tests}
-use Rattle.std.proofs.lemmas.Option.{slice_get_within, get_or_from_slice_get}
+use Rattle.std.proofs.lemmas.Option.{slice_get_within}
 use Rattle.v8_meaning.specs.declared.operation.Operation.{Operation}
 use Rattle.v8_meaning.specs.declared.operation.Operation.TheVariants.{Restore, Save}
 use Rattle.v8_mmu.specs.Walked.{root_of}
@@ -20,7 +20,7 @@ use Rattle.sbx_flat.specs.declared.path.Place.{Place}
 use Rattle.sbx_flat.specs.declared.path.Wrong.TheVariants.{OutsideCode}
 use Rattle.sbx_flat.proofs.Law.{still_is_fresh}
 use Rattle.sbx_shows.specs.Laws.{HasWindow, turns_of, windows_after}
-use Rattle.sbx_shows.specs.Shows.{Fits, Shows}
+use Rattle.sbx_shows.specs.Shows.{Shows}
 use Rattle.sbx_shows.specs.Steps.{Stands}
 use Rattle.sbx_shows.proofs.Whole.{annulled_turns_keep, user_turns_keep}
 use Rattle.sbx_windows.specs.Runs.{Came, IsImage, RunsToItsEnd, stands}

@@ -1,7 +1,6 @@
 -- Steps one after the other: the board's run beside the flat run, its counts and the window traffic of the path.
-use Rattle.std.proofs.Common.{◌≡◌, ◌≢◌, ℕ, zero, suc, ◌+◌, ◌-◌, ◌*◌, ◌^◌, ◌<◌, ◌≤◌, ◌⊎◌, inl, inr, Bool, true, false, List, [], ◌∷◌, ◌++◌, length, Option, Some, None, refl, sym, ap, ◌∙◌, subst, arith}
+use Rattle.std.proofs.Common.{◌≡◌, ℕ, zero, suc, ◌+◌, ◌-◌, ◌^◌, ◌<◌, ◌≤◌, ◌⊎◌, inl, inr, Bool, true, false, List, [], ◌∷◌, ◌++◌, Option, Some, None, refl, sym, ap, ◌∙◌, subst, arith}
 use Rattle.std.specs.Prelude.{◌==◌, if◌then◌else◌}
-use Rattle.std.proofs.lemmas.Bool.Decides.{nat_tests}
 use Rattle.v8_meaning.specs.declared.operation.Operation.{Operation}
 use Rattle.v8_meaning.specs.declared.operation.Operation.TheVariants.{Save, Restore}
 use Rattle.v8_mmu.specs.declared.translation.MmuRegs.{MmuRegs}
@@ -16,18 +15,18 @@ use Rattle.v8_board.specs.Counting.{counts_after}
 use Rattle.v8_board.specs.Runs.{after as board_after}
 use Rattle.v8_board.specs.Seen.{State as BoardState, counts_unless, ending_of, turned}
 use Rattle.sbx_image.specs.declared.parts.Parts.{Parts}
-use Rattle.sbx_flat.specs.Runs.{AreBytes, Behaves, FlatRun, FlatSafe, Run, budget, place_of, weight, weight_at, weight_of, weight_of_word}
+use Rattle.sbx_flat.specs.Runs.{AreBytes, FlatRun, FlatSafe, Run, budget, place_of, weight, weight_at, weight_of, weight_of_word}
 use Rattle.sbx_flat.specs.States.{State}
 use Rattle.sbx_flat.specs.Traffic.{after_operation, after_place, after_word, traffic}
 use Rattle.sbx_flat.specs.Turns.{Step, asked, word_at}
 use Rattle.sbx_flat.specs.declared.path.Place.{Place}
 use Rattle.sbx_flat.specs.declared.path.Traffic.{Traffic}
 use Rattle.sbx_flat.proofs.Turns.{weighs_some}
-use Rattle.sbx_shows.specs.Advances.{Advances, IsMoment, counts_by, more, so_many}
+use Rattle.sbx_shows.specs.Advances.{Advances, IsMoment, counts_by, so_many}
 use Rattle.sbx_shows.specs.Shows.{Shows}
 use Rattle.sbx_shows.specs.Turns.{IsOwnTurn}
 use Rattle.sbx_shows.proofs.Traffics.{traffic_more}
-use Rattle.sbx_windows.specs.Runs.{Came, Finishes, IsTurnBeside, stands}
+use Rattle.sbx_windows.specs.Runs.{Came, Finishes, stands}
 
 -- ---- turns of a world as turns of a board that counts them
 

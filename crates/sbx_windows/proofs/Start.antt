@@ -1,6 +1,6 @@
 -- Any board that has been loaded shows a flat start, with one call in a window.
-use Rattle.std.proofs.Common.{◌≡◌, ◌≢◌, ℕ, zero, suc, ◌+◌, ◌-◌, ◌*◌, ◌/◌, ◌%◌, ◌^◌, ◌<◌, ◌≤◌, ◌⊎◌, inl, inr, Bool, true, false, List, [], ◌∷◌, length, Option, Some, None, refl, sym, ap, ◌∙◌, subst, arith}
-use Rattle.std.specs.Prelude.{slice_get, slice_index, ◌==◌, ◌&&◌, nat_le, nat_lt, if◌then◌else◌}
+use Rattle.std.proofs.Common.{◌≡◌, ℕ, zero, suc, ◌+◌, ◌-◌, ◌*◌, ◌/◌, ◌%◌, ◌^◌, ◌<◌, ◌≤◌, Bool, true, false, List, [], length, Some, None, refl, sym, ap, ◌∙◌, subst, arith}
+use Rattle.std.specs.Prelude.{slice_get, slice_index, nat_le, nat_lt, if◌then◌else◌}
 use Rattle.std.proofs.lemmas.Bool.Decides.{nat_tests}
 use Rattle.std.proofs.lemmas.Option.{slice_get_within, get_or_from_slice_get}
 use Rattle.std.proofs.Math.Nat.{mod-eq_of_lt}
@@ -11,7 +11,7 @@ use Rattle.v8_windows.specs.Windows.{Windows, IsFile, with_reg, word_at}
 use Rattle.v8_windows.proofs.AfterWrites.{written_at, written_current}
 use Rattle.v8_state.specs.Registers.{booted, started_with}
 use Rattle.v8_state.specs.declared.state.Cpu.{Cpu}
-use Rattle.v8_core.specs.Accesses.{World, world}
+use Rattle.v8_core.specs.Accesses.{world}
 use Rattle.v8_memory.specs.Board.{Device}
 use Rattle.v8_loaded.proofs.Frames.{word_fits}
 use Rattle.v8_board.specs.Seen.{State as BoardState}
@@ -19,10 +19,10 @@ use Rattle.v8_board.specs.Start.{IsPlaced, IsStart, at_most, pages_of}
 use Rattle.v8_board.proofs.Placed.{placed_loaded, word_kept}
 use Rattle.sbx_image.specs.Rules.{code_start}
 use Rattle.sbx_image.specs.declared.parts.Parts.{Parts}
-use Rattle.sbx_flat.specs.Registers.{Frame, Registers}
+use Rattle.sbx_flat.specs.Registers.{Registers}
 use Rattle.sbx_flat.specs.Runs.{AreBytes, IsStart as IsFlatStart, data_at}
 use Rattle.sbx_flat.specs.States.{State}
-use Rattle.sbx_shows.specs.Calls.{base, cell, depth, slot}
+use Rattle.sbx_shows.specs.Calls.{base, cell, slot}
 use Rattle.sbx_shows.specs.Shows.{Fits, HasStack, IsStacked, Shows, ShowsByte, ShowsCalls, ShowsData, ShowsSlots, window}
 use Rattle.sbx_shows.proofs.Files.{file_written}
 use Rattle.sbx_shows.proofs.Pages.{placed_own}

@@ -1,7 +1,6 @@
 -- The second law: what a run of a safe image is on a board with any count of windows, moment by moment and at its end.
 use Rattle.std.specs.Prelude.{ℕ, ◌≡◌, ◌^◌, ◌<◌, ◌≤◌, List, [], None, slice_index}
 use Rattle.v8_mmu.specs.declared.translation.MmuRegs.{MmuRegs}
-use Rattle.v8_core.specs.declared.turn.Turn.{Turn}
 use Rattle.v8_core.specs.Accesses.{World}
 use Rattle.v8_memory.specs.Board.{Device}
 use Rattle.v8_loaded.specs.States.{IsState}

@@ -2,12 +2,11 @@
 use Rattle.std.proofs.Common.{◌≡◌, ℕ, ◌+◌, ◌%◌, ◌^◌, ◌<◌, true, false, List, [], ◌∷◌, ◌++◌, Some, None, refl, ap, ◌∙◌, arith}
 use Rattle.std.specs.Prelude.{◌==◌}
 use Rattle.v8_word.specs.declared.Size.TheVariants.{Word}
-use Rattle.v8_formats.specs.Table.{meaning}
 use Rattle.v8_formats.specs.declared.instr.Operand.TheVariants.{Register, Immediate}
 use Rattle.v8_formats.specs.declared.instr.Three.{Three}
 use Rattle.v8_formats.specs.declared.instr.Two.{Two}
 use Rattle.v8_meaning.specs.Operands.{following}
-use Rattle.v8_meaning.specs.Operations.{operation_of, load, store}
+use Rattle.v8_meaning.specs.Operations.{load, store}
 use Rattle.v8_meaning.specs.declared.operation.Loading.TheVariants as loadings
 use Rattle.v8_meaning.specs.declared.operation.MemoryOperand.{MemoryOperand}
 use Rattle.v8_meaning.specs.declared.operation.Operation.{Operation}
@@ -19,21 +18,15 @@ use Rattle.v8_mmu.specs.declared.access.AccessKind.TheVariants as kinds
 use Rattle.v8_mmu.specs.declared.bus.Stop.TheVariants.{Exit}
 use Rattle.v8_mmu.specs.declared.translation.MmuRegs.{MmuRegs}
 use Rattle.v8_mmu.specs.Walked.{root_of}
-use Rattle.v8_handlers.specs.Handlers.{trap_word}
 use Rattle.v8_state.specs.Effects.{address_of, effect, taken, written, advanced, jumped, returned}
-use Rattle.v8_state.specs.Traps.{applies, entered, first_trap, memory_applies}
+use Rattle.v8_state.specs.Traps.{applies, first_trap, memory_applies}
 use Rattle.v8_state.specs.declared.state.Cpu.{Cpu}
 use Rattle.v8_core.specs.declared.access.Moved.{Moved}
 use Rattle.v8_core.specs.declared.access.Moved.TheVariants.{Done}
-use Rattle.v8_core.specs.declared.turn.DataAccess.{DataAccess}
-use Rattle.v8_core.specs.declared.turn.Event.{Event}
-use Rattle.v8_core.specs.declared.turn.Event.TheVariants.{Ran, Trapped, ErrorMode}
 use Rattle.v8_core.specs.declared.turn.Outcome.{Outcome}
-use Rattle.v8_core.specs.declared.turn.Turn.{Turn}
 use Rattle.v8_core.specs.Accesses.{World, world, moving, quiet, transfer_ends, transfers}
-use Rattle.v8_core.specs.Memory.{Memory, fetches, moves, move_through}
-use Rattle.v8_core.specs.Steps.{acts, next, ran_event, trap_event, turn_of}
-use Rattle.v8_core.proofs.Turns.{Ready, runs_to, traps_to}
+use Rattle.v8_core.specs.Memory.{Memory, moves, move_through}
+use Rattle.v8_core.specs.Steps.{acts}
 use Rattle.v8_layout.specs.Layout.{Pages, AreFew, IsLoaded}
 use Rattle.v8_memory.specs.Board.{Device, board, board_load, board_store, device_load, device_store, gets}
 use Rattle.v8_loaded.specs.Places.{device_marked}
