@@ -5,16 +5,19 @@ mod branching;
 mod entry;
 pub mod laws;
 mod lin;
+mod lowest;
 mod memory;
 mod moving;
 mod operands;
 mod relation;
+mod results;
 mod room;
 mod state;
 mod words;
 
 pub use entry::Entry;
 pub use lin::Lin;
+pub use lowest::least;
 pub use relation::{Related, Relation};
 pub use state::{LOCATIONS, State};
 
