@@ -1,3 +1,4 @@
+pub mod Packing
 pub mod Examples
 pub mod Tables
 pub mod Moves

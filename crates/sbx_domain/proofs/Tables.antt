@@ -1,17 +1,19 @@
 -- What a table knows after a write of one of its entries.
-use Rattle.std.proofs.Common.{◌≡◌, ℕ, ◌-◌, ◌<◌, ◌≤◌, Bool, true, false, List, length, Option, None, slice_index_or, slice_set, ap, refl, sym, arith, ◌∙◌}
+use Rattle.std.proofs.Common.{◌≡◌, ℕ, suc, add-one, ◌+◌, ◌-◌, ◌<◌, ◌≤◌, Bool, true, false, List, ◌∷◌, length, drop, Option, Some, None, slice_index_or, slice_set, ap, refl, sym, arith, ◌∙◌}
 use Rattle.std.specs.Prelude.{◌==◌, nat_lt, if◌then◌else◌, replicate}
 use Rattle.std.proofs.Math.Path.{fun_ext}
+use Rattle.std.proofs.Math.Seq.{drop-cons}
 use Rattle.std.proofs.lemmas.Bool.Decides.{nat_tests}
 use Rattle.std.proofs.lemmas.Grind.{get_or-set_at}
-use Rattle.std.proofs.lemmas.List.{get_or-set_other, get_or-replicate, get_or_past, length-replicate}
+use Rattle.std.proofs.lemmas.List.{get_or-set_other, get_or-replicate, get_or_past, length-replicate, drop_all}
 use Rattle.sbx_image.specs.declared.parts.Range.{Range}
 use Rattle.v8_formats.specs.declared.instr.Three.{Three}
 use Rattle.v8_meaning.specs.declared.operation.Operation.TheVariants.{Save}
-use Rattle.sbx_domain.specs.Transfer.{is_in, saved, transferred}
+use Rattle.sbx_domain.specs.Transfer.{called, is_global, is_in, is_kept_by_calls, is_out, restored, result_entry, saved, transferred}
 use Rattle.sbx_domain.specs.declared.entry.Entry.{Entry}
 use Rattle.sbx_domain.specs.declared.relation.Relation.{Relation}
-use Rattle.sbx_domain.specs.Known.{Known, Table, is_location, known, nothing_known, with_entry, without_location}
+use Rattle.sbx_domain.specs.Known.{Known, Table, cell_entry, entry_of_cell, is_location, known, nothing_known, started, with_entry, without_location}
+use Rattle.sbx_image.specs.declared.parts.Cell.{Cell}
 use Rattle.sbx_domain.specs.Refining.{narrowed_at, with_range_of}
 
 at_written : (xs : List (Option Entry)) (l : ℕ) (e : Option Entry) (k : ℕ) → l < length xs → slice_index_or (slice_set xs l e) k None ≡ (if k == l then e else slice_index_or xs k None)
@@ -113,3 +115,77 @@ pub known_saved : (s : Table) (ys : List (Option Entry)) → ((k : ℕ) → slic
     → (frame : ℕ) (fields : Three) → known (record { entries = ys; y = None; icc = false; relation = None }) ≡ transferred frame (Save fields) (known s)
 unfolding known saved transferred
 known_saved s ys moved frame fields = ap (knowing None false None) (fun_ext moved)
+
+-- after the window moves back
+pub known_popped : (s : Table) (ys : List (Option Entry))
+    → ((k : ℕ) → slice_index_or ys k None ≡ (if is_global k then slice_index_or s.entries k None else (if is_out k then slice_index_or s.entries (k + 16) None else None)))
+    → known (record { entries = ys; y = s.y; icc = s.icc; relation = None }) ≡ restored (known s)
+unfolding known restored
+known_popped s ys moved = ap (knowing s.y s.icc None) (fun_ext moved)
+
+-- after a call
+pub known_returned : (s : Table) (results : List Range) (ys : List (Option Entry))
+    → ((k : ℕ) → slice_index_or ys k None ≡ (if is_kept_by_calls k then slice_index_or s.entries k None else result_entry results k))
+    → known (record { entries = ys; y = None; icc = false; relation = None }) ≡ called results (known s)
+unfolding known called
+known_returned s results ys moved = ap (knowing None false None) (fun_ext moved)
+
+pub nothing_in_cleared : (ys : List (Option Entry)) → ((k : ℕ) → slice_index_or ys k None ≡ None) → known (record { entries = ys; y = None; icc = false; relation = None }) ≡ nothing_known
+unfolding known
+nothing_in_cleared ys cleared = ap (knowing None false None) (fun_ext cleared)
+
+-- ---- where a block starts
+
+same_if : (t : Bool) (e : Option Entry) → (if t then e else e) ≡ e
+same_if true e = refl
+same_if false e = refl
+
+pub nothing_started : (cs : List Cell) (n : ℕ) → length cs ≤ n → nothing_known ≡ started (drop n cs)
+unfolding started cell_entry
+nothing_started cs n past =
+    ap (knowing None false None) (fun_ext (λ k. sym (same_if (is_location k) None)))
+    ∙ ap (λ (ds : List Cell). knowing None false None (λ l. if is_location l then cell_entry ds l else None)) (sym (drop_all n cs past))
+
+cell_before : (c : Cell) (cs : List Cell) (k : ℕ) (here : is_location c.location ≡ true)
+    → (if k == c.location then Some (entry_of_cell c) else (if is_location k then cell_entry cs k else None)) ≡ (if is_location k then cell_entry (c ∷ cs) k else None)
+unfolding cell_entry
+cell_before c cs k here = by_test (k == c.location) (is_location k) (c.location == k) refl refl refl
+  where
+    e : Option Entry
+    e = Some (entry_of_cell c)
+
+    by_test : (s t u : Bool) → (k == c.location) ≡ s → is_location k ≡ t → (c.location == k) ≡ u
+        → (if s then e else (if t then cell_entry cs k else None)) ≡ (if t then (if u then e else cell_entry cs k) else None)
+    by_test true true true p q r = refl
+    by_test false true false p q r = refl
+    by_test false false u p q r = refl
+    by_test true true false p q r = absurd (let at : (c.location == k) ≡ true = grind (arith, nat_tests) in cc)
+    by_test false true true p q r = absurd (let at : (k == c.location) ≡ true = grind (arith, nat_tests) in cc)
+    by_test true false u p q r = absurd (let at : k ≡ c.location = grind (arith, nat_tests) in let z = ap is_location at in cc)
+
+no_cell_before : (c : Cell) (cs : List Cell) (k : ℕ) → is_location c.location ≡ false → (if is_location k then cell_entry cs k else None) ≡ (if is_location k then cell_entry (c ∷ cs) k else None)
+unfolding cell_entry
+no_cell_before c cs k here = by_test (is_location k) (c.location == k) refl refl
+  where
+    e : Option Entry
+    e = Some (entry_of_cell c)
+
+    by_test : (t u : Bool) → is_location k ≡ t → (c.location == k) ≡ u → (if t then cell_entry cs k else None) ≡ (if t then (if u then e else cell_entry cs k) else None)
+    by_test false u q r = refl
+    by_test true false q r = refl
+    by_test true true q r = absurd (let at : c.location ≡ k = grind (arith, nat_tests) in let z = ap is_location at in cc)
+
+pub one_more_cell : (c : Cell) (cs : List Cell) → with_entry c.location (Some (entry_of_cell c)) (started cs) ≡ started (c ∷ cs)
+unfolding started
+one_more_cell c cs = by_test (is_location c.location) refl
+  where
+    by_test : (t : Bool) → is_location c.location ≡ t → with_entry c.location (Some (entry_of_cell c)) (started cs) ≡ started (c ∷ cs)
+    by_test true h = written_by c.location (Some (entry_of_cell c)) (started cs) true h ∙ ap (knowing None false None) (fun_ext (λ k. cell_before c cs k h))
+    by_test false h = written_by c.location (Some (entry_of_cell c)) (started cs) false h ∙ ap (knowing None false None) (fun_ext (λ k. no_cell_before c cs k h))
+
+pub cell_more : (cs : List Cell) (n m : ℕ) (c : Cell) (d : Known) → n < length cs → m ≡ n + 1 → d ≡ started (drop m cs)
+    → with_entry (slice_index_or cs n c).location (Some (entry_of_cell (slice_index_or cs n c))) d ≡ started (drop n cs)
+cell_more cs n m c d room next is =
+    let cell = slice_index_or cs n c in
+    ap (with_entry cell.location (Some (entry_of_cell cell))) (is ∙ ap (λ k. started (drop k cs)) (next ∙ add-one n))
+    ∙ (one_more_cell cell (drop (suc n) cs) ∙ ap started (sym (drop-cons cs n c room)))

@@ -34,7 +34,3 @@ abbrev pub combined : ℤ → Option Form → Option Form → Option Form
 combined k (Some f) (Some g) = kept (record { constant = (k *ℤ f.constant) +ℤ g.constant; terms = add_terms k f.terms g.terms })
 combined k (Some f) None = None
 combined k None g = None
-
--- what stands in a place that holds no term
-abbrev pub blank_term : FormTerm
-blank_term = record { location = 0; coefficient = pos 0 }

@@ -1,5 +1,7 @@
 pub mod Forms
+pub mod Packed
 pub mod Known
+pub mod Least
 pub mod Results
 pub mod Transfer
 pub mod Refining

@@ -1,10 +1,10 @@
 //! What is known of one word.
 ghost use Rattle.std.specs.Prelude.{◌≡◌};
-ghost use Rattle.sbx_domain.specs.Known.{plain_entry_of};
+ghost use Rattle.sbx_domain.specs.Known.{entry_of_cell, plain_entry_of};
 ghost use Rattle.sbx_domain.specs.Refining.{with_range_of};
 
 use crate::lin::Lin;
-use sbx_image::Range;
+use sbx_image::{Cell, Range};
 
 /// A range, and perhaps a form over the numbers that the block's cells start with.
 #[derive(Clone, Copy, Debug)]
@@ -30,5 +30,15 @@ pub(crate) fn with_range(range: Range, entry: Option<Entry>) -> Option<Entry>
     match entry {
         Some(entry) => Some(Entry { range, ..entry }),
         None => None,
+    }
+}
+
+/// A cell at the start of its block, where it is itself.
+pub(crate) fn entry_of_cell(cell: &Cell) -> Entry
+    ensures { result ≡ entry_of_cell cell.now }
+{
+    Entry {
+        range: cell.range,
+        form: Some(Lin::of_location(cell.location)),
     }
 }

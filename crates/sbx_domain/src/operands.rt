@@ -14,7 +14,7 @@ pub(crate) fn constant_entry(word: u32) -> Entry
 {
     Entry {
         range: known(word),
-        form: Some(Lin::of_constant(i64::from(word.cast_signed()))),
+        form: Some(Lin::of_constant(word.cast_signed())),
     }
 }
 
@@ -25,7 +25,7 @@ pub(crate) fn entry_of_result(range: Range, form: Option<Lin>) -> Entry
     Entry {
         range,
         form: if is_single(range) {
-            Some(Lin::of_constant(i64::from(range.lo)))
+            Some(Lin::of_constant(range.lo))
         } else {
             form
         },

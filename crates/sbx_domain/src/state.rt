@@ -2,12 +2,12 @@
 ghost use Rattle.std.specs.Prelude.{◌≡◌, IfOk};
 
 use crate::branching::refined_pair;
-use crate::entry::{Entry, plain_entry, with_range};
+use crate::entry::{Entry, entry_of_cell, plain_entry, with_range};
 use crate::lin::Lin;
-use crate::moving::save_entries;
+use crate::moving::{clear_entries, restore_entries, return_entries, save_entries};
 use crate::relation::{Related, Relation, without_location};
 use crate::room::repeated;
-use sbx_image::Range;
+use sbx_image::{Cell, Range};
 use sbx_range::{Pair, refine_by_value};
 use std::alloc::{AllocError, Global};
 use std::marker::Model;
@@ -44,8 +44,8 @@ impl State {
     ghost use Rattle.std.specs.Prelude.{ℕ};
     ghost use Rattle.v8_formats.specs.declared.instr.Three.{Three};
     ghost use Rattle.v8_meaning.specs.declared.operation.Operation.TheVariants.{Save};
-    ghost use Rattle.sbx_domain.specs.Transfer.{transferred, with_codes};
-    ghost use Rattle.sbx_domain.specs.Known.{form_at, known, nothing_known, range_at, with_entry, with_icc, with_range, with_y};
+    ghost use Rattle.sbx_domain.specs.Transfer.{called, restored, transferred, with_codes};
+    ghost use Rattle.sbx_domain.specs.Known.{entry_of_cell, form_at, known, nothing_known, range_at, started, with_entry, with_icc, with_range, with_y};
 
     /// Nothing defined, with room for every location.
     pub fn new(alloc: Global) -> Result<Self, AllocError>
@@ -160,6 +160,53 @@ impl State {
         self.y = None;
         self.icc = false;
         self.relation = None;
+    }
+
+    /// The window before: ins become outs with their forms, and globals, codes and Y stay.
+    pub(crate) fn pop(&mut self)
+        ensures { known self.new ≡ restored (known self.old) }
+    {
+        restore_entries(self.entries.as_mut_slice());
+        self.relation = None;
+    }
+
+    /// Where a call's callee has returned: outs are its results, locals, ins and frame words stay, and nothing else is known.
+    pub fn return_with(&mut self, results: &[Range])
+        ensures { known self.new ≡ called results.now (known self.old) }
+    {
+        return_entries(self.entries.as_mut_slice(), results);
+        self.y = None;
+        self.icc = false;
+        self.relation = None;
+    }
+
+    /// Nothing is defined any more.
+    fn clear(&mut self)
+        ensures { known self.new ≡ nothing_known }
+    {
+        clear_entries(self.entries.as_mut_slice());
+        self.y = None;
+        self.icc = false;
+        self.relation = None;
+    }
+
+    /// The start of a block: its cells, each of which starts as itself, and nothing else.
+    pub fn start(&mut self, cells: &[Cell])
+        ensures { known self.new ≡ started cells.now }
+    {
+        self.clear();
+        let mut left = cells.len();
+        while left > 0 {
+            left -= 1;
+            self.begin(&cells[left]);
+        }
+    }
+
+    /// A cell starts as itself.
+    fn begin(&mut self, cell: &Cell)
+        ensures { known self.new ≡ with_entry cell.now.location (Some (entry_of_cell cell.now)) (known self.old) }
+    {
+        self.write(cell.location, Some(entry_of_cell(cell)));
     }
 
     /// Makes the other state equal to this one.

@@ -1,9 +1,9 @@
 // Readers and setters: values by hand. Tests pass where memory is refused.
 use super::*;
-use sbx_image::Range;
+use sbx_image::{Cell, Range};
 use std::alloc::Global;
-use v8_alu::Division;
-use v8_formats::{Operand, Three, Trap, Two, Upper};
+use v8_alu::{Division, Op};
+use v8_formats::{Instr, Operand, Three, Trap, Two, Upper};
 use v8_meaning::{Exchange, Loading, MemoryOperand, Space, Transfer};
 use v8_word::{Cond, Reg, Size};
 
@@ -243,7 +243,8 @@ fn high_words_and_y(rt: HostRuntime) {
         };
         assert!(rt; state.range(31) == Some(word));
         assert!(rt;
-            state.form(31).is_some_and(|form| form.constant() == -1_024 && form.terms().is_empty())
+            state.form(31).is_some_and(|form| form.constant() == -1_024
+                && form.terms::<8>().is_empty())
         );
         let both = Two {
             rs1: reg(31),
@@ -314,5 +315,167 @@ fn outs_become_ins(rt: HostRuntime) {
         assert!(rt; state.range(25).is_none() && state.range(8).is_none());
         assert!(rt; state.range(1).is_none() && state.range(1_039).is_none());
         assert!(rt; state.range(16).is_none() && state.y().is_none() && !state.icc());
+    }
+}
+
+fn range(lo: i32, hi: i32, alignment: u8) -> Range {
+    Range { lo, hi, alignment }
+}
+
+/// The start of a block whose cells are %o0, 0 to 10, and %l0, multiples of 4 from 0 to 400.
+fn started(alloc: Global) -> Option<State> {
+    let mut state = State::new(alloc).ok()?;
+    let cells = [
+        Cell {
+            location: 8,
+            range: range(0, 10, 0),
+        },
+        Cell {
+            location: 16,
+            range: range(0, 400, 2),
+        },
+    ];
+    state.start(&cells);
+    Some(state)
+}
+
+fn of_registers(rd: u8, rs1: u8, rs2: u8) -> Three {
+    Three {
+        rd: reg(rd),
+        rs1: reg(rs1),
+        operand2: Operand::Register(reg(rs2)),
+    }
+}
+
+fn of_immediate(rd: u8, rs1: u8, word: u32) -> Three {
+    Three {
+        rd: reg(rd),
+        rs1: reg(rs1),
+        operand2: Operand::Immediate(word),
+    }
+}
+
+/// Whether a location's form is this constant plus these multiples, by location.
+fn has_form(state: &State, location: u16, constant: i64, want: &[(u16, i128)]) -> bool {
+    let Some(form) = state.form(location) else {
+        return false;
+    };
+    let terms = form.terms::<8>();
+    form.constant() == constant
+        && terms.len() == want.len()
+        && terms.iter().zip(want).all(|(term, (location, coefficient))| {
+            term.location == *location && term.coefficient == *coefficient
+        })
+}
+
+#[test]
+fn sums_have_forms(rt: HostRuntime) {
+    if let Some(mut state) = started(rt.alloc()) {
+        assert!(rt; has_form(&state, 8, 0, &[(8, 1)]) && state.range(9).is_none());
+        state.compute(Op::Add, &of_registers(9, 8, 16));
+        assert!(rt; has_form(&state, 9, 0, &[(8, 1), (16, 1)]));
+        assert!(rt; state.range(9) == Some(range(0, 410, 0)));
+        state.compute(Op::SubCc, &of_immediate(10, 9, 3));
+        assert!(rt; has_form(&state, 10, -3, &[(8, 1), (16, 1)]) && state.icc());
+        state.compute(Op::Sub, &of_registers(11, 10, 8));
+        assert!(rt; has_form(&state, 11, -3, &[(16, 1)]));
+        state.compute(Op::Or, &of_registers(12, 0, 11));
+        assert!(rt; has_form(&state, 12, -3, &[(16, 1)]));
+        state.compute(Op::Sll, &of_immediate(13, 8, 2));
+        assert!(rt; state.form(13).is_none() && state.range(13) == Some(range(0, 40, 2)));
+    }
+}
+
+#[test]
+fn least_values(rt: HostRuntime) {
+    if let Some(mut state) = started(rt.alloc()) {
+        state.compute(Op::Sub, &of_registers(9, 8, 16));
+        state.compute(Op::Add, &of_immediate(9, 9, 7));
+        if let Some(form) = state.form(9) {
+            assert!(rt; least(&form, &state) == -393);
+        }
+        if let Ok(other) = State::new(rt.alloc()) {
+            if let Some(form) = state.form(9) {
+                assert!(rt; least(&form, &other) == 7);
+            }
+        }
+    }
+}
+
+#[test]
+fn eight_terms_and_nine(rt: HostRuntime) {
+    if let Ok(mut state) = State::new(rt.alloc()) {
+        let cell = |location: u16| Cell {
+            location,
+            range: range(0, 1, 0),
+        };
+        let cells = [
+            cell(16),
+            cell(17),
+            cell(18),
+            cell(19),
+            cell(20),
+            cell(21),
+            cell(22),
+            cell(23),
+            cell(24),
+        ];
+        state.start(&cells);
+        state.compute(Op::Add, &of_registers(8, 16, 17));
+        for number in 18..24 {
+            state.compute(Op::Add, &of_registers(8, 8, number));
+        }
+        let want = [
+            (16, 1),
+            (17, 1),
+            (18, 1),
+            (19, 1),
+            (20, 1),
+            (21, 1),
+            (22, 1),
+            (23, 1),
+        ];
+        assert!(rt; has_form(&state, 8, 0, &want));
+        state.compute(Op::Add, &of_registers(8, 8, 24));
+        assert!(rt; state.form(8).is_none() && state.range(8) == Some(range(0, 9, 0)));
+    }
+}
+
+#[test]
+fn comparisons(rt: HostRuntime) {
+    if let Some(mut state) = started(rt.alloc()) {
+        state.compute(Op::SubCc, &of_immediate(0, 8, 5));
+        assert!(rt; state.refine(Cond::Less) && state.range(8) == Some(range(0, 4, 0)));
+        state.compute(Op::OrCc, &of_registers(0, 0, 8));
+        assert!(rt; state.refine(Cond::NotEqual) && state.range(8) == Some(range(1, 4, 0)));
+        state.compute(Op::AddCc, &of_immediate(0, 8, 1));
+        assert!(rt; state.refine(Cond::Equal) && state.range(8) == Some(range(1, 4, 0)));
+        state.compute(Op::SubCc, &of_immediate(8, 8, 1));
+        assert!(rt; state.refine(Cond::NotEqual) && state.range(8) == Some(range(1, 3, 0)));
+        state.compute(Op::Umul, &of_registers(9, 8, 8));
+        assert!(rt; state.y() == Some(range(i32::MIN, i32::MAX, 0)));
+        assert!(rt; state.range(9) == Some(range(1, 9, 0)));
+    }
+}
+
+#[test]
+fn windows_and_calls(rt: HostRuntime) {
+    if let Some(mut state) = started(rt.alloc()) {
+        let sum = Instr::Add(of_immediate(1, 8, 1));
+        state.transfer(0, &sum);
+        assert!(rt; state.range(1) == Some(range(1, 11, 0)));
+        state.transfer(0, &Instr::Save(of_immediate(14, 14, 0xffff_ffa0)));
+        assert!(rt; has_form(&state, 24, 0, &[(8, 1)]) && state.range(1).is_none());
+        state.transfer(96, &Instr::Restore(of_immediate(9, 24, 7)));
+        assert!(rt; has_form(&state, 8, 0, &[(8, 1)]) && has_form(&state, 9, 7, &[(8, 1)]));
+        assert!(rt; state.range(24).is_none());
+    }
+    if let Some(mut state) = started(rt.alloc()) {
+        state.set(1, Some(FEW));
+        state.set(1_039, Some(FEW));
+        state.return_with(&[range(1, 2, 0)]);
+        assert!(rt; state.range(8) == Some(range(1, 2, 0)) && state.form(8).is_none());
+        assert!(rt; state.range(1).is_none() && state.range(9).is_none());
+        assert!(rt; has_form(&state, 16, 0, &[(16, 1)]) && state.range(1_039) == Some(FEW));
     }
 }

@@ -3,19 +3,22 @@ ghost use Rattle.std.specs.Prelude.{◌≡◌, ℕ};
 
 use crate::entry::Entry;
 use crate::operands::{constant_entry, entry_of_y, quotient_of, tagged_of, written_y};
+use crate::results::{relation_of, result_of, sets_codes};
 use crate::state::State;
 use sbx_flat::service_of;
-use sbx_range::BYTE_OR_END;
-use v8_alu::{Division, TaggedOp};
-use v8_formats::{Operand, Three, Trap, Two, Upper};
+use sbx_range::{BYTE_OR_END, all};
+use v8_alu::{Division, Op, TaggedOp};
+use v8_formats::{Instr, Operand, Three, Trap, Two, Upper};
+use v8_meaning::{Operation, operation_of};
 use v8_word::Reg;
 
 impl State {
     ghost use Rattle.std.specs.Prelude.{Some, true};
-    ghost use Rattle.v8_meaning.specs.declared.operation.Operation.TheVariants.{Call, Divide, ReadY, SetHigh, TaggedTrap, TrapOnCondition, WriteY};
+    ghost use Rattle.v8_meaning.specs.declared.operation.Operation.TheVariants.{Call, Compute, Divide, ReadY, Restore, SetHigh, TaggedTrap, TrapOnCondition, WriteY};
+    ghost use Rattle.v8_meaning.specs.Operations.{operation_of};
     ghost use Rattle.sbx_domain.specs.Known.{known};
     ghost use Rattle.sbx_domain.specs.Results.{operand_entry, register_entry};
-    ghost use Rattle.sbx_domain.specs.Transfer.{transferred, served};
+    ghost use Rattle.sbx_domain.specs.Transfer.{relation_of, served, sets_codes, transferred, with_codes, with_product_y};
 
     /// What is known of a register; %g0 is 0.
     pub fn register_entry(&self, r: Reg) -> Option<Entry>
@@ -35,6 +38,57 @@ impl State {
             Operand::Register(r) => self.register_entry(r),
             Operand::Immediate(word) => Some(constant_entry(word)),
         }
+    }
+
+    /// Multiplications and the multiply step leave any word in Y.
+    fn set_product_y(&mut self, op: Op)
+        ensures { known self.new ≡ with_product_y op (known self.old) }
+    {
+        if matches!(
+            op,
+            Op::Umul | Op::UmulCc | Op::Smul | Op::SmulCc | Op::MulsCc
+        ) {
+            self.set_y(Some(all(0)));
+        }
+    }
+
+    /// The codes after an operation, where it sets them.
+    fn set_result_codes(&mut self, op: Op, fields: &Three)
+        ensures { known self.new ≡ with_codes (sets_codes op) (relation_of op fields.now) (known self.old) }
+    {
+        if sets_codes(op) {
+            self.set_codes(relation_of(op, fields));
+        }
+    }
+
+    /// An operation that has a result for all operands.
+    #[tactic(auto, unfolding(crate::specs::Transfer::transferred))]
+    pub fn compute(&mut self, op: Op, fields: &Three)
+        ensures { (frame : ℕ) → known self.new ≡ transferred frame (Compute op fields.now) (known self.old) }
+    {
+        let entry = result_of(
+            op,
+            self.register_entry(fields.rs1),
+            self.operand_entry(fields.operand2),
+        );
+        self.write(u16::from(fields.rd.number()), entry);
+        self.set_result_codes(op, fields);
+        self.set_product_y(op);
+    }
+
+    /// RESTORE: the sum of its operands, in the window before, goes to a register of the one after.
+    #[tactic(auto, unfolding(crate::specs::Transfer::transferred))]
+    pub fn restore(&mut self, fields: &Three)
+        ensures { (frame : ℕ) → known self.new ≡ transferred frame (Restore fields.now) (known self.old) }
+    {
+        let entry = result_of(
+            Op::Add,
+            self.register_entry(fields.rs1),
+            self.operand_entry(fields.operand2),
+        );
+        let rd = u16::from(fields.rd.number());
+        self.pop();
+        self.write(rd, entry);
     }
 
     /// SETHI.
@@ -115,5 +169,36 @@ impl State {
         self.write(15, None);
         let defined = self.icc();
         self.set_icc(defined);
+    }
+
+    /// An operation in a frame of so many bytes, 0 in a leaf. Branches and jumps know what was known, and so do the
+    /// operations that sandboxed code may not have.
+    #[tactic(auto, unfolding(crate::specs::Transfer::transferred))]
+    pub fn perform(&mut self, frame: u32, operation: &Operation)
+        ensures { known self.new ≡ transferred frame operation.now (known self.old) }
+    {
+        match operation {
+            Operation::Compute(op, fields) => self.compute(*op, fields),
+            Operation::Divide(op, fields) => self.divide(*op, fields),
+            Operation::TaggedTrap(op, fields) => self.tagged_trap(*op, fields),
+            Operation::SetHigh(fields) => self.set_high(fields),
+            Operation::ReadY(rd) => self.read_y(*rd),
+            Operation::WriteY(fields) => self.write_y(fields),
+            Operation::Transfer(transfer, operand) => {
+                self.transfer_memory(frame, *transfer, operand)
+            }
+            Operation::Save(_) => self.save(),
+            Operation::Restore(fields) => self.restore(fields),
+            Operation::Call(_) => self.call(),
+            Operation::TrapOnCondition(trap) => self.serve(trap),
+            _ => {}
+        }
+    }
+
+    /// An instruction in a frame of so many bytes.
+    pub fn transfer(&mut self, frame: u32, instr: &Instr)
+        ensures { known self.new ≡ transferred frame (operation_of instr.now) (known self.old) }
+    {
+        self.perform(frame, &operation_of(instr));
     }
 }

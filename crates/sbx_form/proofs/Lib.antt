@@ -1,3 +1,4 @@
 pub mod Values
 pub mod Places
 pub mod Ordered
+pub mod Bounds

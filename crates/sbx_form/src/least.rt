@@ -15,7 +15,8 @@ fn times(number: i32, coefficient: i128) -> i128
     i128::from(number) * coefficient
 }
 
-fn least_term(range: Range, term: FormTerm) -> i128
+/// The least value of a term over a range of its number.
+pub fn least_term(range: Range, term: FormTerm) -> i128
     requires { unsigned_abs term.coefficient ≤ 2 ^ 70 }
     ensures value { result ≡ int_min (range.lo *ℤ term.coefficient) (range.hi *ℤ term.coefficient) }
     ensures bound { unsigned_abs result ≤ 2 ^ 102 }
@@ -23,7 +24,8 @@ fn least_term(range: Range, term: FormTerm) -> i128
     times(range.lo, term.coefficient).min(times(range.hi, term.coefficient))
 }
 
-fn plus(a: i128, b: i128) -> i128
+/// One more least value.
+pub fn plus(a: i128, b: i128) -> i128
     requires few { unsigned_abs a ≤ 2 ^ 112 }
     requires one { unsigned_abs b ≤ 2 ^ 102 }
     ensures value { result ≡ a +ℤ b }

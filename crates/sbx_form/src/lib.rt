@@ -5,8 +5,8 @@ pub mod laws;
 mod least;
 mod terms;
 
-pub use least::least_terms;
-pub use terms::{FormTerm, add_term};
+pub use least::{least_term, least_terms, plus};
+pub use terms::{FormTerm, add_term, add_terms};
 
 #[cfg(test)]
 mod tests;

@@ -1,8 +1,8 @@
 //! Terms in ascending order of their locations.
-ghost use Rattle.std.specs.Prelude.{◌≡◌, ℕ, ℤ, ◌^◌, ◌<◌, ◌≤◌, ◌++◌, ◌+ℤ◌, length, take, drop, slice_index_or, unsigned_abs};
+ghost use Rattle.std.specs.Prelude.{◌≡◌, ℕ, ℤ, ◌^◌, ◌<◌, ◌≤◌, ◌++◌, ◌+◌, ◌+ℤ◌, ◌*ℤ◌, length, take, drop, slice_index_or, unsigned_abs};
 ghost use Rattle.arrayvec.specs.ArrayVec.{array_vec_len};
 ghost use Rattle.sbx_form.specs.declared.terms.FormTerm.{FormTerm};
-ghost use Rattle.sbx_form.specs.Forms.{add_term, keep};
+ghost use Rattle.sbx_form.specs.Forms.{AreWithin, add_term, add_terms, keep};
 
 use arrayvec::ArrayVec;
 
@@ -79,4 +79,35 @@ pub fn add_term<const N: usize>(terms: &mut ArrayVec<FormTerm, N>, location: u16
     let place = place_of(terms.as_slice(), location);
     let old = take_at(terms, place, location);
     keep_at(terms, place, location, coefficient + old);
+}
+
+fn scaled(times: i32, term: FormTerm) -> i128
+    requires { unsigned_abs term.coefficient ≤ 2 ^ 32 }
+    ensures value { result ≡ times *ℤ term.coefficient }
+    ensures bound { unsigned_abs result ≤ 2 ^ 64 }
+{
+    i128::from(times) * term.coefficient
+}
+
+fn add_scaled<const N: usize>(terms: &mut ArrayVec<FormTerm, N>, times: i32, term: FormTerm)
+    requires room { array_vec_len terms.old < N }
+    requires small { AreWithin (2 ^ 90) terms.old.items }
+    requires small_term { unsigned_abs term.coefficient ≤ 2 ^ 32 }
+    ensures value { terms.new.items ≡ add_term term.location (times *ℤ term.coefficient) terms.old.items }
+    ensures within { (m : ℕ) → AreWithin m terms.old.items → AreWithin (m + 2 ^ 64) terms.new.items }
+{
+    add_term(terms, term.location, scaled(times, term));
+}
+
+/// Adds so many times the second terms to the first.
+pub fn add_terms<const N: usize>(terms: &mut ArrayVec<FormTerm, N>, times: i32, more: &[FormTerm])
+    requires room { array_vec_len terms.old + length more.now ≤ N }
+    requires few { length more.now ≤ 1000 }
+    requires small { AreWithin (2 ^ 80) terms.old.items }
+    requires small_more { AreWithin (2 ^ 32) more.now }
+    ensures { terms.new.items ≡ add_terms times more.now terms.old.items }
+{
+    for term in more {
+        add_scaled(terms, times, *term);
+    }
 }

@@ -1,0 +1,19 @@
+use Rattle.std.proofs.Common.{◌≡◌, ◌≤◌, ◌^◌, length, map, take, sym, subst, rules, List}
+use Rattle.sbx_form.specs.declared.terms.FormTerm.{FormTerm}
+use Rattle.sbx_form.specs.Forms.{AreWithin}
+use Rattle.sbx_domain.specs.Forms.{Form}
+use Rattle.sbx_domain.specs.Packed.{widened}
+use Rattle.sbx_domain.proofs.Packing.{kept_says}
+use Rattle.sbx_domain.proofs.lin.Lin.terms.Goals as goal
+
+pub returns-clause-few : goal.returns-clause-few
+returns-clause-few g c =
+    let f : Form = record { constant = c.self.inside.constant; terms = map widened (take c.self.inside.count c.self.inside.terms) } in
+    let v : c.unpacked.result.items ≡ f.terms = search rules in
+    subst (λ (ts : List FormTerm). length ts ≤ 8) (sym v) (kept_says f c.self.invariant.3).few
+
+pub returns-clause-small : goal.returns-clause-small
+returns-clause-small g c =
+    let f : Form = record { constant = c.self.inside.constant; terms = map widened (take c.self.inside.count c.self.inside.terms) } in
+    let v : c.unpacked.result.items ≡ f.terms = search rules in
+    subst (λ (ts : List FormTerm). AreWithin (2 ^ 32) ts) (sym v) (kept_says f c.self.invariant.3).terms

@@ -1,0 +1,21 @@
+use Rattle.std.proofs.Common.{◌^◌, length, rules, arith, ap, sym, subst, List}
+use Rattle.sbx_form.specs.declared.terms.FormTerm.{FormTerm}
+use Rattle.sbx_form.specs.Forms.{AreWithin}
+use Rattle.sbx_form.proofs.Bounds.{wider_bound}
+use Rattle.sbx_domain.proofs.lin.with_multiple.Goals as goal
+
+pub add_terms-requires : goal.add_terms-requires
+add_terms-requires c =
+    let n = ap (λ (ts : List FormTerm). length ts) c.as_slice.ensures.value in (
+      search rules,
+      (
+        omega (arith, n, c.terms-terms.ensures.few, c.terms-more.ensures.few),
+        (
+          omega (arith, n, c.terms-more.ensures.few),
+          (
+            wider_bound (2 ^ 32) (2 ^ 80) c.terms-terms.result.items (omega arith) c.terms-terms.ensures.small,
+            subst (λ (ts : List FormTerm). AreWithin (2 ^ 32) ts) (sym c.as_slice.ensures.value) c.terms-more.ensures.small,
+          ),
+        ),
+      ),
+    )

@@ -1,0 +1,20 @@
+use Rattle.std.proofs.Common.{◌≡◌, ℕ, List, length, take, drop, ◌++◌, Option, None, false, ap, ◌∙◌, arith, slice_index_or, if◌then◌else◌}
+use Rattle.std.proofs.Math.Seq.{take-append_seam}
+use Rattle.sbx_domain.proofs.Tables.{known_returned}
+use Rattle.sbx_domain.proofs.state.State.return_with.Goals as goal
+use Rattle.sbx_domain.specs.declared.entry.Entry.{Entry}
+use Rattle.sbx_domain.specs.Known.{Table, known}
+use Rattle.sbx_domain.specs.Transfer.{called, is_kept_by_calls, result_entry}
+
+whole : (n : ℕ) (ws ys : List (Option Entry)) → n ≡ length ws → take n (ws ++ ys) ≡ ws
+whole n ws ys e = ap (λ m. take m (ws ++ ys)) e ∙ take-append_seam ws ys
+
+pub returns : goal.returns
+returns c =
+    let s : Table = record { entries = c.self.inside.entries.items; y = c.self.inside.y; icc = c.self.inside.icc; relation = c.self.inside.relation } in
+    let ws : List (Option Entry) = c.return_entries.new.entries in
+    let size : length ws ≡ length c.self.inside.entries.items = c.return_entries.ensures.size ∙ ap length c.as_mut_slice.ensures.value in
+    ap (λ (zs : List (Option Entry)). known (record { entries = zs; y = None; icc = false; relation = None })) (whole c.self.inside.entries.len ws (drop (length ws) c.self.inside.entries.items) (omega (arith, size, c.self.inside.entries.ok.0)))
+    ∙ (known_returned s c.args.results.now ws (λ k. c.return_entries.ensures.moved k
+    ∙ ap (λ (xs : List (Option Entry)). if is_kept_by_calls k then slice_index_or xs k None else result_entry c.args.results.now k) c.as_mut_slice.ensures.value)
+    ∙ ap (λ (t : Table). called c.args.results.now (known t)) c.self.view_is)
