@@ -24,3 +24,6 @@ pub mod DataWords
 pub mod LowFields
 pub mod Asked
 pub mod Ordered
+pub mod Read
+pub mod Goes
+pub mod Wells
