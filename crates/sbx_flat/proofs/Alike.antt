@@ -1,23 +1,14 @@
--- Two states that agree in all but the registers that nobody knows.
+-- Two states that agree in all but the registers that nobody knows, of code that has one frame and looks at no codes or Y.
 use Rattle.std.proofs.Common.{◌≡◌, ◌≢◌, ℕ, zero, suc, Bool, true, sym, ap, ◌∙◌, arith}
 use Rattle.std.specs.Prelude.{◌==◌, if◌then◌else◌}
 use Rattle.std.proofs.lemmas.Bool.Decides.{nat_tests}
 use Rattle.v8_word.specs.declared.Icc.{Icc}
 use Rattle.v8_meaning.specs.Operands.{following}
+use Rattle.sbx_flat.specs.Alike.{SameRest}
 use Rattle.sbx_flat.specs.States.{State, reg, with_reg, advanced}
 use Rattle.sbx_flat.proofs.Registers.{reg_with_reg, reg_with_zero, reg_zero}
 
--- what two runs of one image over one input always share
-pub record SameRest (s c : State) : Type 0 where
-  pub pc : s.pc ≡ c.pc
-  pub npc : s.npc ≡ c.npc
-  pub annulled : s.annulled ≡ c.annulled
-  pub memory : (address : ℕ) → s.memory address ≡ c.memory address
-  pub input : s.input ≡ c.input
-  pub output : s.output ≡ c.output
-  pub exit : s.exit ≡ c.exit
-
-pub record Alike (known : ℕ → Bool) (s c : State) : Type 0 where
+pub record ReadAlike (known : ℕ → Bool) (s c : State) : Type 0 where
   pub rest : SameRest s c
   pub registers : (r : ℕ) → known r ≡ true → reg s r ≡ reg c r
 
@@ -26,7 +17,7 @@ pub same_rest_registers : (s c : State) (f g : ℕ) (n m : ℕ) → SameRest s c
 same_rest_registers s c f g n m a = record { pc = a.pc; npc = a.npc; annulled = a.annulled; memory = a.memory; input = a.input; output = a.output; exit = a.exit }
 
 -- on to the next instruction
-pub advanced_alike : (known : ℕ → Bool) (s c : State) → Alike known s c → Alike known (advanced s) (advanced c)
+pub advanced_alike : (known : ℕ → Bool) (s c : State) → ReadAlike known s c → ReadAlike known (advanced s) (advanced c)
 unfolding reg
 advanced_alike known s c a =
     let b = a.rest in
@@ -36,7 +27,7 @@ advanced_alike known s c a =
     }
 
 -- codes and Y, where nobody knows them
-pub coded_alike : (known : ℕ → Bool) (s c : State) (i j : Icc) (y z : ℕ) → Alike known s c → Alike known (record s { icc = i; y = y }) (record c { icc = j; y = z })
+pub coded_alike : (known : ℕ → Bool) (s c : State) (i j : Icc) (y z : ℕ) → ReadAlike known s c → ReadAlike known (record s { icc = i; y = y }) (record c { icc = j; y = z })
 unfolding reg
 coded_alike known s c i j y z a =
     let b = a.rest in
@@ -56,7 +47,7 @@ written_alike (suc n) v w s c r same other =
     reg_with_reg (suc n) v s r some ∙ chosen r (suc n) v w (reg s r) (reg c r) same other ∙ sym (reg_with_reg (suc n) w c r some)
 
 -- a write of the same word
-pub write_alike : (known now : ℕ → Bool) (n v w : ℕ) (s c : State) → Alike known s c → v ≡ w → ((r : ℕ) → now r ≡ true → r ≢ n → known r ≡ true) → Alike now (with_reg n v s) (with_reg n w c)
+pub write_alike : (known now : ℕ → Bool) (n v w : ℕ) (s c : State) → ReadAlike known s c → v ≡ w → ((r : ℕ) → now r ≡ true → r ≢ n → known r ≡ true) → ReadAlike now (with_reg n v s) (with_reg n w c)
 write_alike known now n v w s c a same fewer = record {
   rest = same_rest_registers s c v w n n a.rest;
   registers = λ r is_known. written_alike n v w s c r same (λ apart. a.registers r (fewer r is_known apart));

@@ -1,5 +1,5 @@
 -- Examples of window traffic and of a run, by computation.
-use Rattle.std.proofs.Common.{◌≡◌, ℕ, [], ◌∷◌, refl}
+use Rattle.std.proofs.Common.{◌≡◌, [], ◌∷◌, refl}
 use Rattle.v8_formats.specs.Table.{meaning}
 use Rattle.v8_meaning.specs.Admitted.{is_admitted}
 use Rattle.v8_meaning.specs.Operations.{operation_of}

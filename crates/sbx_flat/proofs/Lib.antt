@@ -3,3 +3,13 @@ pub mod Registers
 pub mod Alike
 pub mod Turns
 pub mod Examples
+pub mod Goes
+pub mod Paired
+pub mod Signed
+pub mod Outcomes
+pub mod Fields
+pub mod Kept
+pub mod Stays
+pub mod Unread
+pub mod Places
+pub mod Known

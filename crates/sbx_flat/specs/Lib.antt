@@ -4,5 +4,11 @@ pub mod States
 pub mod Effects
 pub mod Turns
 pub mod Runs
+pub mod Alike
+pub mod Calls
+pub mod WellFormed
+pub mod Locations
+pub mod Unread
+pub mod Invariants
 pub mod Traffic
 pub mod Examples

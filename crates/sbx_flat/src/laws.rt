@@ -1,13 +1,20 @@
 //! Laws of the flat machine's definitions. Each is the contract of a function that does nothing.
-ghost use Rattle.std.specs.Prelude.{◌≡◌, ◌≢◌, ℕ, ◌+◌, ◌-◌, ◌<◌, ◌≤◌, ◌%◌, ◌*◌, ◌^◌, ◌==◌, if◌then◌else◌, List, [], ◌∷◌, ◌++◌, Option, None, Some, false, true};
+ghost use Rattle.std.specs.Prelude.{◌≡◌, ◌≢◌, ℕ, ◌+◌, ◌-◌, ◌<◌, ◌≤◌, ◌%◌, ◌*◌, ◌^◌, ◌==◌, if◌then◌else◌, List, [], ◌∷◌, ◌++◌, length, Option, None, Some, false, true};
 ghost use Rattle.sbx_image.specs.declared.parts.Parts.{Parts};
+ghost use Rattle.sbx_flat.specs.Alike.{Alike, AlikeRegisters, Known, PopsAlike, known_popped, known_pushed, known_slot, known_written, knows};
 ghost use Rattle.sbx_flat.specs.Examples.{at_first, at_restore, at_save, at_second, at_third, based, called_by, save_and_restore, step_of, with_addresses, with_slots};
+ghost use Rattle.sbx_flat.specs.Invariants.{IsInvariant};
+ghost use Rattle.sbx_flat.specs.Locations.{location_in};
 ghost use Rattle.sbx_flat.specs.Memory.{with_number};
-ghost use Rattle.sbx_flat.specs.Registers.{Frame, Fresh, Registers, popped, pushed, pushed_frame, word_in};
-ghost use Rattle.sbx_flat.specs.Runs.{Place, Run, weight, weight_at};
+ghost use Rattle.sbx_flat.specs.Registers.{Frame, Fresh, IsFresh, Registers, popped, pushed, pushed_frame, with_slot, word_in, written};
+ghost use Rattle.sbx_flat.specs.Runs.{AreBytes, FlatRun, FlatSafe, IsStart, Place, Run, weight, weight_at};
 ghost use Rattle.sbx_flat.specs.States.{BadFrame, Fails, Goes, Misaligned, NoCaller, NoService, NotAdmitted, OutsideCode, OutsideData, Over, StackPointer, State, TagOverflow, ZeroDivisor, reg, with_reg};
 ghost use Rattle.sbx_flat.specs.Traffic.{is_own_code_page, is_own_data_page, traffic};
-ghost use Rattle.sbx_flat.specs.Turns.{turn};
+ghost use Rattle.sbx_flat.specs.Turns.{IsWrong, Step, turn};
+ghost use Rattle.sbx_flat.specs.Unread.{Unread, asks};
+ghost use Rattle.sbx_flat.specs.WellFormed.{IsWellFormed};
+
+use crate::invariants::Relation;
 
 /// A register reads what was written to it, and the others what they read before; register 0 reads 0.
 #[tactic(auto, using(crate::proofs::Registers::reg_with_reg, crate::proofs::Registers::reg_zero))]
@@ -35,6 +42,49 @@ pub fn frames_share_registers()
 #[tactic(auto, using(crate::proofs::Turns::weighs_some))]
 pub fn each_step_counts()
     ensures { (parts : Parts) (place : Place) → 1 ≤ weight_at parts place }
+{}
+
+/// A state that isn't wrong and has no exit word has a next one, whatever words a pushed frame would hold.
+#[tactic(auto, using(crate::proofs::Goes::goes))]
+pub fn states_go_on_or_are_wrong()
+    ensures { (parts : Parts) (fresh : Fresh) (s : State) → IsFresh fresh → s.exit ≡ None → (IsWrong parts s → ⊥) → (next : State) × (turn parts fresh s ≡ Goes next) }
+{}
+
+/// Each state that a run reaches is well-formed: registers, slots, Y and the exit word are words, the data, the input and the output bytes,
+/// PC and nPC multiples of 4, and the open calls have 64 bytes each on the stack, one below the other, with their slots between them.
+pub fn states_stay_well_formed()
+    ensures starts { (parts : Parts) (input : List ℕ) (s : State) → 1 ≤ parts.stack_pages → AreBytes parts.bytes → AreBytes input → IsStart parts input s → IsWellFormed parts.stack_pages s }
+    ensures steps { (parts : Parts) (s next : State) → IsWellFormed parts.stack_pages s → Step parts s next → IsWellFormed parts.stack_pages next }
+    ensures runs { (parts : Parts) (input : List ℕ) (path : List Place) (s : State) → 1 ≤ parts.stack_pages → AreBytes parts.bytes → AreBytes input → FlatRun parts input path s → IsWellFormed parts.stack_pages s }
+{}
+
+/// An invariant of two runs makes an image safe, whichever relation it is; and it holds of the states that two runs over one input reach
+/// along the same path.
+pub fn invariants_make_safe<I: Relation>()
+    ensures safe { (parts : Parts) → IsInvariant parts (I.related parts) → FlatSafe parts }
+    ensures along { (parts : Parts) (input : List ℕ) (path : List Place) (s t : State) → IsInvariant parts (I.related parts) → AreBytes input → FlatRun parts input path s → FlatRun parts input path t → I.related parts (weight parts path) s t }
+{}
+
+/// A location but register 0, the registers by number and from 32 on the words of the newest frame, holds the word that was last written to
+/// it, and the others what they held before; the frame's base stays what it was.
+pub fn locations_keep_words()
+    ensures register { (base n v : ℕ) (file : Registers) (l : ℕ) → n ≢ 0 → n < 32 → location_in base (written n v file) l ≡ (if l == n then Some v else location_in base file l) }
+    ensures frame_word { (base k v : ℕ) (file : Registers) (l : ℕ) → location_in base (with_slot (base + 64 + 4 * k) v file) l ≡ (if l == 32 + k then Some v else location_in base file l) }
+{}
+
+/// Two states that agree in what is known of them still do after the same word is written to a register or to a slot of both, and after
+/// both push a frame of the same base, whatever its other words are, or both go back to the caller. What is known reads alike.
+pub fn known_words_stay_alike()
+    ensures reads { (k : Known) (s t : State) (r : ℕ) → Alike k s t → r < 32 → knows k r ≡ true → reg s r ≡ reg t r }
+    ensures writes { (k : Known) (s t : State) (n v : ℕ) → n < 32 → Alike k s t → Alike (known_written n k) (with_reg n v s) (with_reg n v t) }
+    ensures slots { (k : Known) (a b : Registers) (address v : ℕ) → AlikeRegisters k a b → AlikeRegisters (known_slot address k) (with_slot address v a) (with_slot address v b) }
+    ensures pushes { (k : Known) (a b : Registers) (fresh other : Fresh) (base : ℕ) → AlikeRegisters k a b → AlikeRegisters (known_pushed k) (pushed fresh base a) (pushed other base b) }
+    ensures pops { (k : Known) (a b : Registers) → AlikeRegisters k a b → PopsAlike (known_popped k) (popped a) (popped b) }
+{}
+
+/// A run that asks for no more bytes than the front of its input has goes the same way whatever bytes follow, and leaves them.
+pub fn input_beyond_is_unread()
+    ensures { (parts : Parts) (path : List Place) (s t : State) (front rest other : List ℕ) → s.input ≡ front ++ rest → Run parts s path t → asks parts path ≤ length front → Unread parts s t path front rest other }
 {}
 
 /// Three of four windows hold frames, one of them the first: so the last of three calls spills that frame, and the last of three

@@ -4,8 +4,10 @@
 #![tactic(auto)]
 
 mod code;
+mod invariants;
 pub mod laws;
 mod path;
 
 pub use code::{asked, declares, service_of, weight_of, word_at};
+pub use invariants::Relation;
 pub use path::{Place, Traffic, Wrong};

@@ -21,7 +21,7 @@ use Rattle.sbx_flat.specs.Registers.{Fresh}
 use Rattle.sbx_flat.specs.Runs.{reached_by}
 use Rattle.sbx_flat.specs.States.{State, Turn, Goes, Fails, reg, with_reg, advanced}
 use Rattle.sbx_flat.specs.declared.path.Wrong.TheVariants.{NoService, StackPointer}
-use Rattle.sbx_flat.proofs.Alike.{Alike, advanced_alike, coded_alike, write_alike}
+use Rattle.sbx_flat.proofs.Alike.{ReadAlike, advanced_alike, coded_alike, write_alike}
 use Rattle.sbx_flat.proofs.Turns.{performs_admitted}
 use Rattle.sbx_verify.specs.Rules.{is_accepted, is_accepted_op, is_declared, is_exit, has, reads_of, second_reads, service_asked, service_reads, service_writes, writes_of}
 
@@ -38,7 +38,7 @@ pub record Both (t u : Turn) (npc : ℕ) (annulled : Bool) (exit : Option ℕ) (
   pub calm : State
   pub goes : t ≡ Goes next
   pub calm_goes : u ≡ Goes calm
-  pub alike : Alike now next calm
+  pub alike : ReadAlike now next calm
   pub next_pc : next.pc ≡ npc
   pub next_npc : next.npc ≡ following npc
   pub straight : next.annulled ≡ annulled
@@ -58,7 +58,7 @@ none_more known r h = grind (arith, nat_tests)
 allowed : (n v : ℕ) (s : State) → ((n == 14) || (n == 30)) ≡ false → writes n v s ≡ Goes (advanced (with_reg n v s))
 allowed n v s h = ap (λ (b : Bool). if b then Fails StackPointer else Goes (advanced (with_reg n v s))) h
 
-both_write : (known : ℕ → Bool) (n v w : ℕ) (s c : State) → Alike known s c → ((n == 14) || (n == 30)) ≡ false → v ≡ w → Both (writes n v s) (writes n w c) s.npc s.annulled s.exit (after known (n ∷ [])) false
+both_write : (known : ℕ → Bool) (n v w : ℕ) (s c : State) → ReadAlike known s c → ((n == 14) || (n == 30)) ≡ false → v ≡ w → Both (writes n v s) (writes n w c) s.npc s.annulled s.exit (after known (n ∷ [])) false
 both_write known n v w s c a free same = record {
   next = advanced (with_reg n v s);
   calm = advanced (with_reg n w c);
@@ -72,7 +72,7 @@ both_write known n v w s c a free same = record {
   stops = λ h. absurd (cc);
 }
 
-same_second : (known : ℕ → Bool) (s c : State) (o : Operand) → Alike known s c → AllByRecursion (λ r. known r ≡ true) (second_reads o) → operand_value s o ≡ operand_value c o
+same_second : (known : ℕ → Bool) (s c : State) (o : Operand) → ReadAlike known s c → AllByRecursion (λ r. known r ≡ true) (second_reads o) → operand_value s o ≡ operand_value c o
 same_second known s c (Register r) a reads = a.registers r reads.0
 same_second known s c (Immediate n) a reads = refl
 
@@ -84,23 +84,23 @@ same_value Or a b c d f g y z h p q = cc
 same_value _ a b c d f g y z h p q = absurd (cc)
 
 -- no register is written
-keep_alike : (known : ℕ → Bool) (s c : State) → Alike known s c → Alike (after known []) s c
+keep_alike : (known : ℕ → Bool) (s c : State) → ReadAlike known s c → ReadAlike (after known []) s c
 keep_alike known s c a = record { rest = a.rest; registers = λ r h. a.registers r (none_more known r h) }
 
-exit_alike : (known : ℕ → Bool) (s c : State) → reg s 8 ≡ reg c 8 → Alike known s c → Alike known (exits s) (exits c)
+exit_alike : (known : ℕ → Bool) (s c : State) → reg s 8 ≡ reg c 8 → ReadAlike known s c → ReadAlike known (exits s) (exits c)
 unfolding reg
 exit_alike known s c same a =
     let b = a.rest in
     record { rest = record { pc = b.pc; npc = b.npc; annulled = b.annulled; memory = b.memory; input = b.input; output = b.output; exit = ap Some same }; registers = a.registers }
 
-put_alike : (known : ℕ → Bool) (s c : State) → reg s 8 ≡ reg c 8 → Alike known s c → Alike known (puts s) (puts c)
+put_alike : (known : ℕ → Bool) (s c : State) → reg s 8 ≡ reg c 8 → ReadAlike known s c → ReadAlike known (puts s) (puts c)
 unfolding reg
 put_alike known s c same a =
     let b = a.rest in
     let more : s.output ++ (reg s 8 % 2 ^ 8) ∷ [] ≡ c.output ++ (reg c 8 % 2 ^ 8) ∷ [] = ap (λ x. x ++ (reg s 8 % 2 ^ 8) ∷ []) b.output ∙ ap (λ x. c.output ++ (x % 2 ^ 8) ∷ []) same in
     record { rest = record { pc = b.pc; npc = b.npc; annulled = b.annulled; memory = b.memory; input = b.input; output = more; exit = b.exit }; registers = a.registers }
 
-input_alike : (known : ℕ → Bool) (s c : State) (i : List ℕ) → Alike known s c → Alike known (record s { input = i }) (record c { input = i })
+input_alike : (known : ℕ → Bool) (s c : State) (i : List ℕ) → ReadAlike known s c → ReadAlike known (record s { input = i }) (record c { input = i })
 unfolding reg
 input_alike known s c i a =
     let b = a.rest in
@@ -109,7 +109,7 @@ input_alike known s c i a =
 declared_serves : (services : Services) (n : ℕ) (s : State) → declares services n ≡ true → serves services (Some n) s ≡ Goes (advanced (served n s))
 declared_serves services n s h = ap (λ (b : Bool). if b then Goes (advanced (served n s)) else Fails NoService) h
 
-both_exit : (services : Services) (known : ℕ → Bool) (s c : State) → declares services 0 ≡ true → Alike known s c → known 8 ≡ true → Both (serves services (Some 0) s) (serves services (Some 0) c) s.npc s.annulled s.exit (after known []) true
+both_exit : (services : Services) (known : ℕ → Bool) (s c : State) → declares services 0 ≡ true → ReadAlike known s c → known 8 ≡ true → Both (serves services (Some 0) s) (serves services (Some 0) c) s.npc s.annulled s.exit (after known []) true
 both_exit services known s c declared a read = record {
   next = advanced (exits s);
   calm = advanced (exits c);
@@ -123,7 +123,7 @@ both_exit services known s c declared a read = record {
   stops = λ _. refl;
 }
 
-both_put : (services : Services) (known : ℕ → Bool) (s c : State) → declares services 2 ≡ true → Alike known s c → known 8 ≡ true → Both (serves services (Some 2) s) (serves services (Some 2) c) s.npc s.annulled s.exit (after known []) false
+both_put : (services : Services) (known : ℕ → Bool) (s c : State) → declares services 2 ≡ true → ReadAlike known s c → known 8 ≡ true → Both (serves services (Some 2) s) (serves services (Some 2) c) s.npc s.annulled s.exit (after known []) false
 both_put services known s c declared a read = record {
   next = advanced (puts s);
   calm = advanced (puts c);
@@ -138,12 +138,12 @@ both_put services known s c declared a read = record {
 }
 
 -- what the input gives
-taken_from : (known : ℕ → Bool) (s c : State) (i : List ℕ) → Alike known s c → Alike (after known (8 ∷ [])) (gets i s) (gets i c)
+taken_from : (known : ℕ → Bool) (s c : State) (i : List ℕ) → ReadAlike known s c → ReadAlike (after known (8 ∷ [])) (gets i s) (gets i c)
 taken_from known s c [] a = write_alike known (after known (8 ∷ [])) 8 _ _ s c a refl (λ r. one_more known 8 r)
 taken_from known s c (b ∷ i) a = write_alike known (after known (8 ∷ [])) 8 b b _ _ (input_alike known s c i a) refl (λ r. one_more known 8 r)
 
-taken : (known : ℕ → Bool) (s c : State) (i j : List ℕ) → i ≡ j → Alike known s c → Alike (after known (8 ∷ [])) (gets i s) (gets j c)
-taken known s c i j same a = subst (λ x. Alike (after known (8 ∷ [])) (gets i s) (gets x c)) same (taken_from known s c i a)
+taken : (known : ℕ → Bool) (s c : State) (i j : List ℕ) → i ≡ j → ReadAlike known s c → ReadAlike (after known (8 ∷ [])) (gets i s) (gets j c)
+taken known s c i j same a = subst (λ x. ReadAlike (after known (8 ∷ [])) (gets i s) (gets x c)) same (taken_from known s c i a)
 
 -- what get leaves alone
 record Untouched (s t : State) : Type 0 where
@@ -155,7 +155,7 @@ untouched : (i : List ℕ) (s : State) → Untouched s (gets i s)
 untouched [] s = record { npc = refl; annulled = refl; exit = refl }
 untouched (b ∷ i) s = record { npc = refl; annulled = refl; exit = refl }
 
-both_get : (services : Services) (known : ℕ → Bool) (s c : State) → declares services 1 ≡ true → Alike known s c → Both (serves services (Some 1) s) (serves services (Some 1) c) s.npc s.annulled s.exit (after known (8 ∷ [])) false
+both_get : (services : Services) (known : ℕ → Bool) (s c : State) → declares services 1 ≡ true → ReadAlike known s c → Both (serves services (Some 1) s) (serves services (Some 1) c) s.npc s.annulled s.exit (after known (8 ∷ [])) false
 both_get services known s c declared a =
     let kept = untouched s.input s in
     record {
@@ -171,7 +171,7 @@ both_get services known s c declared a =
       stops = λ h. absurd (cc);
     }
 
-both_serve : (services : Services) (known : ℕ → Bool) (o : Option ℕ) (s c : State) → (o ≡ None → ⊥) → is_declared services o ≡ true → AllByRecursion (λ r. known r ≡ true) (service_reads o) → Alike known s c → Both (serves services o s) (serves services o c) s.npc s.annulled s.exit (after known (service_writes o)) (is_exit o)
+both_serve : (services : Services) (known : ℕ → Bool) (o : Option ℕ) (s c : State) → (o ≡ None → ⊥) → is_declared services o ≡ true → AllByRecursion (λ r. known r ≡ true) (service_reads o) → ReadAlike known s c → Both (serves services o s) (serves services o c) s.npc s.annulled s.exit (after known (service_writes o)) (is_exit o)
 both_serve services known None s c some declared reads a = absurd (some refl)
 both_serve services known (Some zero) s c some declared reads a = both_exit services known s c declared a reads.0
 both_serve services known (Some (suc zero)) s c some declared reads a = both_get services known s c declared a
@@ -188,7 +188,7 @@ some_number false b o h e = cc
 some_service : (t : Trap) → is_service_call t ≡ true → service_of t ≡ None → ⊥
 some_service t h e = some_number (is_always t.cond) (t.rs1 == 0) t.operand2 h e
 
-both_does : (parts : Parts) (fresh still : Fresh) (known : ℕ → Bool) (op : Operation) (s c : State) → IsFine parts.services known op → Alike known s c → Both (does parts fresh op s) (does parts still op c) s.npc s.annulled s.exit (after known (writes_of op)) (is_exit (service_asked op))
+both_does : (parts : Parts) (fresh still : Fresh) (known : ℕ → Bool) (op : Operation) (s c : State) → IsFine parts.services known op → ReadAlike known s c → Both (does parts fresh op s) (does parts still op c) s.npc s.annulled s.exit (after known (writes_of op)) (is_exit (service_asked op))
 unfolding is_accepted reads_of writes_of
 both_does parts fresh still known (Compute op f) s c fine a =
     let x = outcome op (reg s f.rs1) (operand_value s f.operand2) s.icc s.y in
@@ -207,7 +207,7 @@ admitted (SetHigh f) h = refl
 admitted (TrapOnCondition t) h = h
 admitted _ h = absurd (cc)
 
-pub performs_both : (parts : Parts) (fresh still : Fresh) (known : ℕ → Bool) (op : Operation) (s c : State) → IsFine parts.services known op → Alike known s c → Both (performs parts fresh op s) (performs parts still op c) s.npc s.annulled s.exit (after known (writes_of op)) (is_exit (service_asked op))
+pub performs_both : (parts : Parts) (fresh still : Fresh) (known : ℕ → Bool) (op : Operation) (s c : State) → IsFine parts.services known op → ReadAlike known s c → Both (performs parts fresh op s) (performs parts still op c) s.npc s.annulled s.exit (after known (writes_of op)) (is_exit (service_asked op))
 performs_both parts fresh still known op s c fine a =
     let b = both_does parts fresh still known op s c fine a in
     let allows = admitted op fine.accepted in

@@ -16,7 +16,7 @@ use Rattle.sbx_flat.specs.Runs.{AreBytes, FlatSafe, IsStart, budget, data_at, pl
 use Rattle.sbx_flat.specs.declared.path.Place.{Place}
 use Rattle.sbx_flat.specs.States.{State, Turn, Goes, reg}
 use Rattle.sbx_flat.specs.Turns.{asked, word_at}
-use Rattle.sbx_flat.proofs.Alike.{Alike}
+use Rattle.sbx_flat.proofs.Alike.{ReadAlike}
 use Rattle.sbx_flat.proofs.Law.{Moves, safe}
 use Rattle.sbx_flat.proofs.Turns.{operation_weighs, place_at_word, turn_at, weight_at_word, word_at_place}
 use Rattle.sbx_verify.specs.declared.cause.Cause.TheVariants.{V2, V3, V6, V7, V12, V14, V16}
@@ -75,7 +75,7 @@ is_open (Some n) e h = cc
 next_place : (k npc : ℕ) → k ≤ 65536 → npc ≡ address_of (k + 1) → following npc ≡ address_of (k + 1 + 1)
 next_place k npc few e = omega arith
 
-fewer_known : (known now : ℕ → Bool) (s c : State) → ((r : ℕ) → now r ≡ known r) → Alike known s c → Alike now s c
+fewer_known : (known now : ℕ → Bool) (s c : State) → ((r : ℕ) → now r ≡ known r) → ReadAlike known s c → ReadAlike now s c
 fewer_known known now s c same a = record { rest = a.rest; registers = λ r h. a.registers r (sym (same r) ∙ h) }
 
 module _ (parts : Parts) (some : 1 ≤ length parts.words) (few : length parts.words ≤ 65536) (checked : Checked parts) where
@@ -130,7 +130,7 @@ module _ (parts : Parts) (some : 1 ≤ length parts.words) (few : length parts.w
     pub npc : s.npc ≡ address_of (k + 1)
     pub straight : s.annulled ≡ false
     pub exit : s.exit ≡ None
-    pub alike : Alike (known k) s calm
+    pub alike : ReadAlike (known k) s calm
 
   pub record Done (w : ℕ) (s calm : State) : Type 0 where
     pub bound : w ≤ budget parts
