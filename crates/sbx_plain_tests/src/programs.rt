@@ -167,6 +167,55 @@ pub const CHECKSUM: [u32; 43] = [
     0x91D0_2000,
 ];
 
+/// Counts the numbers from 2 to 1023 that are no primes, by marking the multiples of each prime in the data; puts the count out.
+///
+/// `save %sp,-96,%sp; set 524288,%l0; mov 1024,%l4; mov 0,%l2; mov %l4,%l3; clear: deccc %l3; bne clear; stb %g0,[%l0+%l3]; mov 2,%l1;
+/// prime: ldub [%l0+%l1],%o0; tst %o0; bne nextp; nop; smul %l1,%l1,%l3; mov 1,%l5; mark: stb %l5,[%l0+%l3]; add %l3,%l1,%l3; cmp
+/// %l3,%l4; bl mark; nop; nextp: inc %l1; cmp %l1,32; bl prime; nop; mov %l4,%l3; mov 0,%l2; count: deccc %l3; ldub [%l0+%l3],%o0; bne
+/// count; add %l2,%o0,%l2; srl %l2,24,%o0; ta 2; srl %l2,16,%o0; ta 2; srl %l2,8,%o0; ta 2; mov %l2,%o0; ta 2; mov 0,%o0; ta 0`
+pub const SIEVE: [u32; 40] = [
+    0x9DE3_BFA0,
+    0x2100_0200,
+    0xA810_2400,
+    0xA410_2000,
+    0xA610_0014,
+    0xA6A4_E001,
+    0x12BF_FFFF,
+    0xC02C_0013,
+    0xA210_2002,
+    0xD00C_0011,
+    0x8092_0000,
+    0x1280_0009,
+    0x0100_0000,
+    0xA65C_4011,
+    0xAA10_2001,
+    0xEA2C_0013,
+    0xA604_C011,
+    0x80A4_C014,
+    0x06BF_FFFD,
+    0x0100_0000,
+    0xA204_6001,
+    0x80A4_6020,
+    0x06BF_FFF3,
+    0x0100_0000,
+    0xA610_0014,
+    0xA410_2000,
+    0xA6A4_E001,
+    0xD00C_0013,
+    0x12BF_FFFE,
+    0xA404_8008,
+    0x9134_A018,
+    0x91D0_2002,
+    0x9134_A010,
+    0x91D0_2002,
+    0x9134_A008,
+    0x91D0_2002,
+    0x9010_0012,
+    0x91D0_2002,
+    0x9010_2000,
+    0x91D0_2000,
+];
+
 /// What a chain does.
 #[derive(Clone, Copy)]
 pub enum Shape {
