@@ -1,6 +1,6 @@
 pub mod Fields
 pub mod Written
-pub mod Plain
+pub mod Computed
 pub mod Shows
 pub mod Within
 pub mod Chains

@@ -1,4 +1,5 @@
-pub mod Plain
+pub mod Bare
 pub mod Turns
-pub mod Answer
 pub mod Pages
+pub mod Shows
+pub mod Answer

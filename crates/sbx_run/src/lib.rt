@@ -1,6 +1,7 @@
 //! Runs of images on the board: of accepted images to their end, of any image up to a limit, and its trace.
 #![tactic(auto)]
 
+pub mod laws;
 mod runner;
 #[cfg(test)]
 mod tests;

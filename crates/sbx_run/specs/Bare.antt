@@ -8,19 +8,19 @@ use Rattle.v8_meaning.specs.declared.operation.Operation.TheVariants.{Compute, S
 use Rattle.sbx_image.specs.declared.parts.Parts.{Parts}
 use Rattle.sbx_flat.specs.Turns.{asked}
 
-abbrev pub is_plain_op : Op → Bool
-is_plain_op Add = true
-is_plain_op Or = true
-is_plain_op _ = false
+abbrev pub is_bare_op : Op → Bool
+is_bare_op Add = true
+is_bare_op Or = true
+is_bare_op _ = false
 
 -- SETHI, OR, ADD, and calls of services
-unfoldable pub is_plain : Operation → Bool
-is_plain (Compute op f) = is_plain_op op
-is_plain (SetHigh f) = true
-is_plain (TrapOnCondition t) = is_service_call t
-is_plain _ = false
+unfoldable pub is_bare : Operation → Bool
+is_bare (Compute op f) = is_bare_op op
+is_bare (SetHigh f) = true
+is_bare (TrapOnCondition t) = is_service_call t
+is_bare _ = false
 
 -- at most 65,536 words, each of which asks for one of these
-pub record IsPlain (parts : Parts) : Type 0 where
+pub record IsBare (parts : Parts) : Type 0 where
   pub few : length parts.words ≤ 65536
-  pub words : (i : ℕ) → i < length parts.words → is_plain (asked (slice_index parts.words i)) ≡ true
+  pub words : (i : ℕ) → i < length parts.words → is_bare (asked (slice_index parts.words i)) ≡ true
