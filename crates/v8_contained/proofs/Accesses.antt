@@ -152,7 +152,7 @@ stored_same : (n : ℕ) (g : Pages) (words : List ℕ) (d : Device) (pa : ℕ) (
 stored_same n g words d pa size was None same = tt
 stored_same n g words d pa size was (Some x) same = same
 
-exchange_same : (n : ℕ) (g : Pages) (words ram : List ℕ) (d : Device) (pa : ℕ) (size : Size) (v : ℕ) (o : Option (ℕ × Device)) → AreFew g → IsLoaded n g words ram → 0x50000 ≤ pa → IsCalm pa size → LoadsSame d pa size o → SwapsSame n g words d pa size (exchanged_after board ram pa size v o)
+exchange_same : (n : ℕ) (g : Pages) (words ram : List ℕ) (d : Device) (pa : ℕ) (size : Size) (v : ℕ) (o : Option (ℕ × Device)) → AreFew g → IsLoaded n g words ram → 0x50000 ≤ pa → IsCalm pa size → LoadsSame d pa size o → SwapsSame n g words d pa size (exchanged_after board_store ram pa size v o)
 exchange_same n g words ram d pa size v None few loaded low calm same = tt
 exchange_same n g words ram d pa size v (Some x) few loaded low calm same =
     subst (λ e. SwapsSame n g words d pa size (stored_after x.0 (board_store ram e pa size v))) (sym same.0) (stored_same n g words d pa size x.0 (board_store ram d pa size v) (board_stores n g words ram d pa size v few loaded low calm))
