@@ -1,0 +1,5 @@
+use Rattle.std.proofs.Common.{rules}
+use Rattle.v8_core.proofs.machine.Machine.psr.Goals as goal
+
+pub returns : goal.returns
+returns g c = search rules
