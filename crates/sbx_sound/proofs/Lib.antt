@@ -27,3 +27,5 @@ pub mod Ordered
 pub mod Read
 pub mod Goes
 pub mod Wells
+pub mod Straight
+pub mod Refined

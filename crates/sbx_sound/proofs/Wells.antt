@@ -34,7 +34,7 @@ use Rattle.sbx_sound.proofs.OtherSteps.{SavesWell}
 use Rattle.sbx_sound.proofs.ReturnSteps.{GoesOn}
 use Rattle.sbx_sound.proofs.Start.{StartsWell}
 
-and_left : (a b : Bool) → (a && b) ≡ true → a ≡ true
+pub and_left : (a b : Bool) → (a && b) ≡ true → a ≡ true
 and_left true b h = refl
 and_left false b h = absurd (cc)
 
@@ -75,7 +75,7 @@ frame_big n e = grind (arith, nat_tests)
 frame_eight : (n : ℕ) → is_frame_size n ≡ true → n % 8 ≡ 0
 frame_eight n e = grind (arith, nat_tests)
 
-enters_framed : (function : Function) (op : Operation) → is_framed function.kind ≡ true → enters_well function op ≡ true → (is_save_of function.frame op && is_frame_size function.frame) ≡ true
+pub enters_framed : (function : Function) (op : Operation) → is_framed function.kind ≡ true → enters_well function op ≡ true → (is_save_of function.frame op && is_frame_size function.frame) ≡ true
 enters_framed function op framed h = by_kind (is_framed function.kind) framed h
   where
     by_kind : (t : Bool) → t ≡ true → (if t then is_save_of function.frame op && is_frame_size function.frame else function.frame == 0) ≡ true → (is_save_of function.frame op && is_frame_size function.frame) ≡ true
@@ -104,12 +104,12 @@ pub callee_place : (parts : Parts) (f b i g : ℕ) → callee_at parts f b i ≡
 unfolding callee_at
 callee_place parts f b i g e = callee_within parts (address_of parts f b i) (op_at parts f b i) g e
 
-framed_of : (kind : Kind) (op : Operation) → is_call op ≡ true → suits kind op ≡ true → is_framed kind ≡ true
+pub framed_of : (kind : Kind) (op : Operation) → is_call op ≡ true → suits kind op ≡ true → is_framed kind ≡ true
 framed_of Framed op c h = refl
 framed_of Leaf (Call d) c h = absurd (cc)
 framed_of Leaf _ c h = absurd (cc)
 
-call_transfers : (op : Operation) → is_call op ≡ true → is_transfer op ≡ true
+pub call_transfers : (op : Operation) → is_call op ≡ true → is_transfer op ≡ true
 call_transfers (Call d) h = refl
 call_transfers _ h = absurd (cc)
 
