@@ -70,7 +70,7 @@ module _ (ram : List ℕ) (device : Device) (pa v old : ℕ) (low : nat_lt pa de
   answers_ram (Load l) there = ap (loaded_from ram) (loads (size_of (Load l)) there)
   answers_ram (Store size) there = ap (stored_after 0) (stores size there)
   answers_ram (Exchange e) there =
-      ap (exchanged_after board ram pa (size_of (Exchange e)) v) (loads (size_of (Exchange e)) there) ∙ ap (stored_after old) (stores (size_of (Exchange e)) there)
+      ap (exchanged_after board_store ram pa (size_of (Exchange e)) v) (loads (size_of (Exchange e)) there) ∙ ap (stored_after old) (stores (size_of (Exchange e)) there)
 
 -- ---- what comes in
 
