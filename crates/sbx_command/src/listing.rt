@@ -9,7 +9,7 @@ use arrayvec::ArrayString;
 use std::alloc::Global;
 use std::io::{Read, Write};
 use v8_formats::decode;
-use v8_syntax::print_instr;
+use v8_forms::print_instr;
 
 /// The address of the first word of code, in bytes.
 const CODE_START: u32 = 0x0004_0000;

@@ -7,9 +7,10 @@ use std::alloc::{AllocError, Global};
 use std::process::Abort;
 use std::test::Fail;
 use v8_formats::{Instr, decode, encode};
+use v8_forms::print_instr;
 use v8_syntax::{
-    SyntaxFault, after_first, bytes_between, is_same, length_of, parse_instr, print_instr,
-    register_named, sign_byte,
+    SyntaxFault, after_first, bytes_between, is_same, length_of, parse_instr, register_named,
+    sign_byte,
 };
 
 /// No name is known, at the address 0x40000.

@@ -1,5 +1,5 @@
 -- A bare `.word` is no statement.
-use Rattle.std.proofs.Common.{◌≡◌, ℕ, suc, ◌+◌, ◌/◌, ◌%◌, ◌^◌, ◌<◌, Bool, true, false, cond, List, [], ◌∷◌, ◌++◌, length, take, refl, sym, ap, subst, ◌∙◌, arith, ltb, Option, None, Ok}
+use Rattle.std.proofs.Common.{◌≡◌, ℕ, suc, ◌+◌, ◌/◌, ◌%◌, ◌^◌, ◌<◌, Bool, true, false, cond, List, [], ◌∷◌, ◌++◌, length, take, refl, sym, ap, subst, ◌∙◌, arith, ltb, Option, None, Ok, Err}
 use Rattle.std.specs.Prelude.{codes}
 use Rattle.std.specs.List.{prefix_len}
 use Rattle.std.specs.Char.{is_digit, digit_value}
@@ -16,12 +16,13 @@ use Rattle.sbx_text.specs.Tokens.{front, number_at, number_of}
 use Rattle.v8_formats.specs.Spelling.{spelling}
 use Rattle.v8_formats.specs.Table.{meaning}
 use Rattle.v8_syntax.specs.declared.word.Word.TheVariants as words
-use Rattle.v8_syntax.specs.declared.native.Native.{Native}
-use Rattle.v8_syntax.specs.Natives.{native_of}
-use Rattle.v8_syntax.specs.Mnemonics.{all_mnemonics}
-use Rattle.v8_syntax.specs.Text.{hexadecimal, shown, text_of}
-use Rattle.v8_syntax.specs.Words.{named}
-use Rattle.v8_syntax.specs.Statements.{◌>>=◌, known, instructions}
+use Rattle.v8_syntax.specs.declared.word.Word.{Word}
+use Rattle.v8_syntax.specs.declared.fault.SyntaxFault.TheVariants.{UnknownMnemonic}
+use Rattle.v8_forms.specs.Forms.{Form, natives, synthetics}
+use Rattle.v8_forms.specs.Text.{hexadecimal, native_of, shown, text_of}
+use Rattle.v8_syntax.specs.Words.{words_of}
+use Rattle.v8_syntax.specs.Operands.{◌>>=◌}
+use Rattle.v8_syntax.specs.Statements.{instructions, named_meaning}
 use Rattle.v8_rereading.specs.Laws.{IsNotRead, RefusesEachBareWord}
 use Rattle.v8_rereading.proofs.Bytes.{Below, at_below, all, run, name_front}
 use Rattle.v8_rereading.proofs.Hearing.{Heard, ended, spaced, closed, tokened, token_scanned, between}
@@ -73,9 +74,9 @@ number_heard w =
     closed (48 ∷ 120 ∷ hexadecimal w)
     (tokened (kinds.Number (digits_value 16 (hexadecimal w))) (48 ∷ 120 ∷ hexadecimal w) (λ _. words.Number (digits_value 16 (hexadecimal w))) (hexadecimal_front (hexadecimal w) (omega arith) (all_digits w) small) (omega arith) (omega arith) (λ _. refl) ended)
 
-unknown : named (codes ".word") ≡ None
-unfolding named all_mnemonics
-unknown = refl
+unknown : (values : List ℕ → Option ℕ) (here : ℕ) (line : List ℕ) (ws : List Word) → named_meaning values here line (codes ".word") ws ≡ Err UnknownMnemonic
+unfolding named_meaning natives synthetics
+unknown values here line ws = refl
 
 bare_word : (w : ℕ) → IsNotRead (codes ".word" ++ behind w)
 bare_word w =
@@ -84,13 +85,14 @@ bare_word w =
       record { kind = kinds.Name; start = 0; stop = 0 + 5 } ∷ h.marks (0 + 5),
       scanned,
       λ values here.
-          ap (λ name. known values here (codes ".word" ++ behind w) (named name) (h.marks (0 + 5)) >>= λ x. Ok (instructions x)) (between (codes ".word" ++ behind w) [] (codes ".word") (behind w) 0 refl refl)
-          ∙ ap (λ o. known values here (codes ".word" ++ behind w) o (h.marks (0 + 5)) >>= λ x. Ok (instructions x)) unknown,
+          let line : List ℕ = codes ".word" ++ behind w in
+          ap (λ name. named_meaning values here line name (words_of line (h.marks (0 + 5))) >>= λ x. Ok (instructions x)) (between line [] (codes ".word") (behind w) 0 refl refl)
+          ∙ ap (λ r. r >>= λ x. Ok (instructions x)) (unknown values here line (words_of line (h.marks (0 + 5)))),
     )
 
-by_native : (o : Option Native) (word : ℕ) → o ≡ None → IsNotRead (shown o word)
+by_native : (o : Option Form) (word : ℕ) → o ≡ None → IsNotRead (shown o word)
 by_native o word e = subst (λ x. IsNotRead (shown x word)) (sym e) (bare_word word)
 
 pub bare_words : RefusesEachBareWord
 unfolding text_of
-bare_words w e = by_native (native_of (meaning w)) (spelling (meaning w)) e
+bare_words w e = by_native (native_of (spelling (meaning w))) (spelling (meaning w)) e

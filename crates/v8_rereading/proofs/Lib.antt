@@ -2,10 +2,8 @@ mod Bytes
 mod Hearing
 mod Pieces
 mod Reading
-mod Spoken
-mod Layouts
-mod Controls
-mod Ranges
+mod Parts
+mod Names
 mod Whole
 mod Lengths
 mod Bare

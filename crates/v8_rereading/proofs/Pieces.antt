@@ -1,81 +1,23 @@
 -- The pieces of an instruction's text: its mnemonic, registers, numbers and signs.
-use Rattle.std.proofs.Common.{◌≡◌, ℕ, suc, ◌+◌, ◌-◌, ◌^◌, ◌<◌, ◌≤◌, Bool, true, false, cond, List, [], ◌∷◌, ◌++◌, length, drop, refl, sym, ap, subst, ◌∙◌, arith, ltb, leb, Some, Option}
+use Rattle.std.proofs.Common.{◌≡◌, ℕ, suc, ◌+◌, ◌-◌, ◌^◌, ◌<◌, Bool, true, false, cond, List, [], ◌∷◌, ◌++◌, length, drop, refl, sym, ap, ◌∙◌, arith, ltb, leb}
 use Rattle.std.specs.Prelude.{codes}
 use Rattle.std.specs.Fmt.{decimal}
-use Rattle.std.specs.List.{find}
-use Rattle.std.specs.Str.{bytes_eq}
-use Rattle.std.proofs.lemmas.Bool.{false≢true, leb-true, ltb-false}
+use Rattle.std.proofs.lemmas.Bool.{leb-true, ltb-false}
 use Rattle.sbx_text.specs.declared.Kind.TheVariants as kinds
 use Rattle.sbx_text.specs.declared.scanning.Step.TheVariants.{Emit}
 use Rattle.sbx_text.specs.Tokens.{front}
 use Rattle.v8_formats.specs.declared.instr.Operand.{Operand}
 use Rattle.v8_formats.specs.declared.instr.Operand.TheVariants as operands
-use Rattle.v8_syntax.specs.declared.native.Special.{Special}
-use Rattle.v8_syntax.specs.declared.native.Special.TheVariants as specials
+use Rattle.v8_forms.specs.declared.part.Special.{Special}
+use Rattle.v8_forms.specs.declared.part.Special.TheVariants as specials
 use Rattle.v8_syntax.specs.declared.word.Word.{Word}
 use Rattle.v8_syntax.specs.declared.word.Word.TheVariants as words
 use Rattle.v8_syntax.specs.declared.word.NameKind.TheVariants as names
-use Rattle.v8_syntax.specs.declared.mnemonic.Mnemonic.{Mnemonic}
-use Rattle.v8_syntax.specs.Mnemonics.{name_of, all_mnemonics}
-use Rattle.v8_syntax.specs.Words.{named, percent_word}
-use Rattle.v8_syntax.specs.Text.{register_text, special_text, operand_text, address_text, memory_text}
-use Rattle.v8_syntax.proofs.Decimal.{ten_digits}
-use Rattle.v8_syntax.proofs.Tables.{finds_each}
+use Rattle.v8_syntax.specs.Words.{percent_word}
+use Rattle.v8_forms.specs.Text.{register_text, special_text, operand_text, address_text, memory_text}
+use Rattle.v8_forms.proofs.Decimal.{ten_digits}
 use Rattle.v8_rereading.proofs.Bytes.{Stops, is_name, name_front, percent_front, number_front, some_digits, Below, at_below}
 use Rattle.v8_rereading.proofs.Hearing.{Heard, tokened, closed, fewer, regrouped, regrouped3}
-
--- ---- mnemonics
-
-abbrev good_name : List ℕ → Bool
-good_name name = cond (is_name name) (leb (length name) 16) false
-
-abbrev all_of : (Mnemonic → Bool) → List Mnemonic → Bool
-all_of q [] = true
-all_of q (m ∷ ms) = cond (q m) (all_of q ms) false
-
-every_name : all_of (λ m. good_name (name_of m)) all_mnemonics ≡ true
-unfolding all_mnemonics
-every_name = refl
-
-same : (a b : Mnemonic) → (let s : Option Mnemonic = Some a in s) ≡ Some b → a ≡ b
-same a b e = cc
-
-first_of_both : (t u : Bool) → cond t u false ≡ true → t ≡ true
-first_of_both true u h = refl
-first_of_both false u h = h
-
-second_of_both : (t u : Bool) → cond t u false ≡ true → u ≡ true
-second_of_both true u h = h
-second_of_both false u h = absurd (false≢true h)
-
--- what is found passes what all pass
-found_passes : (p q : Mnemonic → Bool) (ms : List Mnemonic) (m : Mnemonic) → find p ms ≡ Some m → all_of q ms ≡ true → q m ≡ true
-found_passes p q [] m e h = absurd (cc)
-found_passes p q (k ∷ ms) m e h = by (p k) e (λ f. found_passes p q ms m f (second_of_both (q k) (all_of q ms) h))
-  where
-    by : (t : Bool) → cond t (Some k) (find p ms) ≡ Some m → (find p ms ≡ Some m → q m ≡ true) → q m ≡ true
-    by true f g = subst (λ x. q x ≡ true) (same k m f) (first_of_both (q k) (all_of q ms) h)
-    by false f g = g f
-
-is_found : (m : Mnemonic) → find (λ k. bytes_eq (name_of k) (name_of m)) all_mnemonics ≡ Some m
-unfolding named
-is_found m = finds_each m
-
-each_name : (m : Mnemonic) → good_name (name_of m) ≡ true
-each_name m = found_passes (λ k. bytes_eq (name_of k) (name_of m)) (λ k. good_name (name_of k)) all_mnemonics m (is_found m) every_name
-
-pub mnemonic_is_name : (m : Mnemonic) → is_name (name_of m) ≡ true
-mnemonic_is_name m = first_of_both (is_name (name_of m)) (leb (length (name_of m)) 16) (each_name m)
-
-pub mnemonic_is_short : (m : Mnemonic) → length (name_of m) ≤ 16
-mnemonic_is_short m = leb-true (length (name_of m)) 16 (second_of_both (is_name (name_of m)) (leb (length (name_of m)) 16) (each_name m))
-
-name_not_empty : (text : List ℕ) → is_name text ≡ true → 0 < length text
-name_not_empty [] h = absurd (false≢true h)
-name_not_empty (b ∷ text) h = omega arith
-
-pub mnemonic_not_empty : (m : Mnemonic) → 0 < length (name_of m)
-mnemonic_not_empty m = name_not_empty (name_of m) (mnemonic_is_name m)
 
 -- ---- the rest of a line, whose words are the same at each place
 

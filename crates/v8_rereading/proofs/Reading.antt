@@ -1,34 +1,30 @@
--- The words of an instruction's text, read as operands.
-use Rattle.std.proofs.Common.{◌≡◌, ℕ, suc, ◌+◌, ◌-◌, ◌*◌, ◌/◌, ◌%◌, ◌^◌, ◌<◌, ◌≤◌, Bool, true, false, cond, List, [], ◌∷◌, ◌++◌, refl, ap, ◌∙◌, arith, eqb, ltb, leb, Some, Option, None, Ok, Err, ◌⊎◌, inl, inr, ℤ, pos, negsuc, neg_ℤ}
+-- What the words of an operand's text are worth.
+use Rattle.std.proofs.Common.{◌≡◌, ℕ, suc, ◌+◌, ◌-◌, ◌*◌, ◌/◌, ◌%◌, ◌^◌, ◌<◌, ◌≤◌, Bool, true, false, cond, List, [], ◌∷◌, ◌++◌, refl, ap, ◌∙◌, arith, eqb, ltb, leb, Some, Option, Ok, Err, ◌⊎◌, inl, inr, pos, negsuc, neg_ℤ}
 use Rattle.std.specs.Prelude.{◌&&◌, ◌||◌}
-use Rattle.std.proofs.lemmas.Bool.{le-leb, lt-ltb, ltb-true, ltb-false, eq-eqb}
+use Rattle.std.proofs.lemmas.Bool.{cond_both, le-leb, lt-ltb, ltb-true, ltb-false, eq-eqb}
+use Rattle.v8_word.specs.Word.{bits_of, sign_extend}
 use Rattle.v8_formats.specs.declared.instr.Operand.{Operand}
 use Rattle.v8_formats.specs.declared.instr.Operand.TheVariants as operands
-use Rattle.v8_syntax.specs.declared.native.Special.{Special}
+use Rattle.v8_formats.specs.Spelling.{spell_operand}
+use Rattle.v8_forms.specs.declared.part.Range.{Range}
+use Rattle.v8_forms.specs.declared.part.Range.TheVariants as ranges
 use Rattle.v8_syntax.specs.declared.word.Word.{Word}
 use Rattle.v8_syntax.specs.declared.word.Word.TheVariants as words
 use Rattle.v8_syntax.specs.declared.word.NameKind.TheVariants as names
 use Rattle.v8_syntax.specs.declared.fault.SyntaxFault.{SyntaxFault}
 use Rattle.v8_syntax.specs.declared.fault.SyntaxFault.TheVariants.{Immediate, Target}
-use Rattle.v8_syntax.specs.declared.shape.Base.TheVariants as bases
-use Rattle.v8_syntax.specs.declared.shape.Expression.{Expression}
-use Rattle.v8_syntax.specs.declared.shape.Address.{Address}
-use Rattle.v8_syntax.specs.declared.shape.Address.TheVariants as addresses
-use Rattle.v8_syntax.specs.declared.shape.Argument.{Argument}
-use Rattle.v8_syntax.specs.declared.shape.Argument.TheVariants as arguments
-use Rattle.v8_syntax.specs.declared.shape.Arguments.TheVariants as lists
+use Rattle.v8_syntax.specs.declared.expression.Base.TheVariants as bases
+use Rattle.v8_syntax.specs.declared.expression.Expression.{Expression}
+use Rattle.v8_syntax.specs.declared.address.Address.{Address}
+use Rattle.v8_syntax.specs.declared.address.Address.TheVariants as addresses
+use Rattle.v8_forms.specs.Text.{number_in, operand_in, sum_bits}
 use Rattle.v8_syntax.specs.Words.{bytes_between}
-use Rattle.v8_syntax.specs.Shapes.{either, plain, less, after_sign, after_expression, expression, after_register, address, with_space, bracketed, argument, second, third, arguments_of}
-use Rattle.v8_syntax.specs.Statements.{◌>>=◌, word_in, in_range, second_operand, sum_of, distance, displacement, reached, quarter}
+use Rattle.v8_syntax.specs.Operands.{◌>>=◌, plain, less, expression, after_register, address, second, sum_of, immediate, word_in, in_range, distance, displacement, reached, quarter}
 use Rattle.v8_rereading.proofs.Pieces.{OperandIn, signed_words, offset_words, operand_words, added_words}
 
 -- what stands for a word that is read as signed
 abbrev pub signed_expression : Bool → ℕ → Expression
 signed_expression t n = cond t (plain bases.Number n) (less bases.Number (2 ^ 32 - n))
-
-abbrev pub operand_address : Operand → Address
-operand_address (operands.Register r) = addresses.Register r
-operand_address (operands.Immediate n) = addresses.Absolute (signed_expression (ltb n (2 ^ 31)) n)
 
 abbrev pub address_of : ℕ → Operand → Address
 address_of rs1 (operands.Register r) = addresses.Both rs1 r
@@ -37,102 +33,6 @@ address_of rs1 (operands.Immediate n) = addresses.Offset rs1 (signed_expression 
 -- a target by its distance
 abbrev pub place_expression : Option ℕ → Bool → ℕ → Expression
 place_expression v t n = cond t (plain (bases.Here v) n) (less (bases.Here v) (2 ^ 32 - n))
-
-abbrev pub register_argument : ℕ → Argument
-register_argument r = arguments.Plain (addresses.Register r)
-
-module _ (values : List ℕ → Option ℕ) (line : List ℕ) where
-  signed_read : (t : Bool) (n : ℕ) (ws : List Word)
-      → argument values line (signed_words t n ++ words.Sign 44 ∷ ws) ≡ Some (arguments.Plain (addresses.Absolute (signed_expression t n)), words.Sign 44 ∷ ws)
-  unfolding argument address expression after_expression
-  signed_read true n ws = refl
-  signed_read false n ws = refl
-
-  operand_read : (o : Operand) (ws : List Word) → argument values line (operand_words o ++ words.Sign 44 ∷ ws) ≡ Some (arguments.Plain (operand_address o), words.Sign 44 ∷ ws)
-  unfolding argument address after_register
-  operand_read (operands.Register r) ws = refl
-  operand_read (operands.Immediate n) ws = signed_read (ltb n (2 ^ 31)) n ws
-
-  offset_read : (rs1 : ℕ) (t : Bool) (n : ℕ) (ws : List Word)
-      → address values line (words.Register rs1 ∷ (offset_words t n ++ ws)) ≡ Some (addresses.Offset rs1 (signed_expression t n), ws)
-  unfolding address after_register expression
-  offset_read rs1 true n ws = refl
-  offset_read rs1 false n ws = refl
-
-  address_read : (rs1 : ℕ) (o : Operand) (ws : List Word) → address values line (words.Register rs1 ∷ (added_words o ++ ws)) ≡ Some (address_of rs1 o, ws)
-  unfolding address after_register
-  address_read rs1 (operands.Register r) ws = refl
-  address_read rs1 (operands.Immediate n) ws = offset_read rs1 (ltb n (2 ^ 31)) n ws
-
-  plain_read : (rs1 : ℕ) (o : Operand) (ws : List Word) → argument values line (words.Register rs1 ∷ (added_words o ++ ws)) ≡ Some (arguments.Plain (address_of rs1 o), ws)
-  unfolding argument
-  plain_read rs1 o ws = ap (λ r. either r (λ x. Some (arguments.Plain x.0, x.1)) None) (address_read rs1 o ws)
-
-  memory_read : (rs1 : ℕ) (o : Operand) (ws : List Word)
-      → argument values line (words.Sign 91 ∷ words.Register rs1 ∷ (added_words o ++ words.Sign 93 ∷ ws)) ≡ Some (with_space values line (address_of rs1 o) ws)
-  unfolding argument bracketed
-  memory_read rs1 o ws = ap (λ r. either r (λ x. either (after_sign 93 x.1) (λ rest. Some (with_space values line x.0 rest)) None) None) (address_read rs1 o (words.Sign 93 ∷ ws))
-
-  -- ---- all operands of a statement
-
-  pub three_read : (a : ℕ) (o : Operand) (d : ℕ)
-      → arguments_of values line (words.Register a ∷ words.Sign 44 ∷ (operand_words o ++ words.Sign 44 ∷ words.Register d ∷ [])) ≡ Some (lists.Three (register_argument a) (arguments.Plain (operand_address o)) (register_argument d))
-  unfolding arguments_of argument second third address after_register
-  three_read a o d = ap (λ r. either r (λ x. third values line (register_argument a) x.0 x.1) None) (operand_read o (words.Register d ∷ []))
-
-  pub written_read : (a : ℕ) (o : Operand) (s : Special)
-      → arguments_of values line (words.Register a ∷ words.Sign 44 ∷ (operand_words o ++ words.Sign 44 ∷ words.Special s ∷ [])) ≡ Some (lists.Three (register_argument a) (arguments.Plain (operand_address o)) (arguments.Special s))
-  unfolding arguments_of argument second third address after_register
-  written_read a o s = ap (λ r. either r (λ x. third values line (register_argument a) x.0 x.1) None) (operand_read o (words.Special s ∷ []))
-
-  pub taken_read : (s : Special) (d : ℕ) → arguments_of values line (words.Special s ∷ words.Sign 44 ∷ words.Register d ∷ []) ≡ Some (lists.Two (arguments.Special s) (register_argument d))
-  unfolding arguments_of argument second third address after_register
-  taken_read s d = refl
-
-  pub load_read : (rs1 : ℕ) (o : Operand) (d : ℕ)
-      → arguments_of values line (words.Sign 91 ∷ words.Register rs1 ∷ (added_words o ++ words.Sign 93 ∷ words.Sign 44 ∷ words.Register d ∷ [])) ≡ Some (lists.Two (arguments.Memory (address_of rs1 o)) (register_argument d))
-  unfolding arguments_of argument second third address after_register expression
-  load_read rs1 o d = ap (λ r. either r (λ x. second values line x.0 x.1) None) (memory_read rs1 o (words.Sign 44 ∷ words.Register d ∷ []))
-
-  pub store_read : (d rs1 : ℕ) (o : Operand)
-      → arguments_of values line (words.Register d ∷ words.Sign 44 ∷ words.Sign 91 ∷ words.Register rs1 ∷ (added_words o ++ words.Sign 93 ∷ [])) ≡ Some (lists.Two (register_argument d) (arguments.Memory (address_of rs1 o)))
-  unfolding arguments_of argument second third address after_register expression
-  store_read d rs1 o = ap (λ r. either r (λ x. third values line (register_argument d) x.0 x.1) None) (memory_read rs1 o [])
-
-  pub load_elsewhere_read : (rs1 rs2 asi d : ℕ)
-      → arguments_of values line (words.Sign 91 ∷ words.Register rs1 ∷ words.Sign 43 ∷ words.Register rs2 ∷ words.Sign 93 ∷ words.Number asi ∷ words.Sign 44 ∷ words.Register d ∷ [])
-      ≡ Some (lists.Two (arguments.Alternate (addresses.Both rs1 rs2) (plain bases.Number asi)) (register_argument d))
-  unfolding arguments_of argument second third address after_register expression bracketed
-  load_elsewhere_read rs1 rs2 asi d = refl
-
-  pub store_elsewhere_read : (d rs1 rs2 asi : ℕ)
-      → arguments_of values line (words.Register d ∷ words.Sign 44 ∷ words.Sign 91 ∷ words.Register rs1 ∷ words.Sign 43 ∷ words.Register rs2 ∷ words.Sign 93 ∷ words.Number asi ∷ [])
-      ≡ Some (lists.Two (register_argument d) (arguments.Alternate (addresses.Both rs1 rs2) (plain bases.Number asi)))
-  unfolding arguments_of argument second third address after_register expression bracketed
-  store_elsewhere_read d rs1 rs2 asi = refl
-
-  pub linked_read : (rs1 : ℕ) (o : Operand) (d : ℕ)
-      → arguments_of values line (words.Register rs1 ∷ (added_words o ++ words.Sign 44 ∷ words.Register d ∷ [])) ≡ Some (lists.Two (arguments.Plain (address_of rs1 o)) (register_argument d))
-  unfolding arguments_of argument second third address after_register
-  linked_read rs1 o d = ap (λ r. either r (λ x. second values line x.0 x.1) None) (plain_read rs1 o (words.Sign 44 ∷ words.Register d ∷ []))
-
-  pub addressed_read : (rs1 : ℕ) (o : Operand) → arguments_of values line (words.Register rs1 ∷ (added_words o ++ [])) ≡ Some (lists.One (arguments.Plain (address_of rs1 o)))
-  unfolding arguments_of second
-  addressed_read rs1 o = ap (λ r. either r (λ x. second values line x.0 x.1) None) (plain_read rs1 o [])
-
-  pub number_read : (n : ℕ) → arguments_of values line (words.Number n ∷ []) ≡ Some (lists.One (arguments.Plain (addresses.Absolute (plain bases.Number n))))
-  unfolding arguments_of argument second address expression after_expression
-  number_read n = refl
-
-  pub valued_read : (n d : ℕ) → arguments_of values line (words.Number n ∷ words.Sign 44 ∷ words.Register d ∷ []) ≡ Some (lists.Two (arguments.Plain (addresses.Absolute (plain bases.Number n))) (register_argument d))
-  unfolding arguments_of argument second third address expression after_expression after_register
-  valued_read n d = refl
-
-  pub target_read : (i j : ℕ) (t : Bool) (n : ℕ)
-      → arguments_of values line (words.Name names.Place i j ∷ offset_words t n) ≡ Some (lists.One (arguments.Plain (addresses.Absolute (place_expression (values (bytes_between line i j)) t n))))
-  unfolding arguments_of argument second address expression after_expression
-  target_read i j true n = refl
-  target_read i j false n = refl
 
 -- ---- what the numbers are worth
 
@@ -161,32 +61,123 @@ negative_in low high n fault small h =
     ∙ ap (λ t. cond (t && true) (Ok (2 ^ 32 - 1 - (2 ^ 32 - 1 - n))) (Err fault)) (le-leb (2 ^ 32 - 1 - n) low h)
     ∙ ap (λ m. Ok m) back
 
-pub plain_value : (high n : ℕ) → n ≤ high → word_in (pos 0) (pos high) (plain bases.Number n) ≡ Ok n
-unfolding word_in
-plain_value high n h = unsigned_in high n Immediate h
+-- ---- the numbers of a range
 
-pub unsigned_value : (high n : ℕ) → n ≤ high → high < 2 ^ 31 → word_in (pos 0) (pos high) (signed_expression (ltb n (2 ^ 31)) n) ≡ Ok n
-unsigned_value high n h small = ap (λ t. word_in (pos 0) (pos high) (signed_expression t n)) (lt-ltb n (2 ^ 31) (omega arith)) ∙ plain_value high n h
+abbrev pub In : Range → ℕ → Type 0
+In ranges.Signed n = IsSigned 4096 n
+In ranges.Count n = n < 32
+In ranges.Trap n = n < 128
+In ranges.High n = n < 2 ^ 22
+In ranges.Space n = n < 2 ^ 8
+In ranges.Whole n = ⊥
 
-signed_by : (t : Bool) (n : ℕ) → (t ≡ true → n < 4096) → (t ≡ false → (2 ^ 32 - 4096 ≤ n) × (n < 2 ^ 32)) → word_in (negsuc 4095) (pos 4095) (signed_expression t n) ≡ Ok n
+pub in_word : (range : Range) (n : ℕ) → In range n → n < 2 ^ 32
+in_word ranges.Signed n h = signed_is_word 4096 n (omega arith) h
+in_word ranges.Count n h = omega arith
+in_word ranges.Trap n h = omega arith
+in_word ranges.High n h = omega arith
+in_word ranges.Space n h = omega arith
+in_word ranges.Whole n h = absurd h
+
+signed_by : (t : Bool) (n : ℕ) → (t ≡ true → n < 4096) → (t ≡ false → (2 ^ 32 - 4096 ≤ n) × (n < 2 ^ 32)) → word_in ranges.Signed (signed_expression t n) ≡ Ok n
 unfolding word_in
 signed_by true n f g = let h = f refl in positive_in 4095 4095 n Immediate (omega arith)
 signed_by false n f g = let h = g refl in negative_in 4095 4095 n Immediate h.1 (omega arith)
 
-pub signed_value : (n : ℕ) → IsSigned 4096 n → word_in (negsuc 4095) (pos 4095) (signed_expression (ltb n (2 ^ 31)) n) ≡ Ok n
-signed_value n (inl h) = signed_by (ltb n (2 ^ 31)) n (λ _. h) (λ e. let ge = ltb-false n (2 ^ 31) e in absurd (omega arith))
-signed_value n (inr h) = signed_by (ltb n (2 ^ 31)) n (λ e. let lt = ltb-true n (2 ^ 31) e in absurd (omega arith)) (λ _. h)
+signed_worth : (n : ℕ) → IsSigned 4096 n → word_in ranges.Signed (signed_expression (ltb n (2 ^ 31)) n) ≡ Ok n
+signed_worth n (inl h) = signed_by (ltb n (2 ^ 31)) n (λ _. h) (λ e. let ge = ltb-false n (2 ^ 31) e in absurd (omega arith))
+signed_worth n (inr h) = signed_by (ltb n (2 ^ 31)) n (λ e. let lt = ltb-true n (2 ^ 31) e in absurd (omega arith)) (λ _. h)
+
+-- where it is written without a sign
+abbrev pub is_unsigned : Range → Bool
+is_unsigned ranges.Signed = false
+is_unsigned ranges.Whole = false
+is_unsigned _ = true
+
+pub unsigned_worth : (range : Range) (n : ℕ) → is_unsigned range ≡ true → In range n → word_in range (plain bases.Number n) ≡ Ok n
+unfolding word_in
+unsigned_worth ranges.Signed n u h = absurd (cc)
+unsigned_worth ranges.Count n u h = unsigned_in 31 n Immediate (omega arith)
+unsigned_worth ranges.Trap n u h = unsigned_in 127 n Immediate (omega arith)
+unsigned_worth ranges.High n u h = unsigned_in 4194303 n Immediate (omega arith)
+unsigned_worth ranges.Space n u h = unsigned_in 255 n Immediate (omega arith)
+unsigned_worth ranges.Whole n u h = absurd h
+
+small_worth : (range : Range) (n : ℕ) → is_unsigned range ≡ true → In range n → n < 2 ^ 31 → word_in range (signed_expression (ltb n (2 ^ 31)) n) ≡ Ok n
+small_worth range n u h small = ap (λ t. word_in range (signed_expression t n)) (lt-ltb n (2 ^ 31) small) ∙ unsigned_worth range n u h
+
+pub worth : (range : Range) (n : ℕ) → In range n → word_in range (signed_expression (ltb n (2 ^ 31)) n) ≡ Ok n
+worth ranges.Signed n h = signed_worth n h
+worth ranges.Count n h = small_worth ranges.Count n refl h (omega arith)
+worth ranges.Trap n h = small_worth ranges.Trap n refl h (omega arith)
+worth ranges.High n h = small_worth ranges.High n refl h (omega arith)
+worth ranges.Space n h = small_worth ranges.Space n refl h (omega arith)
+worth ranges.Whole n h = absurd h
+
+-- ---- the numbers in a word
+
+extended : (reach n : ℕ) → (t : Bool) → ltb n reach ≡ t → reach < 2 ^ 30 → n < 2 * reach → IsSigned reach (cond t n (n + (2 ^ 32 - 2 * reach)))
+extended reach n true e small h = inl (ltb-true n reach e)
+extended reach n false e small h = let ge = ltb-false n reach e in inr (omega arith, omega arith)
+
+pub near_in : (w : ℕ) → IsSigned (2 ^ 21) (sign_extend 22 (bits_of w 0 22))
+near_in w = extended (2 ^ 21) (bits_of w 0 22) (ltb (bits_of w 0 22) (2 ^ 21)) refl (omega arith) (omega arith)
+
+pub far_in : (w : ℕ) → IsSigned (2 ^ 29) (sign_extend 30 (bits_of w 0 30))
+far_in w = extended (2 ^ 29) (bits_of w 0 30) (ltb (bits_of w 0 30) (2 ^ 29)) refl (omega arith) (omega arith)
+
+-- every number but a whole word
+abbrev pub is_part : Range → Bool
+is_part ranges.Whole = false
+is_part _ = true
+
+pub number_inside : (range : Range) (w : ℕ) → is_part range ≡ true → In range (number_in range w)
+number_inside ranges.Signed w k = extended 4096 (bits_of w 0 13) (ltb (bits_of w 0 13) 4096) refl (omega arith) (omega arith)
+number_inside ranges.Count w k = omega arith
+number_inside ranges.Trap w k = omega arith
+number_inside ranges.High w k = omega arith
+number_inside ranges.Space w k = omega arith
+number_inside ranges.Whole w k = absurd (cc)
+
+pub operand_inside : (range : Range) (w : ℕ) → is_part range ≡ true → OperandIn (In range) (operand_in range w)
+operand_inside range w k =
+    cond_both (eqb (bits_of w 13 1) 1) (operands.Immediate (number_in range w)) (operands.Register (bits_of w 0 5)) (OperandIn (In range)) (λ _. number_inside range w k) (λ _. omega arith)
 
 -- ---- operands and addresses
 
-module _ (P : ℕ → Type 0) (low high : ℤ) (worth : (n : ℕ) → P n → word_in low high (signed_expression (ltb n (2 ^ 31)) n) ≡ Ok n) where
-  pub operand_value : (o : Operand) → OperandIn P o → second_operand low high (operand_address o) ≡ Ok o
-  operand_value (operands.Register r) h = refl
-  operand_value (operands.Immediate n) h = ap (λ r. r >>= λ m. Ok (operands.Immediate m)) (worth n h)
+module _ (values : List ℕ → Option ℕ) (line : List ℕ) where
+  signed_read : (range : Range) (t : Bool) (n : ℕ) (ws : List Word)
+      → second values line range (signed_words t n ++ ws) ≡ Some (immediate range (signed_expression t n), ws)
+  unfolding second expression
+  signed_read range true n ws = refl
+  signed_read range false n ws = refl
 
-  pub address_value : (rs1 : ℕ) (o : Operand) → OperandIn P o → sum_of low high (address_of rs1 o) ≡ Ok (record { rs1 = rs1; operand2 = o })
-  address_value rs1 (operands.Register r) h = refl
-  address_value rs1 (operands.Immediate n) h = ap (λ r. r >>= λ m. Ok (record { rs1 = rs1; operand2 = operands.Immediate m })) (worth n h)
+  pub second_read : (range : Range) (o : Operand) (ws : List Word) → OperandIn (In range) o → second values line range (operand_words o ++ ws) ≡ Some (Ok (spell_operand o), ws)
+  unfolding second
+  second_read range (operands.Register r) ws h = refl
+  second_read range (operands.Immediate n) ws h =
+      signed_read range (ltb n (2 ^ 31)) n ws ∙ ap (λ r. Some (r >>= λ m. Ok (spell_operand (operands.Immediate m)), ws)) (worth range n h)
+
+  offset_read : (rs1 : ℕ) (t : Bool) (n : ℕ) (ws : List Word)
+      → address values line (words.Register rs1 ∷ (offset_words t n ++ ws)) ≡ Some (addresses.Offset rs1 (signed_expression t n), ws)
+  unfolding address after_register expression
+  offset_read rs1 true n ws = refl
+  offset_read rs1 false n ws = refl
+
+  pub address_read : (rs1 : ℕ) (o : Operand) (ws : List Word) → address values line (words.Register rs1 ∷ (added_words o ++ ws)) ≡ Some (address_of rs1 o, ws)
+  unfolding address after_register
+  address_read rs1 (operands.Register r) ws = refl
+  address_read rs1 (operands.Immediate n) ws = offset_read rs1 (ltb n (2 ^ 31)) n ws
+
+  pub target_read : (i j : ℕ) (t : Bool) (n : ℕ)
+      → expression values line (words.Name names.Place i j ∷ offset_words t n) ≡ Some (place_expression (values (bytes_between line i j)) t n, [])
+  unfolding expression
+  target_read i j true n = refl
+  target_read i j false n = refl
+
+pub address_value : (range : Range) (rs1 : ℕ) (o : Operand) → OperandIn (In range) o → sum_of range (address_of rs1 o) ≡ Ok (sum_bits rs1 o)
+address_value range rs1 (operands.Register r) h = refl
+address_value range rs1 (operands.Immediate n) h = ap (λ r. r >>= λ m. Ok (sum_bits rs1 (operands.Immediate m))) (worth range n h)
 
 -- ---- targets
 

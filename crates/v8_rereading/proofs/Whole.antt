@@ -1,46 +1,77 @@
--- Each layout's text is read back, and so is each word's.
-use Rattle.std.proofs.Common.{◌≡◌, ℕ, refl, subst, Some, Option, None}
-use Rattle.std.specs.Prelude.{MatchOption, ◌≢◌}
+-- The text of an instruction is read as that instruction.
+use Rattle.std.proofs.Common.{◌≡◌, ℕ, ◌+◌, ◌<◌, ◌≤◌, Bool, true, false, cond, List, [], ◌∷◌, ◌++◌, length, refl, ap, subst, ◌∙◌, arith, Some, Option, None, Result, Ok, Err}
+use Rattle.std.specs.Prelude.{◌≢◌, codes}
+use Rattle.std.specs.Str.{bytes_eq}
+use Rattle.std.proofs.lemmas.Bool.{false≢true, le-ltb}
+use Rattle.std.proofs.lemmas.List.{length-append}
+use Rattle.sbx_text.specs.declared.Token.{Token}
+use Rattle.sbx_text.specs.declared.Kind.TheVariants as kinds
+use Rattle.sbx_text.specs.declared.fault.TextFault.TheVariants.{LineTooLong}
+use Rattle.sbx_text.specs.Tokens.{tokens_at}
 use Rattle.v8_formats.specs.declared.instr.Instr.{Instr}
 use Rattle.v8_formats.specs.Spelling.{spelling}
 use Rattle.v8_formats.specs.Table.{meaning}
-use Rattle.v8_syntax.specs.declared.native.Native.{Native}
-use Rattle.v8_syntax.specs.declared.native.Native.TheVariants as natives
-use Rattle.v8_syntax.specs.Natives.{native_of, instr_of}
-use Rattle.v8_syntax.specs.Text.{native_text, shown, text_of}
-use Rattle.v8_syntax.proofs.Tables.{keeps_each}
-use Rattle.v8_rereading.specs.Laws.{HasSyntax, IsReadAs, ReadsEachTextBack}
-use Rattle.v8_rereading.proofs.Layouts
-use Rattle.v8_rereading.proofs.Controls
-use Rattle.v8_rereading.proofs.Ranges.{IsInRange, Fits, meaning_fits}
+use Rattle.v8_formats.proofs.TableOk.{meaning-spelling}
+use Rattle.v8_syntax.specs.declared.fault.SyntaxFault.{SyntaxFault}
+use Rattle.v8_syntax.specs.declared.fault.SyntaxFault.TheVariants.{UnknownMnemonic}
+use Rattle.v8_syntax.specs.declared.statement.Words.{Words}
+use Rattle.v8_syntax.specs.declared.statement.Words.TheVariants as counts
+use Rattle.v8_forms.specs.Forms.{Form, forms}
+use Rattle.v8_forms.specs.Text.{native_of, operands_text, shown, suffix_text, text_of}
+use Rattle.v8_syntax.specs.Words.{words_of}
+use Rattle.v8_syntax.specs.Operands.{◌>>=◌}
+use Rattle.v8_syntax.specs.Statements.{first_of, instructions, named_meaning, set, source_meaning}
+use Rattle.v8_rereading.specs.Laws.{IsReadAs, ReadsEachTextBack}
+use Rattle.v8_rereading.proofs.Bytes.{is_name, name_front}
+use Rattle.v8_rereading.proofs.Hearing.{between, token_scanned}
+use Rattle.v8_rereading.proofs.Names.{Found, first_is, native_found}
+use Rattle.v8_rereading.proofs.Parts.{Operands, operands_told}
 
-native_back : (n : Native) → IsInRange n → IsReadAs (native_text n) (instr_of n)
-native_back (natives.Arithmetic op f) h = Layouts.arithmetic_back op f h
-native_back (natives.Shift op f) h = Layouts.shift_back op f h
-native_back (natives.Window op f) h = Layouts.window_back op f h
-native_back (natives.Load op f) h = Layouts.load_back f h op
-native_back (natives.Store op f) h = Layouts.store_back f h op
-native_back (natives.LoadAlternate op f) h = Layouts.load_alternate_back f h op
-native_back (natives.StoreAlternate op f) h = Layouts.store_alternate_back f h op
-native_back (natives.Read special r) h = Controls.read_back special r h
-native_back (natives.Write special f) h = Controls.write_back special f h
-native_back (natives.Jump f) h = Controls.jump_back f h
-native_back (natives.Return f) h = Controls.return_back f h
-native_back (natives.Flush f) h = Controls.flush_back f h
-native_back (natives.Trap f) h = Controls.trap_back f h.0 h.1
-native_back (natives.Call d) h = Controls.call_back d h
-native_back (natives.Branch f) h = Controls.branch_back f h
-native_back (natives.SetHigh f) h = Controls.set_high_back f h.0 h.1
-native_back (natives.Unimp n) h = Controls.unimp_back n h
-native_back natives.Barrier h = Controls.barrier_back
+name_not_empty : (text : List ℕ) → is_name text ≡ true → 0 < length text
+name_not_empty [] h = absurd (false≢true h)
+name_not_empty (b ∷ text) h = omega arith
 
-by_native : (i : Instr) (word : ℕ) (o : Option Native) → o ≢ None → MatchOption o (Unit {0}) IsInRange → MatchOption o (Unit {0}) (λ n. instr_of n ≡ i) → IsReadAs (shown o word) i
-by_native i word None some h kept = absurd (some refl)
-by_native i word (Some n) some h kept = subst (IsReadAs (native_text n)) kept (native_back n h)
+no_set_meaning : (t : Bool) (r : Result Words SyntaxFault) (m : Result ℕ SyntaxFault) (w : ℕ) → t ≡ false → m ≡ Ok w → cond t r (m >>= λ n. Ok (counts.Single n)) ≡ Ok (counts.Single w)
+no_set_meaning true r m w e h = absurd (cc)
+no_set_meaning false r m w e h = ap (λ x. x >>= λ n. Ok (counts.Single n)) h
 
-instruction_back : (i : Instr) → HasSyntax i → Fits i → IsReadAs (text_of i) i
-unfolding text_of
-instruction_back i some h = by_native i (spelling i) (native_of i) some h (keeps_each i)
+module _ (f : Form) (w : ℕ) (found : native_of w ≡ Some f) (known : Found f w) (told : Operands f.parts w) where
+  name : List ℕ
+  name = f.name ++ suffix_text f.conditional w
+
+  spoken_at : (ts : List Token) (values_of : List ℕ → Option ℕ) (here at : ℕ) → words_of (name ++ operands_text f.parts w) ts ≡ told.said at
+      → source_meaning values_of here (name ++ operands_text f.parts w) (record { kind = kinds.Name; start = 0; stop = 0 + length name } ∷ ts) ≡ Ok (meaning w ∷ [])
+  unfolding name named_meaning
+  spoken_at ts values_of here at e =
+      let line : List ℕ = name ++ operands_text f.parts w in
+      ap (λ n. named_meaning values_of here line n (words_of line ts) >>= λ x. Ok (instructions x)) (between line [] name (operands_text f.parts w) 0 refl refl)
+      ∙ ap (λ ws. named_meaning values_of here line name ws >>= λ x. Ok (instructions x)) e
+      ∙ ap (λ r. r >>= λ x. Ok (instructions x))
+      (no_set_meaning (bytes_eq name (codes "set")) (set values_of line (told.said at)) (first_of values_of here line UnknownMnemonic forms name (told.said at)) w known.no_set
+      (first_is values_of here line (told.said at) f w name found known (told.reads values_of here line at) refl (λ ks s. told.refuses ks s values_of here line at)))
+
+  spoken : IsReadAs (name ++ operands_text f.parts w) (meaning w)
+  unfolding name
+  spoken =
+      let l = length-append name (operands_text f.parts w) in
+      let few = told.heard.short in
+      let short = known.short in
+      let fits : length (name ++ operands_text f.parts w) ≤ 1024 = omega arith in
+      let scanned = token_scanned kinds.Name name (operands_text f.parts w) told.heard.marks (name_front name (operands_text f.parts w) known.is_named told.stops)
+      (name_not_empty name known.is_named) told.heard.scanned (length (name ++ operands_text f.parts w)) 0 (omega arith) in (
+        record { kind = kinds.Name; start = 0; stop = 0 + length name } ∷ told.heard.marks (0 + length name),
+        ap (λ t. cond t (Err LineTooLong) (tokens_at (length (name ++ operands_text f.parts w)) 0 (name ++ operands_text f.parts w))) (le-ltb 1024 (length (name ++ operands_text f.parts w)) fits) ∙ scanned,
+        λ values_of here. spoken_at (told.heard.marks (0 + length name)) values_of here (0 + length name)
+            (told.heard.said (name ++ operands_text f.parts w) name (0 + length name) refl (omega arith)),
+      )
+
+by_form : (i : Instr) (w : ℕ) (o : Option Form) → native_of w ≡ o → o ≢ None → meaning w ≡ i → IsReadAs (shown o w) i
+unfolding name
+by_form i w None e some is = absurd (some refl)
+by_form i w (Some f) e some is =
+    let known = native_found w f e in
+    subst (IsReadAs (shown (Some f) w)) is (spoken f w e known (operands_told f.parts w known.prints))
 
 pub each_back : ReadsEachTextBack
-each_back w h some = instruction_back (meaning w) some (meaning_fits w)
+unfolding text_of
+each_back w h some = by_form (meaning w) (spelling (meaning w)) (native_of (spelling (meaning w))) refl some (meaning-spelling w h)

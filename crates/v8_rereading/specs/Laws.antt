@@ -6,13 +6,13 @@ use Rattle.v8_formats.specs.declared.instr.Instr.{Instr}
 use Rattle.v8_formats.specs.Table.{meaning}
 use Rattle.v8_syntax.specs.declared.fault.SyntaxFault.{SyntaxFault}
 use Rattle.v8_syntax.specs.declared.fault.SyntaxFault.TheVariants.{UnknownMnemonic, Shape, Immediate, UnknownSymbol, Target}
-use Rattle.v8_syntax.specs.Natives.{native_of}
-use Rattle.v8_syntax.specs.Text.{text_of}
+use Rattle.v8_formats.specs.Spelling.{spelling}
+use Rattle.v8_forms.specs.Text.{native_of, text_of}
 use Rattle.v8_syntax.specs.Statements.{source_meaning, statement_length}
 
 -- the instruction has a mnemonic: its text is no bare `.word`
 abbrev pub HasSyntax : Instr → Type 0
-HasSyntax i = native_of i ≢ None
+HasSyntax i = native_of (spelling i) ≢ None
 
 -- a line has tokens, and is a statement of this one instruction, whatever its names are worth and wherever it stands
 abbrev pub IsReadAs : List ℕ → Instr → Type 0
@@ -28,7 +28,7 @@ IsNotRead line = (tokens : List Token) × (tokens_of line ≡ Ok tokens) × ((va
 
 -- a bare `.word` is taken for no instruction
 abbrev pub RefusesEachBareWord : Type 0
-RefusesEachBareWord = (w : ℕ) → native_of (meaning w) ≡ None → IsNotRead (text_of (meaning w))
+RefusesEachBareWord = (w : ℕ) → native_of (spelling (meaning w)) ≡ None → IsNotRead (text_of (meaning w))
 
 -- the tokens are no statement: the mnemonic is unknown, or its operands have another shape
 abbrev pub IsNoStatement : SyntaxFault → Type 0

@@ -1,8 +1,4 @@
-pub mod Natives
-pub mod Mnemonics
-pub mod Text
 pub mod Words
-pub mod Shapes
+pub mod Operands
 pub mod Statements
-pub mod Laws
 pub mod Faults

@@ -1,18 +1,15 @@
 -- What each token of a statement is: a register, a name, a number, a sign.
 use Rattle.std.specs.Prelude.{ℕ, ◌+◌, ◌-◌, ◌*◌, Bool, ◌&&◌, ◌||◌, ◌==◌, nat_lt, nat_le, if◌then◌else◌, List, [], length, drop, map, slice_index, slice_range, Option, Some, None, codes}
 use Rattle.std.specs.Str.{bytes_eq}
-use Rattle.std.specs.List.{find}
 use Rattle.sbx_text.specs.declared.Token.{Token}
 use Rattle.sbx_text.specs.declared.Kind.{Kind}
 use Rattle.sbx_text.specs.declared.Kind.TheVariants as kinds
-use Rattle.v8_syntax.specs.declared.native.Special.{Special}
-use Rattle.v8_syntax.specs.declared.native.Special.TheVariants as specials
-use Rattle.v8_syntax.specs.declared.mnemonic.Mnemonic.{Mnemonic}
+use Rattle.v8_forms.specs.declared.part.Special.{Special}
+use Rattle.v8_forms.specs.declared.part.Special.TheVariants as specials
 use Rattle.v8_syntax.specs.declared.word.Word.{Word}
 use Rattle.v8_syntax.specs.declared.word.Word.TheVariants as words
 use Rattle.v8_syntax.specs.declared.word.NameKind.{NameKind}
 use Rattle.v8_syntax.specs.declared.word.NameKind.TheVariants as names
-use Rattle.v8_syntax.specs.Mnemonics.{name_of, all_mnemonics}
 
 -- the bytes of a line from one place up to another, and none where the line has no such bytes
 abbrev pub bytes_between : List ℕ → ℕ → ℕ → List ℕ
@@ -95,7 +92,3 @@ word_of line t = word_at line t.start t.stop t.kind
 
 abbrev pub words_of : List ℕ → List Token → List Word
 words_of line tokens = map (word_of line) tokens
-
--- the mnemonic of a name
-unfoldable pub named : List ℕ → Option Mnemonic
-named name = find (λ m. bytes_eq (name_of m) name) all_mnemonics

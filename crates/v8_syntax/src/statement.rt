@@ -1,59 +1,132 @@
 // Statements read as instructions.
-ghost use Rattle.std.specs.Prelude.{◌≡◌, ℕ, List, IfOk, MatchResult, Ok, Err, [], ◌∷◌};
+ghost use Rattle.std.specs.Prelude.{◌≡◌, ℕ, ◌+◌, ◌*◌, ◌/◌, ◌%◌, ◌^◌, ◌<◌, List, Option, MatchOption, MatchResult, [], ◌∷◌, map, Ok, Err, Some, None};
+ghost use Rattle.v8_formats.specs.Table.{meaning};
+ghost use Rattle.v8_forms.specs.Forms.{form_of, forms};
 ghost use Rattle.v8_syntax.specs.Words.{words_of};
-ghost use Rattle.v8_syntax.specs.Shapes.{arguments_of};
-ghost use Rattle.v8_syntax.specs.Statements.{shaped, operands_meaning, statement, source_meaning, instructions, no_symbol, shaped_length, statement_length};
+ghost use Rattle.v8_syntax.specs.Statements.{count_of, first_of, high_word, instructions, is_symbolic, low_word, named_length, named_meaning, no_symbol, set, set_operands, set_words, source_meaning, statement, statement_length, value_length};
 
+use crate::expression::{Base, Expression, after_sign, read_expression, register_first, word_in};
 use crate::fault::SyntaxFault;
-use crate::meaning::{Made, is_set, meaning, set_length};
-use crate::mnemonic::Mnemonic;
-use crate::shape::{Arguments, after_annul, arguments_of};
+use crate::names::named;
+use crate::operands::operands_of;
 use crate::symbols::Symbols;
-use crate::word::{bytes_between, named};
+use crate::word::{bytes_between, is_same};
 use arrayvec::ArrayVec;
 use sbx_text::{Kind, Token};
-use v8_formats::Instr;
+use v8_formats::{Instr, decode};
+use v8_forms::{Range, Row, filled, forms};
+use v8_word::Reg;
 
-fn shaped(
-    mnemonic: Mnemonic,
-    annul: bool,
-    here: u32,
-    args: &Option<Arguments>,
-) -> Result<Made, SyntaxFault>
-    ensures { result ≡ shaped mnemonic annul here args.now }
+/// The words of a statement.
+#[derive(Clone, Copy)]
+pub enum Words {
+    Single(u32),
+    Pair(u32, u32),
+}
+
+/// SETHI of a word's high bits.
+fn high_word(word: u32, rd: Reg) -> u32
+    ensures { result ≡ high_word word rd }
 {
-    match args {
-        Some(args) => meaning(mnemonic, annul, here, args),
-        None => Err(SyntaxFault::Shape),
+    0x100_0000 + u32::from(rd.number()) * 0x200_0000 + word / 0x400
+}
+
+/// OR of a register and a number.
+fn low_word(rs1: Reg, number: u32, rd: Reg) -> u32
+    ensures { result ≡ low_word rs1 number rd }
+{
+    0x8010_2000
+        + u32::from(rd.number()) * 0x200_0000
+        + u32::from(rs1.number()) * 0x4000
+        + number % 0x2000
+}
+
+fn set_words(symbolic: bool, word: u32, rd: Reg) -> Words
+    ensures { result ≡ set_words symbolic word rd }
+{
+    if symbolic {
+        Words::Pair(high_word(word, rd), low_word(rd, word % 0x400, rd))
+    } else if word < 4096 || word >= 0xffff_f000 {
+        Words::Single(0x8010_2000 + u32::from(rd.number()) * 0x200_0000 + word % 0x2000)
+    } else if word % 0x400 == 0 {
+        Words::Single(high_word(word, rd))
+    } else {
+        Words::Pair(high_word(word, rd), low_word(rd, word % 0x400, rd))
     }
 }
 
-#[tactic(auto, unfolding(crate::specs::Statements::operands_meaning))]
-fn operands_meaning<S: Symbols>(
-    mnemonic: Mnemonic,
+fn is_symbolic(base: Base) -> bool
+    ensures { result ≡ is_symbolic base }
+{
+    match base {
+        Base::Number => false,
+        Base::Symbol(_) | Base::Here(_) => true,
+    }
+}
+
+#[tactic(auto, unfolding(crate::specs::Statements::set_operands))]
+fn set_operands<S: Symbols>(symbols: &S, line: &[u8], tokens: &[Token]) -> Option<(Expression, Reg)>
+    ensures { result ≡ set_operands (S.values symbols.now) line.now (words_of line.now tokens.now) }
+{
+    let (value, after) = read_expression(symbols, line, tokens)?;
+    let more = after_sign(b',', line, after)?;
+    match register_first(line, more) {
+        Some((rd, rest)) if rest.is_empty() => Some((value, rd)),
+        _ => None,
+    }
+}
+
+#[tactic(auto, unfolding(crate::specs::Statements::set))]
+fn set<S: Symbols>(symbols: &S, line: &[u8], tokens: &[Token]) -> Result<Words, SyntaxFault>
+    ensures { result ≡ set (S.values symbols.now) line.now (words_of line.now tokens.now) }
+{
+    let Some((value, rd)) = set_operands(symbols, line, tokens) else {
+        return Err(SyntaxFault::Shape);
+    };
+    let word = word_in(Range::Whole, value)?;
+    Ok(set_words(is_symbolic(value.base), word, rd))
+}
+
+/// The word of the first of some forms that has the name and that the operands fit, else the fault.
+fn first_of<S: Symbols>(
+    fault: SyntaxFault,
+    rows: &[Row],
+    name: &[u8],
     symbols: &S,
     line: &[u8],
-    rest: &[Token],
-) -> Result<Made, SyntaxFault>
-    ensures { result ≡ operands_meaning (S.values symbols.now) (S.place symbols.now) line.now mnemonic rest.now }
+    tokens: &[Token],
+) -> Result<u32, SyntaxFault>
+    ensures { result ≡ first_of (S.values symbols.now) (S.place symbols.now) line.now fault (map form_of rows.now) name.now (words_of line.now tokens.now) }
 {
-    match after_annul(line, rest) {
-        Some(after) => shaped(
-            mnemonic,
-            true,
-            symbols.here(),
-            &arguments_of(symbols, line, after),
-        ),
-        None => shaped(
-            mnemonic,
-            false,
-            symbols.here(),
-            &arguments_of(symbols, line, rest),
-        ),
+    let mut fault = fault;
+    for row in rows {
+        if let Some(condition) = named(row, name) {
+            match operands_of(row.parts, symbols, line, tokens) {
+                Some(operands) => return Ok(filled(row, condition, operands?)),
+                None => fault = SyntaxFault::Shape,
+            }
+        }
     }
+    Err(fault)
 }
 
-fn statement<S: Symbols>(symbols: &S, line: &[u8], tokens: &[Token]) -> Result<Made, SyntaxFault>
+#[tactic(auto, unfolding(crate::specs::Statements::named_meaning))]
+fn named_words<S: Symbols>(
+    name: &[u8],
+    symbols: &S,
+    line: &[u8],
+    tokens: &[Token],
+) -> Result<Words, SyntaxFault>
+    ensures { result ≡ named_meaning (S.values symbols.now) (S.place symbols.now) line.now name.now (words_of line.now tokens.now) }
+{
+    if is_same(name, b"set") {
+        return set(symbols, line, tokens);
+    }
+    let fault = SyntaxFault::UnknownMnemonic;
+    Ok(Words::Single(first_of(fault, forms(), name, symbols, line, tokens)?))
+}
+
+fn statement<S: Symbols>(symbols: &S, line: &[u8], tokens: &[Token]) -> Result<Words, SyntaxFault>
     ensures { result ≡ statement (S.values symbols.now) (S.place symbols.now) line.now tokens.now }
 {
     let Some((first, rest)) = tokens.split_first() else {
@@ -61,19 +134,16 @@ fn statement<S: Symbols>(symbols: &S, line: &[u8], tokens: &[Token]) -> Result<M
     };
     let Token { kind, start, stop } = *first;
     match kind {
-        Kind::Name => match named(bytes_between(line, start, stop)) {
-            Some(mnemonic) => operands_meaning(mnemonic, symbols, line, rest),
-            None => Err(SyntaxFault::UnknownMnemonic),
-        },
+        Kind::Name => named_words(bytes_between(line, start, stop), symbols, line, rest),
         Kind::Percent | Kind::Number(_) | Kind::Sign => Err(SyntaxFault::UnknownMnemonic),
     }
 }
 
-fn list_of_one<T: Copy + Default>(item: T) -> ArrayVec<T, 2>
-    ensures { result.items ≡ item ∷ [] }
+fn list_of_one<T: Copy + Default>(first: T) -> ArrayVec<T, 2>
+    ensures { result.items ≡ first ∷ [] }
 {
     let mut list = ArrayVec::new();
-    list.push(item);
+    list.push(first);
     list
 }
 
@@ -86,12 +156,12 @@ fn list_of_two<T: Copy + Default>(first: T, second: T) -> ArrayVec<T, 2>
     list
 }
 
-fn instructions(made: &Made) -> ArrayVec<Instr, 2>
-    ensures { result.items ≡ instructions made.now }
+fn instructions(words: &Words) -> ArrayVec<Instr, 2>
+    ensures { result.items ≡ instructions words.now }
 {
-    match made {
-        Made::Single(instr) => list_of_one(*instr),
-        Made::Pair(first, second) => list_of_two(*first, *second),
+    match words {
+        Words::Single(word) => list_of_one(decode(*word)),
+        Words::Pair(first, second) => list_of_two(decode(*first), decode(*second)),
     }
 }
 
@@ -107,8 +177,8 @@ pub fn parse_instr<S: Symbols>(
 ) -> Result<ArrayVec<Instr, 2>, SyntaxFault>
     ensures { MatchResult result (λ v. source_meaning (S.values symbols.now) (S.place symbols.now) line.now tokens.now ≡ Ok v.items) (λ f. source_meaning (S.values symbols.now) (S.place symbols.now) line.now tokens.now ≡ Err f) }
 {
-    let made = statement(symbols, line, tokens)?;
-    Ok(instructions(&made))
+    let words = statement(symbols, line, tokens)?;
+    Ok(instructions(&words))
 }
 
 /// No symbol's word is known yet.
@@ -128,11 +198,35 @@ impl Symbols for Unresolved {
     }
 }
 
-fn shaped_length(args: &Option<Arguments>) -> usize
-    ensures { result ≡ shaped_length args.now }
+fn count_of(words: &Words) -> usize
+    ensures { result ≡ count_of words.now }
 {
-    match args {
-        Some(args) => set_length(args),
+    match words {
+        Words::Single(_) => 1,
+        Words::Pair(..) => 2,
+    }
+}
+
+fn value_length(value: Expression, rd: Reg) -> usize
+    ensures { result ≡ value_length value rd }
+{
+    if is_symbolic(value.base) {
+        return 2;
+    }
+    match word_in(Range::Whole, value) {
+        Ok(word) => count_of(&set_words(false, word, rd)),
+        Err(_) => 1,
+    }
+}
+
+fn named_length(name: &[u8], line: &[u8], tokens: &[Token]) -> usize
+    ensures { result ≡ named_length line.now name.now (words_of line.now tokens.now) }
+{
+    if !is_same(name, b"set") {
+        return 1;
+    }
+    match set_operands(&Unresolved, line, tokens) {
+        Some((value, rd)) => value_length(value, rd),
         None => 1,
     }
 }
@@ -147,16 +241,7 @@ pub fn length_of(line: &[u8], tokens: &[Token]) -> usize
     };
     let Token { kind, start, stop } = *first;
     match kind {
-        Kind::Name => match named(bytes_between(line, start, stop)) {
-            Some(mnemonic) => {
-                if is_set(mnemonic) {
-                    shaped_length(&arguments_of(&Unresolved, line, rest))
-                } else {
-                    1
-                }
-            }
-            None => 1,
-        },
+        Kind::Name => named_length(bytes_between(line, start, stop), line, rest),
         Kind::Percent | Kind::Number(_) | Kind::Sign => 1,
     }
 }

@@ -1,13 +1,10 @@
 // What each token of a statement is.
 ghost use Rattle.std.specs.Prelude.{◌≡◌, ℕ, ◌+◌, ◌-◌, ◌*◌, ◌<◌, ◌≤◌, List, Option, MatchOption, [], ◌∷◌, slice_index, drop};
 ghost use Rattle.std.specs.Str.{bytes_eq};
-ghost use Rattle.std.specs.List.{find};
-ghost use Rattle.v8_syntax.specs.Mnemonics.{name_of};
-ghost use Rattle.v8_syntax.specs.Words.{bytes_between, is_decimal, register_numbered, grouped, two_letters, three_letters, register_named, special_named, percent_word, name_kind, word_of, words_of, named};
+ghost use Rattle.v8_syntax.specs.Words.{bytes_between, is_decimal, register_numbered, grouped, two_letters, three_letters, register_named, special_named, percent_word, name_kind, word_of, words_of};
 
-use crate::mnemonic::{MNEMONICS, Mnemonic, name_of};
-use crate::native::Special;
 use sbx_text::{Kind, Token};
+use v8_forms::Special;
 use v8_word::Reg;
 
 /// `a` annuls a branch, `.` is the place of the instruction, another name is a symbol.
@@ -188,23 +185,4 @@ pub fn front<'t>(line: &[u8], tokens: &'t [Token]) -> Option<(Word, &'t [Token])
         Some((first, rest)) => Some((word_of(line, first), rest)),
         None => None,
     }
-}
-
-/// The first of some mnemonics that has the name.
-fn first_named(mnemonics: &[Mnemonic], name: &[u8]) -> Option<Mnemonic>
-    ensures { result ≡ find (λ m. bytes_eq (name_of m) name.now) mnemonics.now }
-{
-    for mnemonic in mnemonics {
-        if is_same(name_of(*mnemonic).as_bytes(), name) {
-            return Some(*mnemonic);
-        }
-    }
-    None
-}
-
-/// The mnemonic of a name.
-pub fn named(name: &[u8]) -> Option<Mnemonic>
-    ensures { result ≡ named name.now }
-{
-    first_named(&MNEMONICS, name)
 }

@@ -1,0 +1,3 @@
+pub mod Forms
+pub mod Text
+pub mod Laws

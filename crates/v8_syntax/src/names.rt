@@ -1,0 +1,43 @@
+// The name that a statement begins with.
+ghost use Rattle.std.specs.Prelude.{◌≡◌, ℕ, ◌+◌, ◌<◌, ◌≤◌, List, map, IfSome, length};
+ghost use Rattle.v8_forms.specs.Forms.{form_of, suffixes};
+ghost use Rattle.v8_syntax.specs.Statements.{named, numbered};
+
+use crate::word::{after_first, bytes_between, is_same};
+use v8_forms::{Row, suffixes};
+
+/// Which of some suffixes it is, the first by that number.
+fn numbered(from: u32, suffixes: &[&str], name: &[u8]) -> Option<u32>
+    requires room { from + length suffixes.now ≤ 16 }
+    ensures value { result ≡ numbered from (map (λ s. s.now) suffixes.now) name.now }
+    ensures bound { IfSome result (λ k. k < 16) }
+{
+    match suffixes.split_first() {
+        Some((suffix, others)) => {
+            if is_same(suffix.as_bytes(), name) {
+                Some(from)
+            } else {
+                numbered(from + 1, others, name)
+            }
+        }
+        None => None,
+    }
+}
+
+/// The condition under which a form has that name: 0 where it has none.
+pub fn named(row: &Row, name: &[u8]) -> Option<u32>
+    ensures value { result ≡ named (form_of row.now) name.now }
+    ensures bound { IfSome result (λ k. k < 16) }
+{
+    if row.conditional {
+        if is_same(row.name.as_bytes(), bytes_between(name, 0, 1)) {
+            numbered(0, suffixes(), after_first(name))
+        } else {
+            None
+        }
+    } else if is_same(row.name.as_bytes(), name) {
+        Some(0)
+    } else {
+        None
+    }
+}
