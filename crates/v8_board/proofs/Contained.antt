@@ -47,18 +47,22 @@ boots n old new boot file =
       npc_word = subst (λ (c : Control). c.npc < 2 ^ 32) (sym is) (lit< tt);
     }
 
-pub boots_state : (n : ℕ) (old new : Cpu n) (ram : List ℕ) (mmu : MmuRegs) (d : Device) → new ≡ booted n old → IsFile n new.regs → length ram ≡ 0x100000 → AreBytes ram → root_of mmu ≡ 0x2000 → IsState n mmu (world n new ram d)
-boots_state n old new ram mmu d boot file size bytes root =
+pub boots_state : (n : ℕ) (old new : Cpu n) (ram : List ℕ) (mmu : MmuRegs) (d : Device) → new ≡ booted n old → old.control.y < 2 ^ 32 → IsFile n new.regs → length ram ≡ 0x100000 → AreBytes ram → root_of mmu ≡ 0x2000 → IsState n mmu (world n new ram d)
+boots_state n old new ram mmu d boot y file size bytes root =
     let is = control_is n old new boot in
     record {
-      file = file;
+      cpu = record {
+        file = file;
+        y_word = subst (λ (c : Control). c.y < 2 ^ 32) (sym is) y;
+        pil = subst (λ (c : Control). c.pil < 16) (sym is) (lit< tt);
+        table = ap (λ (c : Control). c.base % 4096) is;
+        pc_word = subst (λ (c : Control). c.pc < 2 ^ 32) (sym is) (lit< tt);
+        pc_whole = ap (λ (c : Control). c.pc % 4) is;
+        npc_word = subst (λ (c : Control). c.npc < 2 ^ 32) (sym is) (lit< tt);
+        npc_whole = ap (λ (c : Control). c.npc % 4) is;
+      };
       size = size;
       bytes = bytes;
-      pc_word = subst (λ (c : Control). c.pc < 2 ^ 32) (sym is) (lit< tt);
-      pc_whole = ap (λ (c : Control). c.pc % 4) is;
-      npc_word = subst (λ (c : Control). c.npc < 2 ^ 32) (sym is) (lit< tt);
-      npc_whole = ap (λ (c : Control). c.npc % 4) is;
-      table = ap (λ (c : Control). c.base) is;
       root = root;
     }
 

@@ -57,7 +57,6 @@ impl<const N: usize, P: Port> Model for Board<N, P> {
 impl<const N: usize, P: Port> Board<N, P> {
     ghost use Rattle.v8_board.specs.Seen.{ending_of, turned, with_port};
     ghost use Rattle.v8_board.specs.contracts.board.Board.{the_row};
-    ghost use Rattle.v8_mmu.specs.Ram.{AreBytes};
     ghost use Rattle.v8_loaded.specs.States.{IsState};
     ghost use Rattle.v8_board.specs.Contains.{Contains, Keeps, KeepsBy};
     ghost use Rattle.v8_board.specs.Runs.{GoesOn, IsCutShort, IsRun, ending_or_limit, outcome_of};
@@ -96,7 +95,7 @@ impl<const N: usize, P: Port> Board<N, P> {
         ensures start { IsStart N image.now self.old.state self.new.state }
         ensures loaded { IsLoaded N (pages_of image.now) image.now.words self.new.state.world.memory.ram }
         ensures map { IsMapped (pages_of image.now) self.new.state.world.memory.ram }
-        ensures state { AreBytes self.old.state.world.memory.ram → IsState N self.new.state.mmu self.new.state.world }
+        ensures state { IsState N self.old.state.mmu self.old.state.world → IsState N self.new.state.mmu self.new.state.world }
         ensures contained { Contains N image.now self.new.state }
         ensures failed { self.new.failed ≡ self.old.failed }
         ensures calls { self.new.calls ≡ self.old.calls }

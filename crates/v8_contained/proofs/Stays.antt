@@ -48,7 +48,7 @@ number_is ram at Double v e =
     let low = h.low.fits in
     record { aligned = h.aligned; fits = omega arith }
 
-with_number_kept : (ram : List ℕ) (at : ℕ) (size : Size) (v : ℕ) → at + bytes_in size ≤ length ram → (length (with_number ram at size v) ≡ length ram) × ((p : ℕ) → p + 4 ≤ at → entry_of (with_number ram at size v) p ≡ entry_of ram p)
+pub with_number_kept : (ram : List ℕ) (at : ℕ) (size : Size) (v : ℕ) → at + bytes_in size ≤ length ram → (length (with_number ram at size v) ≡ length ram) × ((p : ℕ) → p + 4 ≤ at → entry_of (with_number ram at size v) p ≡ entry_of ram p)
 with_number_kept ram at Byte v fits =
     let same = length-with_byte ram at v (omega arith) in
     (same, λ p under. word_kept ram (with_byte ram at v) p same (λ j low high. byte_beside_byte ram at v j (omega arith) (inl (omega arith))))

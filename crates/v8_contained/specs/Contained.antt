@@ -57,6 +57,7 @@ pub record IsAt {n : ℕ} (cpu : Cpu n) (pc npc : ℕ) : Type 0 where
 abbrev pub IsHandler : ℕ → Type 0
 IsHandler k = (k ≡ 0) ⊎ (k ≡ 32)
 
+-- where the four words of a trap's vector begin, and where word k of the handlers' page lies
 abbrev pub vector_of : ℕ → ℕ
 vector_of t = 0xF0000000 + 16 * t
 
@@ -67,6 +68,7 @@ handler_at k = 0xF0001000 + 4 * k
 abbrev pub trap_to : ℕ → ℕ
 trap_to k = 5 + k / 32
 
+-- at the second word of a vector that reaches the device: %l3 has its address, whatever the other registers hold
 pub record IsActing {n : ℕ} (cpu : Cpu n) (t : ℕ) : Type 0 where
   pub small : t < 256
   pub not_over : t ≡ 5 → ⊥
@@ -74,9 +76,11 @@ pub record IsActing {n : ℕ} (cpu : Cpu n) (t : ℕ) : Type 0 where
   pub at : IsAt cpu (vector_of t + 4) (vector_of t + 8)
   pub device : reg_of n cpu.regs 19 ≡ 0xF0010000
 
+-- the services that come back
 abbrev pub IsBack : ℕ → Type 0
 IsBack t = (t ≡ 0x81) ⊎ (t ≡ 0x82)
 
+-- The processor stands at a place: by PC and nPC. Before a RETT nPC is what user code left as its next place, any word.
 abbrev pub Stands : {n : ℕ} → Cpu n → Place → Type 0
 Stands cpu (Enters t) = (t < 256) × IsAt cpu (vector_of t) (vector_of t + 4)
 Stands cpu (Acts t) = IsActing cpu t
@@ -110,6 +114,7 @@ HasEnded n x = IsSome x.memory.device.stopped ⊎ IsSome x.cpu.control.error
 
 -- ---- the invariant
 
+-- What was loaded is there, and user code runs, or a vector or a handler that it trapped into, or the machine has ended.
 pub record IsContained (n : ℕ) (g : Pages) (words : List ℕ) (mmu : MmuRegs) (x : World n Device) : Type 0 where
   pub few : 4 ≤ n
   pub many : n ≤ 32
@@ -144,14 +149,15 @@ acted t x d =
     (if t == 0x81 then (gets d).1 else
     (if t == 0x82 then record d { output = d.output ++ (x % 2 ^ 8) ∷ [] } else record d { stopped = Some Trapped }))
 
--- the second word of the vector of a trap but 05 and 06
+-- the device after the second word of the vector of a trap but 05 and 06
 pub record ByVector (n : ℕ) (old new : World n Device) : Type 0 where
   pub trap : ℕ
   pub system : old.cpu.control.s ≡ true
   pub at : IsActing old.cpu trap
   pub is : new.memory.device ≡ acted trap (reg_of n old.cpu.regs 24) old.memory.device
 
--- what a turn of a contained board is
+-- What a turn of a contained board is: it stays contained; what user code fetched and reached is its own; and the device is as it
+-- was, or as a vector makes it.
 pub record TurnIs (n : ℕ) (g : Pages) (words : List ℕ) (mmu : MmuRegs) (old : World n Device) (made : Turn × World n Device) : Type 0 where
   pub keeps : IsContained n g words mmu made.1
   pub own : IsOwn g made.0.user made.0.pc made.0.word made.0.access

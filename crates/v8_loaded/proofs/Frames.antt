@@ -44,19 +44,19 @@ module _ (n : ℕ) (g : Pages) (mmu : MmuRegs) (x : World n Device) (st : IsStat
   state_frame sp room = frame_of_bytes g x.memory.ram sp few st.size st.bytes room
 
   pub state_runs : (words : List ℕ) (i : ℕ) → IsLoaded n g words x.memory.ram → x.cpu.control.s ≡ false → x.cpu.control.et ≡ true →
-      x.cpu.control.annul ≡ false → x.cpu.control.error ≡ None → x.memory.device.stopped ≡ None →
+      x.cpu.control.base ≡ 0xF0000000 → x.cpu.control.annul ≡ false → x.cpu.control.error ≡ None → x.memory.device.stopped ≡ None →
       x.cpu.control.pc ≡ 0x40000 + 4 * i → i < 1024 * g.code_count → RunsUser n g words mmu x i
-  state_runs words i loaded user traps straight sane running place within = record {
-    file = st.file;
+  state_runs words i loaded user traps table straight sane running place within = record {
+    file = st.cpu.file;
     user = user;
     traps = traps;
     straight = straight;
     sane = sane;
-    table = st.table;
+    table = table;
     place = place;
     within = within;
-    npc_word = st.npc_word;
-    npc_whole = st.npc_whole;
+    npc_word = st.cpu.npc_word;
+    npc_whole = st.cpu.npc_whole;
     few = few;
     loaded = loaded;
     root = st.root;

@@ -1,4 +1,4 @@
-use Rattle.std.proofs.Common.{◌≡◌, length, refl, rules, arith}
+use Rattle.std.proofs.Common.{◌≡◌, length, lit<, refl, rules, arith}
 use Rattle.v8_mmu.specs.Ram.{AreBytes}
 use Rattle.v8_board.proofs.Contained.{blank_bytes, boots_state}
 use Rattle.std.proofs.lemmas.Grind.{common_steps}
@@ -15,5 +15,5 @@ returns-in-Ok-clause-state g c =
     let blank = c.in-Ok.ensures.ram in
     let size : length c.new-in-Ok.result.bus.ram ≡ 0x100000 = rw c.new-in-Ok.ensures.bus blank.size in
     let bytes : AreBytes c.new-in-Ok.result.bus.ram = rw c.new-in-Ok.ensures.bus (blank_bytes c.in-Ok.memory.ram blank) in
-    boots_state g.row.N _ c.new-in-Ok.result.cpu c.new-in-Ok.result.bus.ram c.new-in-Ok.result.mmu _ c.new-in-Ok.ensures.cpu c.new-in-Ok.ensures.file
+    boots_state g.row.N _ c.new-in-Ok.result.cpu c.new-in-Ok.result.bus.ram c.new-in-Ok.result.mmu _ c.new-in-Ok.ensures.cpu (lit< tt) c.new-in-Ok.ensures.file
     size bytes (rw c.new-in-Ok.ensures.mmu refl)
