@@ -1,6 +1,7 @@
 //! Whole programs on the plain flat machine.
 #![tactic(auto)]
 
-pub mod programs;
+#[cfg(test)]
+mod programs;
 #[cfg(test)]
 mod tests;
