@@ -1,5 +1,5 @@
 -- A job that is refused did not deserve to be done.
-use Rattle.std.proofs.Common.{◌≡◌, subst, ℕ, List, Option, None, Some, IfSome, Ok, Err, arith, ◌∙◌, rules}
+use Rattle.std.proofs.Common.{◌≡◌, subst, ℕ, List, Option, None, Some, IfSome, Ok, Err, ◌∙◌, rules}
 use Rattle.std.specs.Io.KnownBytes.{Appends, Keeps}
 use Rattle.sbx_image.specs.declared.fault.ImageFault.{ImageFault}
 use Rattle.sbx_image.specs.declared.parts.Parts.{Parts}
@@ -9,13 +9,13 @@ use Rattle.sbx_command.specs.declared.jobs.Job.{Job}
 use Rattle.sbx_command.specs.declared.jobs.Job.TheVariants.{Asm, Verify, Run, List as Listing, Trace}
 use Rattle.sbx_command.specs.declared.stops.Stop.{Stop}
 use Rattle.sbx_command.specs.declared.stops.Stop.TheVariants.{Source, Image, Refused, File, Input, Output, Memory}
-use Rattle.sbx_command.specs.Stops.{IsTrueOf, IsTrueOfImage, status_of}
+use Rattle.sbx_command.specs.Stops.{IsRefusal, IsTrueOf, IsTrueOfImage, status_of}
 use Rattle.sbx_command.proofs.Sources.{source_stops}
 use Rattle.sbx_run.specs.declared.runner.Finished.{Finished}
 use Rattle.sbx_run.specs.Answer.{IsAnswer}
-use Rattle.v8_board.specs.declared.outcome.Outcome.{Outcome}
-use Rattle.sbx_raw.specs.Traces.{IsTrace, Wrote}
-use Rattle.sbx_command.specs.Verdicts.{Answered, Ran, Traced, status_of_word, Deserves, IsAccepted, IsImage, IsTold}
+use Rattle.sbx_run.specs.Outcome.{Outcome}
+use Rattle.sbx_run.specs.Traces.{IsTrace, Wrote}
+use Rattle.sbx_command.specs.Verdicts.{Answered, Ran, Traced, status_of_word, Deserves, IsAccepted, IsImage, IsTold, StopsFor}
 
 pub faulty_is_no_image : (bytes : List ℕ) (fault : ImageFault) → reading bytes ≡ Err fault → IsImage bytes → ⊥
 faulty_is_no_image bytes fault faulty image =
@@ -29,36 +29,36 @@ fault_is_not_checked parts other bytes refusal read least same checked =
     let kept : Checked parts = rw equal checked in
     kept least.place refusal.cause (least.within, least.first.breaks)
 
-pub image_stop : (stop : Stop) (bytes : List ℕ) → status_of stop ≡ 2 → IsTrueOfImage stop bytes → IsImage bytes → ⊥
-image_stop (Source fault) bytes two told image = told
-image_stop (Image fault) bytes two told image = faulty_is_no_image bytes fault told image
-image_stop (Refused refusal) bytes two told image = told
-image_stop File bytes two told image = absurd (omega arith)
-image_stop Input bytes two told image = absurd (omega arith)
-image_stop Output bytes two told image = absurd (omega arith)
-image_stop Memory bytes two told image = absurd (omega arith)
+pub image_stop : (stop : Stop) (bytes : List ℕ) → IsRefusal stop → IsTrueOfImage stop bytes → IsImage bytes → ⊥
+image_stop (Source fault) bytes refuses told image = told
+image_stop (Image fault) bytes refuses told image = faulty_is_no_image bytes fault told image
+image_stop (Refused refusal) bytes refuses told image = told
+image_stop File bytes refuses told image = absurd refuses
+image_stop Input bytes refuses told image = absurd refuses
+image_stop Output bytes refuses told image = absurd refuses
+image_stop Memory bytes refuses told image = absurd refuses
 
-pub rule_stop : (stop : Stop) (bytes : List ℕ) → status_of stop ≡ 2 → IsTrueOf stop bytes → IsAccepted bytes → ⊥
-rule_stop (Source fault) bytes two told accepted = told
-rule_stop (Image fault) bytes two told accepted = faulty_is_no_image bytes fault told (accepted.0, accepted.1)
-rule_stop (Refused refusal) bytes two told accepted =
+pub rule_stop : (stop : Stop) (bytes : List ℕ) → IsRefusal stop → IsTrueOf stop bytes → IsAccepted bytes → ⊥
+rule_stop (Source fault) bytes refuses told accepted = told
+rule_stop (Image fault) bytes refuses told accepted = faulty_is_no_image bytes fault told (accepted.0, accepted.1)
+rule_stop (Refused refusal) bytes refuses told accepted =
     fault_is_not_checked told.0 accepted.0 bytes refusal told.1 told.2 accepted.1 accepted.2
-rule_stop File bytes two told accepted = absurd (omega arith)
-rule_stop Input bytes two told accepted = absurd (omega arith)
-rule_stop Output bytes two told accepted = absurd (omega arith)
-rule_stop Memory bytes two told accepted = absurd (omega arith)
+rule_stop File bytes refuses told accepted = absurd refuses
+rule_stop Input bytes refuses told accepted = absurd refuses
+rule_stop Output bytes refuses told accepted = absurd refuses
+rule_stop Memory bytes refuses told accepted = absurd refuses
 
-pub told_is_refused : (job : Job) (stop : Stop) (bytes : List ℕ) → status_of stop ≡ 2 → IsTold job stop bytes → Deserves job bytes → ⊥
-told_is_refused (Asm source object) stop bytes two told deserved = source_stops stop bytes two told deserved
-told_is_refused (Verify image) stop bytes two told deserved = rule_stop stop bytes two told deserved
-told_is_refused (Run image) stop bytes two told deserved = rule_stop stop bytes two told deserved
-told_is_refused (Listing image) stop bytes two told deserved = image_stop stop bytes two told deserved
-told_is_refused (Trace image limit) stop bytes two told deserved = image_stop stop bytes two told deserved
+pub told_is_refused : (job : Job) (stop : Stop) (bytes : List ℕ) → IsRefusal stop → IsTold job stop bytes → Deserves job bytes → ⊥
+told_is_refused (Asm source object) stop bytes refuses told deserved = source_stops stop bytes refuses told deserved
+told_is_refused (Verify image) stop bytes refuses told deserved = rule_stop stop bytes refuses told deserved
+told_is_refused (Run image) stop bytes refuses told deserved = rule_stop stop bytes refuses told deserved
+told_is_refused (Listing image) stop bytes refuses told deserved = image_stop stop bytes refuses told deserved
+told_is_refused (Trace image limit) stop bytes refuses told deserved = image_stop stop bytes refuses told deserved
 
-pub known_is_refused : (known : Option (List ℕ)) (job : Job) (stop : Stop) → status_of stop ≡ 2
+pub known_is_refused : (known : Option (List ℕ)) (job : Job) (stop : Stop) → IsRefusal stop
     → IfSome known (IsTold job stop) → IfSome known (λ bytes. Deserves job bytes → ⊥)
-known_is_refused None job stop two told = tt
-known_is_refused (Some bytes) job stop two told = told_is_refused job stop bytes two told
+known_is_refused None job stop refuses told = tt
+known_is_refused (Some bytes) job stop refuses told = told_is_refused job stop bytes refuses told
 
 -- a flush keeps what a write appended
 pub appends_kept : (a b c : Option (List ℕ)) (bs : List ℕ) → Appends a b bs → Keeps b c → Appends a c bs
@@ -92,3 +92,8 @@ traced_on limit None input old new parts taken outcome read same wrote = tt
 traced_on limit (Some bytes) None old new parts taken outcome read same wrote = tt
 traced_on limit (Some bytes) (Some all) old new parts taken outcome read same wrote =
     (parts, outcome, wrote.0, read, subst (λ (input : List ℕ). IsTrace 8 parts input limit wrote.0 outcome) same wrote.1, wrote.2)
+
+-- a stop of a job, whose status is told
+pub stops_for : (job : Job) (known : Option (List ℕ)) (Untouched : Type 0) (stop : Stop) (status : ℕ) → status ≡ status_of stop
+    → IfSome known (IsTold job stop) → (IsRefusal stop → Untouched) → StopsFor job known Untouched status
+stops_for job known Untouched stop status is told untouched = (stop, is, told, λ refuses. (known_is_refused known job stop refuses told, untouched refuses))

@@ -10,8 +10,8 @@ use Rattle.sbx_asm.specs.declared.fault.Cause.{Cause}
 use Rattle.sbx_asm.specs.declared.fault.Cause.TheVariants as causes
 use Rattle.sbx_asm.specs.declared.fault.AsmFault.{AsmFault}
 use Rattle.sbx_asm.specs.Meaning.{source_image}
-use Rattle.sbx_raw.specs.declared.fault.RunFault.{RunFault}
-use Rattle.sbx_raw.specs.declared.fault.RunFault.TheVariants as runs
+use Rattle.sbx_run.specs.RunFault.{RunFault}
+use Rattle.sbx_run.specs.RunFault.TheVariants as runs
 use Rattle.sbx_verify.specs.Rules.{IsLeastFault}
 use Rattle.sbx_image.specs.declared.parts.Parts.{Parts}
 use Rattle.sbx_command.specs.declared.stops.Stop.{Stop}
@@ -26,6 +26,16 @@ status_of File = 4
 status_of Input = 4
 status_of Output = 4
 status_of Memory = 5
+
+-- The bytes of the file are at fault. The other stops tell of the system or of memory.
+abbrev pub IsRefusal : Stop → Type 0
+IsRefusal (Source fault) = Unit {0}
+IsRefusal (Image fault) = Unit {0}
+IsRefusal (Refused refusal) = Unit {0}
+IsRefusal File = ⊥
+IsRefusal Input = ⊥
+IsRefusal Output = ⊥
+IsRefusal Memory = ⊥
 
 -- the line on standard error
 abbrev pub line_of : Stop → List ℕ

@@ -3,8 +3,8 @@ use Rattle.std.specs.Prelude.{◌≡◌, ℕ, List, Ok, Option, IfSome, ◌==◌
 use Rattle.std.specs.Io.KnownBytes.{Appends}
 use Rattle.sbx_run.specs.declared.runner.Finished.{Finished}
 use Rattle.sbx_run.specs.Answer.{IsAnswer}
-use Rattle.v8_board.specs.declared.outcome.Outcome.{Outcome}
-use Rattle.sbx_raw.specs.Traces.{IsTrace}
+use Rattle.sbx_run.specs.Outcome.{Outcome}
+use Rattle.sbx_run.specs.Traces.{IsTrace}
 use Rattle.sbx_image.specs.declared.parts.Parts.{Parts}
 use Rattle.sbx_image.specs.Reading.{reading}
 use Rattle.sbx_image.specs.Spelling.{spelling}
@@ -13,7 +13,7 @@ use Rattle.sbx_verify.specs.Rules.{Checked}
 use Rattle.sbx_command.specs.declared.jobs.Job.{Job}
 use Rattle.sbx_command.specs.declared.jobs.Job.TheVariants.{Asm, Verify, Run, List as Listing, Trace}
 use Rattle.sbx_command.specs.declared.stops.Stop.{Stop}
-use Rattle.sbx_command.specs.Stops.{IsTrueOf, IsTrueOfImage, IsTrueOfSource}
+use Rattle.sbx_command.specs.Stops.{IsRefusal, IsTrueOf, IsTrueOfImage, IsTrueOfSource, status_of}
 
 -- the bytes spell an image
 abbrev pub IsImage : List ℕ → Type 0
@@ -86,3 +86,10 @@ Gave (Verify image) file input old new status = Unit {0}
 Gave (Run image) file input old new status = Ran file input old new status
 Gave (Listing image) file input old new status = Unit {0}
 Gave (Trace image limit) file input old new status = Traced limit file input old new × (status ≡ 0)
+
+-- A status is that of a stop, which tells what is so of the bytes of the file. Where it refuses them, they don't deserve the job, and
+-- what a refusal leaves as it was is as it was.
+abbrev pub StopsFor : Job → Option (List ℕ) → Type 0 → ℕ → Type 0
+StopsFor job file Untouched status =
+    (stop : Stop) × (status ≡ status_of stop) × IfSome file (IsTold job stop)
+    × (IsRefusal stop → IfSome file (λ bytes. Deserves job bytes → ⊥) × Untouched)

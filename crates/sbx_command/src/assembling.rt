@@ -3,7 +3,7 @@ ghost use Rattle.std.specs.Prelude.{◌≡◌, ◌⊎◌, IfErr, IfOk, IfSome, O
 ghost use Rattle.std.specs.Io.KnownBytes.{Appends};
 ghost use Rattle.sbx_image.specs.Spelling.{spelling};
 ghost use Rattle.sbx_asm.specs.Meaning.{source_image};
-ghost use Rattle.sbx_command.specs.Stops.{IsTrueOfSource, status_of};
+ghost use Rattle.sbx_command.specs.Stops.{IsRefusal, IsTrueOfSource};
 ghost use Rattle.sbx_command.specs.Verdicts.{IsSource, Assembled};
 
 use crate::reading::{MOST, ReadFault, read_whole};
@@ -53,7 +53,7 @@ pub fn assemble_file<F: Read, O: Write>(
     ensures source { OnOk result (IfSome (F.remaining file.old) IsSource) }
     ensures assembled { OnOk result (Assembled (F.remaining file.old) (O.contents out.old) (O.contents out.new)) }
     ensures stop { IfErr result (λ stop. IfSome (F.remaining file.old) (IsTrueOfSource stop)) }
-    ensures untouched { IfErr result (λ stop. status_of stop ≡ 2 → out.new ≡ out.old) }
+    ensures untouched { IfErr result (λ stop. IsRefusal stop → out.new ≡ out.old) }
 {
     let image = source_in(alloc, file)?;
     match write(&image, alloc) {

@@ -1,7 +1,7 @@
 //! A command from its job to its exit status.
-ghost use Rattle.std.specs.Prelude.{◌≡◌, ◌<◌, IfErr, IfOk, IfSome};
-ghost use Rattle.sbx_command.specs.Stops.{status_of};
-ghost use Rattle.sbx_command.specs.Verdicts.{Deserves, Gave, IsTold};
+ghost use Rattle.std.specs.Prelude.{◌≡◌, ◌<◌, ◌≤◌, IfErr, IfOk, IfSome};
+ghost use Rattle.sbx_command.specs.Stops.{IsRefusal};
+ghost use Rattle.sbx_command.specs.Verdicts.{Deserves, Gave, IsTold, StopsFor};
 
 use crate::assembling::assemble_file;
 use crate::jobs::Job;
@@ -26,7 +26,7 @@ fn perform<F: Read, I: Read, O: Write>(
     ensures ran { IfOk result (Gave job.now (F.remaining file.old) (I.remaining input.old)
         (O.contents out.old) (O.contents out.new)) }
     ensures stop { IfErr result (λ stop. IfSome (F.remaining file.old) (IsTold job.now stop)) }
-    ensures untouched { IfErr result (λ stop. status_of stop ≡ 2
+    ensures untouched { IfErr result (λ stop. IsRefusal stop
         → (input.new ≡ input.old) × (out.new ≡ out.old)) }
 {
     match *job {
@@ -53,7 +53,6 @@ fn perform<F: Read, I: Read, O: Write>(
 /// Does a job and gives its exit status; what the system opened for it is passed in: the file that the job reads,
 /// standard input, where its result goes, and standard error. The result of an assembly goes to a writer in memory, so
 /// that the object file is opened only where the status is 0.
-#[tactic(auto, using(crate::proofs::Verdicts::known_is_refused))]
 pub fn command<F: Read, I: Read, O: Write, E: Write>(
     alloc: Global,
     job: &Job<'_>,
@@ -64,17 +63,19 @@ pub fn command<F: Read, I: Read, O: Write, E: Write>(
 ) -> u8
     ensures range { result < 6 }
 
-    // A job is done only with bytes that deserve it, and refused only with bytes that don't.
+    // A job is done only with bytes that deserve it.
     ensures done { result < 2 → IfSome (F.remaining file.old) (Deserves job.now) }
-    ensures refused { result ≡ 2 → IfSome (F.remaining file.old) (λ bytes. Deserves job.now bytes → ⊥) }
 
     // A run puts out what its image does on the input, and has the status of its exit word. A trace puts out the lines of the
     // image's turns on the input.
     ensures ran { result < 2 → Gave job.now (F.remaining file.old) (I.remaining input.old)
         (O.contents out.old) (O.contents out.new) result }
 
-    // A refusal takes no input and puts nothing out; a job that is done says nothing on standard error.
-    ensures untouched { result ≡ 2 → (input.new ≡ input.old) × (out.new ≡ out.old) }
+    // Any other status is that of a stop that tells what is so. Bytes that are refused don't deserve the job, and a refusal takes
+    // no input and puts nothing out.
+    ensures stopped { 2 ≤ result → StopsFor job.now (F.remaining file.old) ((input.new ≡ input.old) × (out.new ≡ out.old)) result }
+
+    // A job that is done says nothing on standard error.
     ensures quiet { result < 2 → err.new ≡ err.old }
 {
     match perform(alloc, job, file, input, out) {

@@ -1,18 +1,16 @@
 //! The command `list`.
 ghost use Rattle.std.specs.Prelude.{◌≡◌, IfErr, IfSome, OnOk};
-ghost use Rattle.sbx_command.specs.Stops.{IsTrueOfImage, status_of};
+ghost use Rattle.sbx_command.specs.Stops.{IsRefusal, IsTrueOfImage};
 ghost use Rattle.sbx_command.specs.Verdicts.{IsImage};
 
 use crate::images::image_in;
 use crate::stops::Stop;
 use arrayvec::ArrayString;
+use sbx_image::CODE_START;
 use std::alloc::Global;
 use std::io::{Read, Write};
 use v8_formats::decode;
 use v8_forms::print_instr;
-
-/// The address of the first word of code, in bytes.
-const CODE_START: u32 = 0x0004_0000;
 
 /// Writes address, word and text of each word of code, a line each.
 fn list_words<O: Write>(words: &[u32], out: &mut O) -> Result<(), Stop>
@@ -38,7 +36,7 @@ fn list_words<O: Write>(words: &[u32], out: &mut O) -> Result<(), Stop>
 pub fn list_file<F: Read, O: Write>(alloc: Global, file: &mut F, out: &mut O) -> Result<(), Stop>
     ensures image { OnOk result (IfSome (F.remaining file.old) IsImage) }
     ensures stop { IfErr result (λ stop. IfSome (F.remaining file.old) (IsTrueOfImage stop)) }
-    ensures untouched { IfErr result (λ stop. status_of stop ≡ 2 → out.new ≡ out.old) }
+    ensures untouched { IfErr result (λ stop. IsRefusal stop → out.new ≡ out.old) }
 {
     let image = image_in(alloc, file)?;
     list_words(image.words(), out)

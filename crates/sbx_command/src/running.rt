@@ -1,6 +1,6 @@
 //! The command `run`.
 ghost use Rattle.std.specs.Prelude.{◌≡◌, ◌≢◌, ◌<◌, IfErr, IfOk, IfSome, OnOk};
-ghost use Rattle.sbx_command.specs.Stops.{IsTrueOf, status_of};
+ghost use Rattle.sbx_command.specs.Stops.{IsRefusal, IsTrueOf};
 ghost use Rattle.sbx_command.specs.Verdicts.{Answered, IsAccepted, Ran, status_of_word};
 
 use crate::reading::{MOST, ReadFault, read_whole};
@@ -13,7 +13,7 @@ use std::io::{Read, Write};
 /// All of standard input.
 pub fn input_of<I: Read>(alloc: Global, input: &mut I) -> Result<Vec<u8>, Stop>
     ensures whole { IfOk result (λ bytes. IfSome (I.remaining input.old) (λ all. bytes.items ≡ all)) }
-    ensures stop { IfErr result (λ stop. status_of stop ≢ 2) }
+    ensures stop { IfErr result (λ stop. IsRefusal stop → ⊥) }
 {
     match read_whole(alloc, input, MOST) {
         Ok(bytes) => Ok(bytes),
@@ -35,7 +35,7 @@ fn answer_of<F: Read, I: Read>(alloc: Global, file: &mut F, input: &mut I) -> Re
     ensures accepted { OnOk result (IfSome (F.remaining file.old) IsAccepted) }
     ensures answer { IfOk result (Answered (F.remaining file.old) (I.remaining input.old)) }
     ensures stop { IfErr result (λ stop. IfSome (F.remaining file.old) (IsTrueOf stop)) }
-    ensures untouched { IfErr result (λ stop. status_of stop ≡ 2 → input.new ≡ input.old) }
+    ensures untouched { IfErr result (λ stop. IsRefusal stop → input.new ≡ input.old) }
 {
     let accepted = accepted_in(alloc, file)?;
     let bytes = input_of(alloc, input)?;
@@ -56,7 +56,7 @@ pub fn run_file<F: Read, I: Read, O: Write>(
     ensures ran { IfOk result (λ status. Ran (F.remaining file.old) (I.remaining input.old)
         (O.contents out.old) (O.contents out.new) status) }
     ensures stop { IfErr result (λ stop. IfSome (F.remaining file.old) (IsTrueOf stop)) }
-    ensures untouched { IfErr result (λ stop. status_of stop ≡ 2
+    ensures untouched { IfErr result (λ stop. IsRefusal stop
         → (input.new ≡ input.old) × (out.new ≡ out.old)) }
 {
     let finished = answer_of(alloc, file, input)?;

@@ -1,6 +1,6 @@
 //! The command `trace`.
 ghost use Rattle.std.specs.Prelude.{◌≡◌, IfErr, IfSome, OnOk};
-ghost use Rattle.sbx_command.specs.Stops.{IsTrueOfImage, status_of};
+ghost use Rattle.sbx_command.specs.Stops.{IsRefusal, IsTrueOfImage};
 ghost use Rattle.sbx_command.specs.Verdicts.{IsImage, Traced};
 
 use crate::images::image_in;
@@ -23,7 +23,7 @@ pub fn trace_file<F: Read, I: Read, O: Write>(
     ensures traced { OnOk result (Traced limit (F.remaining file.old) (I.remaining input.old)
         (O.contents out.old) (O.contents out.new)) }
     ensures stop { IfErr result (λ stop. IfSome (F.remaining file.old) (IsTrueOfImage stop)) }
-    ensures untouched { IfErr result (λ stop. status_of stop ≡ 2
+    ensures untouched { IfErr result (λ stop. IsRefusal stop
         → (input.new ≡ input.old) × (out.new ≡ out.old)) }
 {
     let image = image_in(alloc, file)?;

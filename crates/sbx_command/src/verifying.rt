@@ -3,7 +3,7 @@ ghost use Rattle.std.specs.Prelude.{◌≡◌, IfErr, IfOk, IfSome, Ok, OnOk};
 ghost use Rattle.std.specs.Io.KnownBytes.{Appends};
 ghost use Rattle.sbx_image.specs.Reading.{reading};
 ghost use Rattle.sbx_verify.specs.Rules.{Checked};
-ghost use Rattle.sbx_command.specs.Stops.{IsTrueOf, status_of};
+ghost use Rattle.sbx_command.specs.Stops.{IsRefusal, IsTrueOf};
 ghost use Rattle.sbx_command.specs.Verdicts.{IsAccepted};
 
 use crate::images::image_in;
@@ -45,7 +45,7 @@ pub fn write_through<O: Write>(out: &mut O, bytes: &[u8]) -> Result<(), Stop>
 pub fn verify_file<F: Read, O: Write>(alloc: Global, file: &mut F, out: &mut O) -> Result<(), Stop>
     ensures accepted { OnOk result (IfSome (F.remaining file.old) IsAccepted) }
     ensures stop { IfErr result (λ stop. IfSome (F.remaining file.old) (IsTrueOf stop)) }
-    ensures untouched { IfErr result (λ stop. status_of stop ≡ 2 → out.new ≡ out.old) }
+    ensures untouched { IfErr result (λ stop. IsRefusal stop → out.new ≡ out.old) }
 {
     let _accepted = accepted_in(alloc, file)?;
     write_through(out, b"accepted\n")

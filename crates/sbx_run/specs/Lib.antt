@@ -3,3 +3,6 @@ pub mod Turns
 pub mod Pages
 pub mod Shows
 pub mod Answer
+pub use Rattle.v8_board.specs.declared.outcome.Outcome
+pub use Rattle.sbx_raw.specs.Traces
+pub use Rattle.sbx_raw.specs.declared.fault.RunFault
