@@ -18,7 +18,7 @@ struct Run {
     status: u32,
 }
 
-const RUNS: [Run; 8] = [
+const RUNS: [Run; 9] = [
     Run {
         words: &[0x033C_0000, 0xC400_4000],
         end: End::Trapped(0x09),
@@ -60,6 +60,14 @@ const RUNS: [Run; 8] = [
         turns: 19,
         overflows: 1,
         status: 0x3B6,
+    },
+    // endless SAVEs with %sp in the code, which no store may change
+    Run {
+        words: &[0x1D00_0100, 0x1080_0000, 0x9DE3_A000],
+        end: End::ErrorMode(0x09),
+        turns: 19,
+        overflows: 1,
+        status: 0x3AA,
     },
     Run {
         words: &[0x1080_0000, NOP],
