@@ -4,6 +4,7 @@ mod Pieces
 mod Reading
 mod Parts
 mod Names
+mod Covered
 mod Whole
 mod Lengths
 mod Bare

@@ -23,6 +23,7 @@ use Rattle.v8_syntax.specs.Operands.{◌>>=◌}
 use Rattle.v8_syntax.specs.Statements.{first_of, instructions, named_meaning, set, source_meaning}
 use Rattle.v8_rereading.specs.Laws.{IsReadAs, ReadsEachTextBack}
 use Rattle.v8_rereading.proofs.Bytes.{is_name, name_front}
+use Rattle.v8_rereading.proofs.Covered.{has_form}
 use Rattle.v8_rereading.proofs.Hearing.{between, token_scanned}
 use Rattle.v8_rereading.proofs.Names.{Found, first_is, native_found}
 use Rattle.v8_rereading.proofs.Parts.{Operands, operands_told}
@@ -74,4 +75,4 @@ by_form i w (Some f) e some is =
 
 pub each_back : ReadsEachTextBack
 unfolding text_of
-each_back w h some = by_form (meaning w) (spelling (meaning w)) (native_of (spelling (meaning w))) refl some (meaning-spelling w h)
+each_back w h some = by_form (meaning w) (spelling (meaning w)) (native_of (spelling (meaning w))) refl (has_form w h some) (meaning-spelling w h)

@@ -1,8 +1,11 @@
 -- The text of an instruction is read as that instruction.
-use Rattle.std.specs.Prelude.{◌≡◌, ◌≢◌, ℕ, ◌^◌, ◌<◌, List, [], ◌∷◌, length, Option, None, Ok, Err, MatchResult}
+use Rattle.std.specs.Prelude.{◌≡◌, ℕ, ◌^◌, ◌<◌, List, [], ◌∷◌, length, Option, None, Ok, Err, MatchResult}
 use Rattle.sbx_text.specs.declared.Token.{Token}
 use Rattle.sbx_text.specs.Tokens.{tokens_of}
+use Rattle.v8_formats.specs.declared.instr.Place.{Place}
+use Rattle.v8_formats.specs.declared.instr.Place.TheVariants as places
 use Rattle.v8_formats.specs.declared.instr.Instr.{Instr}
+use Rattle.v8_formats.specs.declared.instr.Instr.TheVariants.{LoadAlternate, LoadUnsignedByteAlternate, LoadUnsignedHalfAlternate, LoadDoubleAlternate, LoadSignedByteAlternate, LoadSignedHalfAlternate, LoadStoreUnsignedByteAlternate, SwapAlternate, StoreAlternate, StoreByteAlternate, StoreHalfAlternate, StoreDoubleAlternate, FpOperate, CpOperate, FpMemory, CpMemory, FpBranch, CpBranch, Undefined}
 use Rattle.v8_formats.specs.Table.{meaning}
 use Rattle.v8_syntax.specs.declared.fault.SyntaxFault.{SyntaxFault}
 use Rattle.v8_syntax.specs.declared.fault.SyntaxFault.TheVariants.{UnknownMnemonic, Shape, Immediate, UnknownSymbol, Target}
@@ -10,9 +13,33 @@ use Rattle.v8_formats.specs.Spelling.{spelling}
 use Rattle.v8_forms.specs.Text.{native_of, text_of}
 use Rattle.v8_syntax.specs.Statements.{source_meaning, statement_length}
 
+-- an address in another space has a syntax where it is two registers (appendix A, "asi")
+abbrev pub IsPair : Place → Type 0
+IsPair (places.Register r asi) = Unit {0}
+IsPair (places.Immediate n) = ⊥
+
 -- the instruction has a mnemonic: its text is no bare `.word`
 abbrev pub HasSyntax : Instr → Type 0
-HasSyntax i = native_of (spelling i) ≢ None
+HasSyntax (LoadAlternate f) = IsPair f.place
+HasSyntax (LoadUnsignedByteAlternate f) = IsPair f.place
+HasSyntax (LoadUnsignedHalfAlternate f) = IsPair f.place
+HasSyntax (LoadDoubleAlternate f) = IsPair f.place
+HasSyntax (LoadSignedByteAlternate f) = IsPair f.place
+HasSyntax (LoadSignedHalfAlternate f) = IsPair f.place
+HasSyntax (LoadStoreUnsignedByteAlternate f) = IsPair f.place
+HasSyntax (SwapAlternate f) = IsPair f.place
+HasSyntax (StoreAlternate f) = IsPair f.place
+HasSyntax (StoreByteAlternate f) = IsPair f.place
+HasSyntax (StoreHalfAlternate f) = IsPair f.place
+HasSyntax (StoreDoubleAlternate f) = IsPair f.place
+HasSyntax (FpOperate w) = ⊥
+HasSyntax (CpOperate w) = ⊥
+HasSyntax (FpMemory w) = ⊥
+HasSyntax (CpMemory w) = ⊥
+HasSyntax (FpBranch w) = ⊥
+HasSyntax (CpBranch w) = ⊥
+HasSyntax (Undefined w) = ⊥
+HasSyntax _ = Unit {0}
 
 -- a line has tokens, and is a statement of this one instruction, whatever its names are worth and wherever it stands
 abbrev pub IsReadAs : List ℕ → Instr → Type 0
