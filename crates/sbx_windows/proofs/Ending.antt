@@ -23,7 +23,8 @@ use Rattle.sbx_shows.specs.Laws.{HasWindow, turns_of, windows_after}
 use Rattle.sbx_shows.specs.Shows.{Shows}
 use Rattle.sbx_shows.specs.Steps.{Stands}
 use Rattle.sbx_shows.proofs.Whole.{annulled_turns_keep, user_turns_keep}
-use Rattle.sbx_windows.specs.Runs.{Came, IsImage, RunsToItsEnd, stands}
+use Rattle.sbx_windows.specs.Runs.{Came, IsImage, RunsToItsEnd, stands, with_earlier}
+use Rattle.sbx_windows.proofs.Earlier.{earlier_wrong}
 use Rattle.sbx_windows.proofs.Induction.{Taken, ends_from}
 use Rattle.sbx_shows.proofs.Retries.{restores_underflow, saves_overflow}
 use Rattle.sbx_windows.proofs.Start.{boot, flat_start, is_flat_start, start_shows}
@@ -46,22 +47,22 @@ located : (words : List ℕ) (pc word : ℕ) → word_at words pc ≡ Some word 
 unfolding word_at
 located words pc word e = located_by words pc word (nat_le code_start pc && (pc % 4 == 0)) refl e
 
-module _ (n : ℕ) (parts : Parts) (input : List ℕ) (start : BoardState n) (image : IsImage parts) (safe : FlatSafe parts) (bytes : AreBytes input) (root : root_of start.mmu ≡ 0x2000) where
+module _ (n : ℕ) (parts : Parts) (input earlier : List ℕ) (start : BoardState n) (image : IsImage parts) (safe : FlatSafe parts) (bytes : AreBytes input) (root : root_of start.mmu ≡ 0x2000) where
   abbrev Next : World n Device → State → ℕ → Type 0
-  Next x s r = Taken n parts input start safe bytes image.budget_fits x s r
+  Next x s r = Taken n parts input earlier start safe bytes image.budget_fits x s r
 
   -- an operation that meets no window trap
-  calm : (x : World n Device) (s : State) (r i : ℕ) (op : Operation) → Stands n parts start.mmu x s r i → AsksFor parts.words i op → (IsWrong parts s → ⊥) → HasWindow n r op → Next x s r
+  calm : (x : World n Device) (s : State) (r i : ℕ) (op : Operation) → Stands n parts start.mmu x (with_earlier earlier s) r i → AsksFor parts.words i op → (IsWrong parts (with_earlier earlier s) → ⊥) → HasWindow n r op → Next x s r
   calm x s r i op h is good has =
-      record { count = turns_of op; overflows = 0; underflows = 0; windows = windows_after op r; few = (omega arith, omega arith); advances = user_turns_keep n parts start.mmu x s r i op h is good has }
+      record { count = turns_of op; overflows = 0; underflows = 0; windows = windows_after op r; few = (omega arith, omega arith); advances = user_turns_keep n parts start.mmu x (with_earlier earlier s) r i op h is good has }
 
-  by_operation : (x : World n Device) (s : State) (r i : ℕ) (op : Operation) → Stands n parts start.mmu x s r i → AsksFor parts.words i op → (IsWrong parts s → ⊥) → Next x s r
+  by_operation : (x : World n Device) (s : State) (r i : ℕ) (op : Operation) → Stands n parts start.mmu x (with_earlier earlier s) r i → AsksFor parts.words i op → (IsWrong parts (with_earlier earlier s) → ⊥) → Next x s r
   by_operation x s r i (Save f) h is good =
       let most = h.shows.calls.most in
       let split : (r + 1 < n) ⊎ (r + 1 ≡ n) = search arith in
       elim split [
         | inl free ↦ calm x s r i (Save f) h is good free
-        | inr full ↦ record { count = 25; overflows = 1; underflows = 0; windows = r; few = (omega arith, omega arith); advances = (saves_overflow n parts start.mmu x s r i f h is good full).2 }
+        | inr full ↦ record { count = 25; overflows = 1; underflows = 0; windows = r; few = (omega arith, omega arith); advances = (saves_overflow n parts start.mmu x (with_earlier earlier s) r i f h is good full).2 }
       ]
   by_operation x s r i (Restore f) h is good =
       let some = h.shows.calls.some in
@@ -69,38 +70,39 @@ module _ (n : ℕ) (parts : Parts) (input : List ℕ) (start : BoardState n) (im
       elim split [
         | inl more ↦ calm x s r i (Restore f) h is good more
         | inr last ↦
-            let one = subst (λ q. Stands n parts start.mmu x s q i) (sym last) h in
-            subst (Next x s) last (record { count = 25; overflows = 0; underflows = 1; windows = 1; few = (omega arith, omega arith); advances = (restores_underflow n parts start.mmu x s i f one is good).2 })
+            let one = subst (λ q. Stands n parts start.mmu x (with_earlier earlier s) q i) (sym last) h in
+            subst (Next x s) last (record { count = 25; overflows = 0; underflows = 1; windows = 1; few = (omega arith, omega arith); advances = (restores_underflow n parts start.mmu x (with_earlier earlier s) i f one is good).2 })
       ]
   by_operation x s r i op h is good = calm x s r i op h is good tt
 
-  advance : (x : World n Device) (s : State) (r : ℕ) (way : List Place) → FlatRun parts input way s → Shows n parts x s r → Next x s r
+  advance : (x : World n Device) (s : State) (r : ℕ) (way : List Place) → FlatRun parts input way s → Shows n parts x (with_earlier earlier s) r → Next x s r
   unfolding turn
   advance x s r way run h = by_annul s.annulled refl
     where
-      good : IsWrong parts s → ⊥
-      good = (safe input bytes).3.never_wrong way s run
+      good : IsWrong parts (with_earlier earlier s) → ⊥
+      good wrong = (safe input bytes).3.never_wrong way s run (earlier_wrong earlier parts s wrong)
 
       by_word : s.annulled ≡ false → (o : Option ℕ) → word_at parts.words s.pc ≡ o → Next x s r
       by_word straight None e =
-          absurd (good (still, still_is_fresh, OutsideCode, ap (λ o. goes_on parts still s o s.annulled) h.going ∙ ap (goes_on parts still s None) straight ∙ ap (λ o. fetches parts still o s) e))
+          absurd (good (still, still_is_fresh, OutsideCode, ap (λ o. goes_on parts still (with_earlier earlier s) o s.annulled) h.going ∙ ap (goes_on parts still (with_earlier earlier s) None) straight ∙ ap (λ o. fetches parts still o (with_earlier earlier s)) e))
       by_word straight (Some word) e =
           let l = located parts.words s.pc word e in
-          let here : Stands n parts start.mmu x s r l.index = record { fits = image.fits; root = root; shows = h; straight = straight; place = l.place; within = l.within } in
+          let here : Stands n parts start.mmu x (with_earlier earlier s) r l.index = record { fits = image.fits; root = root; shows = h; straight = straight; place = l.place; within = l.within } in
           by_operation x s r l.index (asked (slice_index parts.words l.index)) here refl good
 
       by_annul : (t : Bool) → s.annulled ≡ t → Next x s r
-      by_annul true e = record { count = 1; overflows = 0; underflows = 0; windows = r; few = (omega arith, omega arith); advances = annulled_turns_keep n parts start.mmu x s r h e }
+      by_annul true e = record { count = 1; overflows = 0; underflows = 0; windows = r; few = (omega arith, omega arith); advances = annulled_turns_keep n parts start.mmu x (with_earlier earlier s) r h e }
       by_annul false e = by_word e (word_at parts.words s.pc) refl
 
 -- From any board that has been loaded.
 pub runs_to_its_end : RunsToItsEnd
 runs_to_its_end n parts input made start image safe bytes any loaded =
+    let earlier = made.world.memory.device.output in
     let s = flat_start parts input (boot n made.world.cpu.regs) made.world.cpu.control.y in
     let shown = start_shows n parts input made start image bytes any loaded in
     let flat = is_flat_start n parts input made any in
     let mmu : root_of start.mmu ≡ 0x2000 = ap root_of loaded.mmu ∙ any.state.root in
-    let came : Came n parts input start start.world s 1 = record {
+    let came : Came n parts input earlier start start.world s 1 = record {
       path = [];
       run = (s, flat, refl);
       turns = 0;
@@ -112,4 +114,4 @@ runs_to_its_end n parts input made start image safe bytes any loaded =
       going = λ j less. absurd (omega arith);
       each = λ j less. absurd (omega arith);
     } in
-    ends_from n parts input start safe bytes image.budget_fits (advance n parts input start image safe bytes mmu) (suc (budget parts)) start.world s 1 came shown (omega arith)
+    ends_from n parts input earlier start safe bytes image.budget_fits (advance n parts input earlier start image safe bytes mmu) (suc (budget parts)) start.world s 1 came shown (omega arith)

@@ -24,9 +24,11 @@ use Rattle.sbx_flat.specs.declared.path.Traffic.{Traffic}
 use Rattle.sbx_flat.proofs.Turns.{weighs_some}
 use Rattle.sbx_shows.specs.Advances.{Advances, IsMoment, counts_by, so_many}
 use Rattle.sbx_shows.specs.Shows.{Shows}
+use Rattle.sbx_shows.specs.Steps.{Over}
 use Rattle.sbx_shows.specs.Turns.{IsOwnTurn}
 use Rattle.sbx_shows.proofs.Traffics.{traffic_more}
-use Rattle.sbx_windows.specs.Runs.{Came, Finishes, stands}
+use Rattle.sbx_windows.specs.Runs.{Came, Finishes, stands, with_earlier}
+use Rattle.sbx_windows.proofs.Earlier.{earlier_place, earlier_step}
 
 -- ---- turns of a world as turns of a board that counts them
 
@@ -77,30 +79,37 @@ weight_more : (parts : Parts) (path : List Place) (p : Place) → weight parts (
 weight_more parts [] p = omega arith
 weight_more parts (q ∷ path) p = let i = weight_more parts path p in omega arith
 
-module _ (n : ℕ) (parts : Parts) (input : List ℕ) (start : BoardState n) (safe : FlatSafe parts) (bytes : AreBytes input) (bound : budget parts < 2 ^ 64) where
-  -- a step with its counts
+module _ (n : ℕ) (parts : Parts) (input earlier : List ℕ) (start : BoardState n) (safe : FlatSafe parts) (bytes : AreBytes input) (bound : budget parts < 2 ^ 64) where
+  -- a step with its counts, of the state with the earlier output
   pub record Taken (x : World n Device) (s : State) (r : ℕ) : Type 0 where
     pub count : ℕ
     pub overflows : ℕ
     pub underflows : ℕ
     pub windows : ℕ
     pub few : (overflows ≤ count) × (underflows ≤ count)
-    pub advances : Advances n parts start.mmu x s r count overflows underflows windows
+    pub advances : Advances n parts start.mmu x (with_earlier earlier s) r count overflows underflows windows
 
   within : (path : List Place) (s : State) → FlatRun parts input path s → weight parts path ≤ budget parts
   within path s run = (safe input bytes).3.within_budget path s run
 
-  came_more : (x : World n Device) (s : State) (r : ℕ) (c : Came n parts input start x s r) (t : Taken x s r) → Came n parts input start (after board n start.mmu t.count x) t.advances.next_state t.windows
+  -- the flat step without the earlier output
+  abbrev flat_next : (x : World n Device) (s : State) (r : ℕ) (t : Taken x s r) → (to : State) × Step parts s to × (t.advances.next_state ≡ with_earlier earlier to)
+  flat_next x s r t = earlier_step earlier parts s t.advances.next_state t.advances.step
+
+  came_more : (x : World n Device) (s : State) (r : ℕ) (c : Came n parts input earlier start x s r) (t : Taken x s r) → Came n parts input earlier start (after board n start.mmu t.count x) (flat_next x s r t).0 t.windows
   came_more x s r c t =
       let a = t.advances in
       let place = place_of parts s in
       let path = c.path ++ place ∷ [] in
-      let run : FlatRun parts input path a.next_state = (c.run.0, c.run.1, run_more parts c.run.0 s a.next_state c.path c.run.2 a.step) in
-      let top = within path a.next_state run in
+      let to = flat_next x s r t in
+      let run : FlatRun parts input path to.0 = (c.run.0, c.run.1, run_more parts c.run.0 s to.0 c.path c.run.2 to.1) in
+      let top = within path to.0 run in
+      let taken : after_place parts n place (so_many r c.overflows c.underflows c.turns) ≡ so_many t.windows (c.overflows + t.overflows) (c.underflows + t.underflows) (c.turns + t.count) =
+      ap (λ p. after_place parts n p (so_many r c.overflows c.underflows c.turns)) (sym (earlier_place earlier parts s)) ∙ a.traffic c.overflows c.underflows c.turns in
       let heavier = weight_more parts c.path place in
       let traffic_now : traffic parts n path ≡ so_many t.windows (c.overflows + t.overflows) (c.underflows + t.underflows) (c.turns + t.count) =
-      traffic_more parts n c.path place ∙ ap (after_place parts n place) c.traffic_is ∙ a.traffic c.overflows c.underflows c.turns in
-      let turns_at : (after_place parts n place (so_many r c.overflows c.underflows c.turns)).turns ≡ c.turns + t.count = ap (λ (f : Traffic). f.turns) (a.traffic c.overflows c.underflows c.turns) in
+      traffic_more parts n c.path place ∙ ap (after_place parts n place) c.traffic_is ∙ taken in
+      let turns_at : (after_place parts n place (so_many r c.overflows c.underflows c.turns)).turns ≡ c.turns + t.count = ap (λ (f : Traffic). f.turns) taken in
       let no_more = place_turns parts n place (so_many r c.overflows c.underflows c.turns) in
       let a_few = t.few.0 in
       let b_few = t.few.1 in
@@ -142,14 +151,14 @@ module _ (n : ℕ) (parts : Parts) (input : List ℕ) (start : BoardState n) (sa
                     way = c.path;
                     state = s;
                     run = c.run;
-                    moment = subst (λ (b : BoardState n). IsMoment n parts b.world s) (sym here) (a.moments i (omega arith));
+                    moment = subst (λ (b : BoardState n). IsMoment n parts b.world (with_earlier earlier s)) (sym here) (a.moments i (omega arith));
                     own = subst (IsOwnTurn parts s.registers) (sym same) (a.own i (omega arith));
                   }
             ];
       }
 
-  pub ends_from : ((x : World n Device) (s : State) (r : ℕ) (way : List Place) → FlatRun parts input way s → Shows n parts x s r → Taken x s r) →
-      (fuel : ℕ) (x : World n Device) (s : State) (r : ℕ) (c : Came n parts input start x s r) → Shows n parts x s r → budget parts < weight parts c.path + fuel → Finishes n parts input start
+  pub ends_from : ((x : World n Device) (s : State) (r : ℕ) (way : List Place) → FlatRun parts input way s → Shows n parts x (with_earlier earlier s) r → Taken x s r) →
+      (fuel : ℕ) (x : World n Device) (s : State) (r : ℕ) (c : Came n parts input earlier start x s r) → Shows n parts x (with_earlier earlier s) r → budget parts < weight parts c.path + fuel → Finishes n parts input earlier start
   unfolding came_more
   ends_from advance zero x s r c h enough = let top = within c.path s c.run in absurd (omega arith)
   ends_from advance (suc fuel) x s r c h enough =
@@ -157,7 +166,9 @@ module _ (n : ℕ) (parts : Parts) (input : List ℕ) (start : BoardState n) (sa
       let now = came_more x s r c t in
       let heavier = weight_more parts c.path (place_of parts s) in
       let some = weighs_some parts (place_of parts s) in
+      let to = flat_next x s r t in
+      let end_world = after board n start.mmu t.count x in
       elim t.advances.ends [
-        | inl on ↦ ends_from advance fuel (after board n start.mmu t.count x) t.advances.next_state t.windows now on (omega arith)
-        | inr end ↦ record { last = after board n start.mmu t.count x; state = t.advances.next_state; windows = t.windows; status = end.0; came = now; over = end.1 }
+        | inl on ↦ ends_from advance fuel end_world to.0 t.windows now (subst (λ (q : State). Shows n parts end_world q t.windows) to.2 on) (omega arith)
+        | inr end ↦ record { last = end_world; state = to.0; windows = t.windows; status = end.0; came = now; over = subst (λ (q : State). Over n parts end_world q end.0) to.2 end.1 }
       ]

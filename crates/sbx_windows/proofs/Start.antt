@@ -5,6 +5,7 @@ use Rattle.std.proofs.lemmas.Bool.Decides.{nat_tests}
 use Rattle.std.proofs.lemmas.Option.{slice_get_within, get_or_from_slice_get}
 use Rattle.std.proofs.Math.Nat.{mod-eq_of_lt}
 use Rattle.std.proofs.Math.Pow.{pow_mono}
+use Rattle.std.proofs.lemmas.List.{append-nil}
 use Rattle.v8_mmu.specs.Ram.{entry_of}
 use Rattle.v8_mmu.proofs.RamLemmas.{entry_is}
 use Rattle.v8_windows.specs.Windows.{Windows, IsFile, with_reg, word_at}
@@ -28,7 +29,7 @@ use Rattle.sbx_shows.proofs.Files.{file_written}
 use Rattle.sbx_shows.proofs.Pages.{placed_own}
 use Rattle.sbx_shows.proofs.Stacks.{stack_count}
 use Rattle.sbx_shows.proofs.Writing.{mask_kept}
-use Rattle.sbx_windows.specs.Runs.{IsAnyBoard, IsImage}
+use Rattle.sbx_windows.specs.Runs.{IsAnyBoard, IsImage, with_earlier}
 
 -- the registers that booting leaves
 abbrev pub boot : ℕ → Windows → Windows
@@ -159,12 +160,13 @@ stack_start n parts old new placed size bytes p w above there =
     subst (λ v. v < 2 ^ 32) (sym is) (word_fits old p bytes)
 
 pub start_shows : (n : ℕ) (parts : Parts) (input : List ℕ) (made start : BoardState n) → IsImage parts → AreBytes input → IsAnyBoard n input made → IsStart n parts made start →
-    Shows n parts start.world (flat_start parts input (boot n made.world.cpu.regs) made.world.cpu.control.y) 1
+    Shows n parts start.world (with_earlier made.world.memory.device.output (flat_start parts input (boot n made.world.cpu.regs) made.world.cpu.control.y)) 1
 unfolding booted
 start_shows n parts input made start image bytes any loaded =
     let v = boot n made.world.cpu.regs in
     let y = made.world.cpu.control.y in
-    let s = flat_start parts input v y in
+    let earlier = made.world.memory.device.output in
+    let s = with_earlier earlier (flat_start parts input v y) in
     let count = stack_count parts image.fits in
     let pages = image.stack in
     let ram = start.world.memory.ram in
@@ -180,7 +182,7 @@ start_shows n parts input made start image bytes any loaded =
       stack = stack_start n parts made.world.memory.ram ram loaded.ram any.state.size any.state.bytes;
       bytes = data_start_shows parts ram image.fits image.bytes loaded.ram.bytes;
       control = record { pc = refl; npc = refl; npc_word = omega arith; npc_whole = refl; annul = refl; icc = refl; y = refl; y_word = any.y; user = refl; traps = refl; sane = refl; table = refl };
-      device = record { running = refl; input = any.input_is; ended = λ e. absurd (cc); bytes = bytes; output = any.output_is };
+      device = record { running = refl; input = any.input_is; ended = λ e. absurd (cc); bytes = bytes; output = sym (append-nil earlier) };
       going = refl;
       loaded = placed_loaded n parts made.world.memory.ram ram loaded.ram;
       marks = placed_own n parts made.world.memory.ram ram loaded.ram;

@@ -1,5 +1,5 @@
 -- The second law: what a run of a safe image is on a board with any count of windows, moment by moment and at its end.
-use Rattle.std.specs.Prelude.{ℕ, ◌≡◌, ◌^◌, ◌<◌, ◌≤◌, List, [], None, slice_index}
+use Rattle.std.specs.Prelude.{ℕ, ◌≡◌, ◌^◌, ◌<◌, ◌≤◌, List, ◌++◌, None, slice_index}
 use Rattle.v8_mmu.specs.declared.translation.MmuRegs.{MmuRegs}
 use Rattle.v8_core.specs.Accesses.{World}
 use Rattle.v8_memory.specs.Board.{Device}
@@ -22,17 +22,21 @@ use Rattle.sbx_shows.specs.Turns.{IsOwnTurn}
 abbrev pub stands : (n : ℕ) → World n Device → MmuRegs → Counts → BoardState n
 stands n w mmu c = record { world = w; mmu = mmu; counts = c }
 
+-- the state with what the board's port had put out earlier, before its own output
+abbrev pub with_earlier : List ℕ → State → State
+with_earlier earlier s = record s { output = earlier ++ s.output }
+
 -- A turn, and the moment before it, beside a state of a flat run: outside the vectors and handlers the flat state is shown, and the
 -- turn is one that the image may make there.
-pub record IsTurnBeside (n : ℕ) (parts : Parts) (input : List ℕ) (before : BoardState n) : Type 0 where
+pub record IsTurnBeside (n : ℕ) (parts : Parts) (input earlier : List ℕ) (before : BoardState n) : Type 0 where
   pub way : List Place
   pub state : State
   pub run : FlatRun parts input way state
-  pub moment : IsMoment n parts before.world state
+  pub moment : IsMoment n parts before.world (with_earlier earlier state)
   pub own : IsOwnTurn parts state.registers (turned n before).0
 
 -- The board came here from its start beside a flat run, in as many turns, overflows and underflows as the traffic of its path has.
-pub record Came (n : ℕ) (parts : Parts) (input : List ℕ) (start : BoardState n) (x : World n Device) (s : State) (r : ℕ) : Type 0 where
+pub record Came (n : ℕ) (parts : Parts) (input earlier : List ℕ) (start : BoardState n) (x : World n Device) (s : State) (r : ℕ) : Type 0 where
   pub path : List Place
   pub run : FlatRun parts input path s
   pub turns : ℕ
@@ -42,23 +46,22 @@ pub record Came (n : ℕ) (parts : Parts) (input : List ℕ) (start : BoardState
   pub few : (overflows ≤ turns) × (underflows ≤ turns) × (turns ≤ weight parts path)
   pub board_stands : board_after n turns start ≡ stands n x start.mmu (record { turns = turns; overflows = overflows; underflows = underflows })
   pub going : (j : ℕ) → j < turns → ending_of n (board_after n j start).world ≡ None
-  pub each : (j : ℕ) → j < turns → IsTurnBeside n parts input (board_after n j start)
+  pub each : (j : ℕ) → j < turns → IsTurnBeside n parts input earlier (board_after n j start)
 
--- Both have ended with the same exit word and output.
-pub record Finishes (n : ℕ) (parts : Parts) (input : List ℕ) (start : BoardState n) : Type 0 where
+-- Both have ended with the same exit word; what the board put out after its earlier output is the flat run's.
+pub record Finishes (n : ℕ) (parts : Parts) (input earlier : List ℕ) (start : BoardState n) : Type 0 where
   pub last : World n Device
   pub state : State
   pub windows : ℕ
   pub status : ℕ
-  pub came : Came n parts input start last state windows
-  pub over : Over n parts last state status
+  pub came : Came n parts input earlier start last state windows
+  pub over : Over n parts last (with_earlier earlier state) status
 
 -- Any board before it is loaded: its registers, Y and RAM hold any words, and its port has this input.
 pub record IsAnyBoard (n : ℕ) (input : List ℕ) (made : BoardState n) : Type 0 where
   pub state : IsState n made.mmu made.world
   pub y : made.world.cpu.control.y < 2 ^ 32
   pub input_is : made.world.memory.device.input ≡ input
-  pub output_is : made.world.memory.device.output ≡ []
 
 -- the limits of every image
 pub record IsImage (parts : Parts) : Type 0 where
@@ -70,4 +73,4 @@ pub record IsImage (parts : Parts) : Type 0 where
 abbrev pub RunsToItsEnd : Type 0
 RunsToItsEnd =
     (n : ℕ) (parts : Parts) (input : List ℕ) (made start : BoardState n) →
-    IsImage parts → FlatSafe parts → AreBytes input → IsAnyBoard n input made → IsStart n parts made start → Finishes n parts input start
+    IsImage parts → FlatSafe parts → AreBytes input → IsAnyBoard n input made → IsStart n parts made start → Finishes n parts input made.world.memory.device.output start

@@ -149,7 +149,7 @@ stored_answers : (bound was : ℕ) (o : Option (List ℕ × Device)) → was < b
 stored_answers bound was None small l = tt
 stored_answers bound was (Some x) small l = (small, l)
 
-exchanged_answers : (ram : List ℕ) (d : Device) (pa : ℕ) (size : Size) (v : ℕ) (o : Option (ℕ × Device)) → v < limit_of size → AreHeld ram d → IfSome o (Gives (limit_of size)) → IfSome (exchanged_after board ram pa size v o) (Answers (limit_of size))
+exchanged_answers : (ram : List ℕ) (d : Device) (pa : ℕ) (size : Size) (v : ℕ) (o : Option (ℕ × Device)) → v < limit_of size → AreHeld ram d → IfSome o (Gives (limit_of size)) → IfSome (exchanged_after board_store ram pa size v o) (Answers (limit_of size))
 exchanged_answers ram d pa size v None small h g = tt
 exchanged_answers ram d pa size v (Some x) small h g =
     stored_answers (limit_of size) x.0 (board_store ram x.1 pa size v) g.0 (store_leaves ram x.1 pa size v small (record { size = h.size; bytes = h.bytes; input = g.1 }))
