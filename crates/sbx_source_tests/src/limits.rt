@@ -5,60 +5,37 @@ use std::alloc::{AllocError, Global};
 use std::process::Abort;
 use std::test::Fail;
 
+/// The line of a function.
+const HEAD: &str = ".function f,leaf,0,0,1\n";
+
+/// The line of a function, and a word of it.
+const ONE_WORD: &str = ".function f,leaf,0,0,1\n nop\n";
+
 /// The first line and the rest of a source, how often it stands, and the fault: once less it has none. The first
 /// source has some 2.8 MB.
-static LIMITS: [(&str, &str, &str, usize, &str); 7] = [
-    (
-        ".function f,leaf,0,0,1\n",
-        " nop ! one of many words, all alike: ",
-        "",
-        65536,
-        "line 65538: A3",
-    ),
+type Row = (
+    &'static str,
+    &'static str,
+    &'static str,
+    usize,
+    &'static str,
+);
+
+/// A line of some forty bytes but for its number.
+const WORD: &str = " nop ! one of many words, all alike: ";
+
+static LIMITS: [Row; 7] = [
+    (HEAD, WORD, "", 65536, "line 65538: A3"),
     ("", ".function f", ",leaf,0,0,1\n nop", 257, "line 513: A3"),
-    (
-        ".function f,leaf,0,0,1\n nop\n",
-        ".block b",
-        "\n nop",
-        4096,
-        "line 8193: A3",
-    ),
-    (
-        ".function f,leaf,0,0,1\n",
-        ".cell slot ",
-        ",0,0,0",
-        65,
-        "line 66: A3",
-    ),
-    (
-        ".function f,leaf,0,0,1\n",
-        ".term slot ",
-        ",1",
-        9,
-        "line 10: A3",
-    ),
-    (
-        ".function f,leaf,0,0,1\n",
-        ".param 0,",
-        ",0",
-        7,
-        "line 8: A3",
-    ),
-    (
-        ".function f,leaf,0,0,1\n",
-        ".result 0,",
-        ",0",
-        7,
-        "line 8: A3",
-    ),
+    (ONE_WORD, ".block b", "\n nop", 4096, "line 8193: A3"),
+    (HEAD, ".cell slot ", ",0,0,0", 65, "line 66: A3"),
+    (HEAD, ".term slot ", ",1", 9, "line 10: A3"),
+    (HEAD, ".param 0,", ",0", 7, "line 8: A3"),
+    (HEAD, ".result 0,", ",0", 7, "line 8: A3"),
 ];
 
 /// A source of a first line, some lines that end by their number, and an instruction.
-fn source_of(
-    alloc: Global,
-    row: &(&str, &str, &str, usize, &str),
-    count: usize,
-) -> Result<String, AllocError> {
+fn source_of(alloc: Global, row: &Row, count: usize) -> Result<String, AllocError> {
     let (first, head, tail, _, _) = *row;
     let mut text = String::from_str(alloc, first)?;
     for number in 0..count {
@@ -69,21 +46,13 @@ fn source_of(
 }
 
 /// A source with one too many gives the fault.
-fn is_refused<R: Abort>(
-    rt: &R,
-    alloc: Global,
-    row: &(&str, &str, &str, usize, &str),
-) -> Result<(), AllocError> {
+fn is_refused<R: Abort>(rt: &R, alloc: Global, row: &Row) -> Result<(), AllocError> {
     let source = source_of(alloc, row, row.3)?;
     gives(rt, alloc, source.as_bytes(), row.4)
 }
 
 /// With one less it gives none.
-fn is_accepted<R: Abort>(
-    rt: &R,
-    alloc: Global,
-    row: &(&str, &str, &str, usize, &str),
-) -> Result<(), AllocError> {
+fn is_accepted<R: Abort>(rt: &R, alloc: Global, row: &Row) -> Result<(), AllocError> {
     let source = source_of(alloc, row, row.3.saturating_sub(1))?;
     assert!(rt; assemble(alloc, source.as_bytes()).is_ok(), "{}", row.1);
     Ok(())
