@@ -17,7 +17,8 @@ use Rattle.v8_memory.specs.Board.{Device}
 use Rattle.v8_loaded.proofs.Frames.{word_fits}
 use Rattle.v8_board.specs.Seen.{State as BoardState}
 use Rattle.v8_board.specs.Start.{IsPlaced, IsStart, at_most, pages_of}
-use Rattle.v8_board.proofs.Placed.{placed_loaded, word_kept}
+use Rattle.v8_board.proofs.Placed.{placed_loaded}
+use Rattle.v8_contained.proofs.Stays.{word_kept}
 use Rattle.sbx_image.specs.Rules.{code_start}
 use Rattle.sbx_image.specs.declared.parts.Parts.{Parts}
 use Rattle.sbx_flat.specs.Registers.{Registers}
