@@ -6,11 +6,11 @@ ghost use Rattle.sbx_command.specs.Verdicts.{IsImage};
 use crate::images::image_in;
 use crate::stops::Stop;
 use arrayvec::ArrayString;
-use sbx_image::CODE_START;
 use std::alloc::Global;
 use std::io::{Read, Write};
 use v8_formats::decode;
 use v8_forms::print_instr;
+use v8_map::CODE_START;
 
 /// Writes address, word and text of each word of code, a line each.
 fn list_words<O: Write>(words: &[u32], out: &mut O) -> Result<(), Stop>

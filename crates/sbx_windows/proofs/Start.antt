@@ -173,7 +173,7 @@ start_shows n parts input made start image bytes any loaded =
     let ram = start.world.memory.ram in
     let d : Device = record made.world.memory.device { ended = false; stopped = None } in
     let cpu : Cpu n = record { regs = v; control = started_with y } in
-    let file = any.state.file in
+    let file = any.state.cpu.file in
     let shown : Shows n parts (world n cpu ram d) s 1 = record {
       file = boot_file n made.world.cpu.regs file;
       calls = calls_start n made.world.cpu.regs file;
@@ -194,7 +194,7 @@ start_shows n parts input made start image bytes any loaded =
 pub is_flat_start : (n : ℕ) (parts : Parts) (input : List ℕ) (made : BoardState n) → IsAnyBoard n input made → IsFlatStart parts input (flat_start parts input (boot n made.world.cpu.regs) made.world.cpu.control.y)
 is_flat_start n parts input made any =
     let v = boot n made.world.cpu.regs in
-    let f = boot_file n made.world.cpu.regs any.state.file in
+    let f = boot_file n made.world.cpu.regs any.state.cpu.file in
     record {
       pc = refl;
       npc = refl;
@@ -202,7 +202,7 @@ is_flat_start n parts input made any =
       icc = refl;
       y = any.y;
       one_frame = refl;
-      base = start_base n made.world.cpu.regs any.state.file;
+      base = start_base n made.world.cpu.regs any.state.cpu.file;
       slots = λ a. refl;
       globals = λ q. f.globals.fit q;
       locals = λ q. f.rows.fit 0 (q - 8);
