@@ -4,5 +4,6 @@ pub mod TakesLaws
 pub mod Limits
 pub mod Appends
 pub mod Eaches
+pub mod Every
 pub mod AgainLaws
 pub mod Ordered

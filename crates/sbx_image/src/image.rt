@@ -1,8 +1,9 @@
 //! Parts that keep every limit and order of the format.
 ghost use Rattle.std.specs.Prelude.{◌≡◌, ◌≤◌, length, Ok, All};
-ghost use Rattle.sbx_image.specs.Spelling.{IsCountedFunction};
+ghost use Rattle.sbx_image.specs.Spelling.{IsCountedFunction, IsTyped};
 ghost use Rattle.sbx_image.specs.Rules.{parts_keep};
 
+use crate::widths::parts_fit;
 use crate::parts::{Function, Parts};
 use crate::services::Services;
 use std::marker::Model;
@@ -96,6 +97,15 @@ impl Image {
         ensures counted { All IsCountedFunction self.now.functions }
     {
         self.parts.functions.as_slice()
+    }
+
+    /// Each limit and order of the format holds, and each number is one that its field can hold. It changes nothing, and takes
+    /// time in proportion to the image.
+    pub fn keeps_its_format(&self)
+        ensures kept { parts_keep self.now ≡ Ok tt }
+        ensures typed { IsTyped self.now }
+    {
+        parts_fit(&self.parts);
     }
 
     /// The parts, without taking memory.

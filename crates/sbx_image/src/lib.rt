@@ -12,6 +12,7 @@ mod order;
 mod parts;
 mod reading;
 mod services;
+mod widths;
 mod writing;
 
 pub use fault::ImageFault;
