@@ -8,6 +8,7 @@ use Rattle.v8_core.specs.declared.turn.DataAccess.{DataAccess}
 use Rattle.v8_core.specs.declared.turn.Event.TheVariants.{Ran}
 use Rattle.v8_core.specs.Accesses.{World}
 use Rattle.v8_core.specs.Steps.{next, turn_of}
+use Rattle.v8_map.specs.declared.TheConstants.{CODE_START, CONTEXT_TABLE}
 use Rattle.v8_memory.specs.Board.{Device, board}
 use Rattle.sbx_image.specs.declared.parts.Parts.{Parts}
 use Rattle.sbx_flat.specs.Effects.{does}
@@ -20,10 +21,10 @@ use Rattle.sbx_shows.specs.Turns.{ReachesData}
 -- The board shows the flat state, which stands at the code word i; r calls have windows.
 pub record Stands (n : ℕ) (parts : Parts) (mmu : MmuRegs) (x : World n Device) (s : State) (r i : ℕ) : Type 0 where
   pub fits : Fits parts
-  pub root : root_of mmu ≡ 0x2000
+  pub root : root_of mmu ≡ CONTEXT_TABLE
   pub shows : Shows n parts x s r
   pub straight : s.annulled ≡ false
-  pub place : s.pc ≡ 0x40000 + 4 * i
+  pub place : s.pc ≡ CODE_START + 4 * i
   pub within : i < length parts.words
 
 -- One turn of the board, and a step of the flat machine by the same operation, for some fresh words; then so many calls have windows.

@@ -17,12 +17,10 @@ use sbx_image::Image;
 use std::alloc::{AllocError, Global};
 use std::marker::Model;
 use v8_core::{Machine, Turn};
+use v8_map::CONTEXT_TABLE;
 use v8_memory::{Memory, Port};
 use v8_mmu::{Bus, MmuRegs, PortFault, Stop};
 use v8_word::Reg;
-
-/// Where the context table lies.
-const CONTEXTS: u64 = 0x2000;
 
 /// A machine of `N` register windows, 4 to 32, with RAM of 1 MiB and a device over a port.
 #[derive(Drop)]
@@ -35,6 +33,7 @@ impl<const N: usize, P: Port> Model for Board<N, P> {
     ghost use Rattle.std.specs.Prelude.{◌≡◌, ℕ, ◌≤◌};
     ghost use Rattle.v8_core.specs.Accesses.{world};
     ghost use Rattle.v8_mmu.specs.Walked.{root_of};
+    ghost use Rattle.v8_map.specs.declared.TheConstants.{CONTEXT_TABLE};
     ghost use Rattle.v8_memory.specs.Board.{seen};
     ghost use Rattle.v8_board.specs.Seen.{Seen};
 
@@ -51,7 +50,7 @@ impl<const N: usize, P: Port> Model for Board<N, P> {
       fault = P.fault b.machine.bus.port;
     } };
 
-    ghost invariant = { λ b. (4 ≤ N) × (N ≤ 32) × (root_of b.machine.mmu ≡ 0x2000) };
+    ghost invariant = { λ b. (4 ≤ N) × (N ≤ 32) × (root_of b.machine.mmu ≡ CONTEXT_TABLE) };
 }
 
 impl<const N: usize, P: Port> Board<N, P> {
@@ -77,7 +76,7 @@ impl<const N: usize, P: Port> Board<N, P> {
                 machine: Machine::new(
                     memory,
                     MmuRegs {
-                        table: CONTEXTS,
+                        table: CONTEXT_TABLE as u64,
                         context: 0,
                     },
                 ),
