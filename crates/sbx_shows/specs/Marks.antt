@@ -1,9 +1,9 @@
 -- The pages that an image calls its own, and the marks of RAM.
 use Rattle.std.specs.Prelude.{ℕ, ◌≡◌, ◌+◌, ◌*◌, ◌/◌, ◌<◌, Bool, ◌||◌, true, List}
-use Rattle.v8_mmu.specs.Ram.{entry_of}
+use Rattle.v8_core.specs.Ram.{entry_of}
 use Rattle.v8_map.specs.declared.TheConstants.{PAGE, CODE_START, CODE_TABLE}
 use Rattle.v8_board.specs.Marks.{bit_of}
-use Rattle.sbx_image.specs.declared.parts.Parts.{Parts}
+use Rattle.sbx_flat.specs.Parts.{Parts}
 use Rattle.sbx_flat.specs.Traffic.{is_own_code_page, is_own_data_page}
 
 abbrev pub is_own_page : Parts → ℕ → Bool

@@ -1,16 +1,16 @@
 -- What a board with n windows shows of the flat machine, r of whose calls have windows of their own.
 use Rattle.std.specs.Prelude.{ℕ, suc, ◌≡◌, ◌+◌, ◌*◌, ◌-◌, ◌%◌, ◌^◌, ◌<◌, ◌≤◌, true, false, List, [], length, slice_index, Some, None}
-use Rattle.v8_mmu.specs.Ram.{entry_of}
-use Rattle.v8_windows.specs.Windows.{Windows, IsFile, word_at}
-use Rattle.v8_state.specs.declared.state.Control.{Control}
+use Rattle.v8_core.specs.Ram.{entry_of}
+use Rattle.v8_core.specs.Windows.{Windows, IsFile, word_at}
+use Rattle.v8_core.specs.Control.{Control}
 use Rattle.v8_core.specs.Accesses.{World}
 use Rattle.v8_map.specs.declared.TheConstants.{PAGE, DATA_START, DATA_END, DATA_PLACE, STACK_END, STACK_PLACE, TRAP_TABLE}
-use Rattle.v8_layout.specs.Layout.{IsLoaded}
-use Rattle.v8_layout.specs.AddressMap.{lowered}
-use Rattle.v8_memory.specs.Board.{Device}
+use Rattle.v8_loaded.specs.Layout.{IsLoaded}
+use Rattle.v8_loaded.specs.AddressMap.{lowered}
+use Rattle.v8_loaded.specs.Board.{Device}
 use Rattle.v8_loaded.specs.Areas.{area_of}
 use Rattle.v8_board.specs.Start.{pages_of}
-use Rattle.sbx_image.specs.declared.parts.Parts.{Parts}
+use Rattle.sbx_flat.specs.Parts.{Parts}
 use Rattle.sbx_flat.specs.Memory.{Bytes}
 use Rattle.sbx_flat.specs.Registers.{Registers}
 use Rattle.sbx_flat.specs.Runs.{AreBytes}

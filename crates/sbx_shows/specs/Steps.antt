@@ -1,16 +1,16 @@
 -- User code beside the flat machine, and what its turns come to.
 use Rattle.std.specs.Prelude.{ℕ, ◌≡◌, ◌+◌, ◌*◌, ◌<◌, false, length, Option, Some}
-use Rattle.v8_meaning.specs.declared.operation.Operation.{Operation}
-use Rattle.v8_mmu.specs.Walked.{root_of}
-use Rattle.v8_mmu.specs.declared.bus.Stop.TheVariants.{Exit}
-use Rattle.v8_mmu.specs.declared.translation.MmuRegs.{MmuRegs}
+use Rattle.v8_core.specs.Operation.{Operation}
+use Rattle.v8_core.specs.Walked.{root_of}
+use Rattle.v8_core.specs.Stop.TheVariants.{Exit}
+use Rattle.v8_core.specs.MmuRegs.{MmuRegs}
 use Rattle.v8_core.specs.declared.turn.DataAccess.{DataAccess}
 use Rattle.v8_core.specs.declared.turn.Event.TheVariants.{Ran}
 use Rattle.v8_core.specs.Accesses.{World}
 use Rattle.v8_core.specs.Steps.{next, turn_of}
 use Rattle.v8_map.specs.declared.TheConstants.{CODE_START, CONTEXT_TABLE}
-use Rattle.v8_memory.specs.Board.{Device, board}
-use Rattle.sbx_image.specs.declared.parts.Parts.{Parts}
+use Rattle.v8_loaded.specs.Board.{Device, board}
+use Rattle.sbx_flat.specs.Parts.{Parts}
 use Rattle.sbx_flat.specs.Effects.{does}
 use Rattle.sbx_flat.specs.Registers.{Fresh, IsFresh}
 use Rattle.sbx_flat.specs.States.{Goes, State}

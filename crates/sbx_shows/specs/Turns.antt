@@ -1,13 +1,13 @@
 -- What a turn of a run may do: which traps it takes, and what it touches beside the calls that are open.
 use Rattle.std.specs.Prelude.{ℕ, ◌≡◌, ◌⊎◌, ◌+◌, ◌-◌, ◌/◌, ◌<◌, ◌≤◌, ◌==◌, ◌||◌, ◌&&◌, nat_le, Bool, true, false, Option, Some, None}
-use Rattle.v8_meaning.specs.Transfers.{bytes_in}
+use Rattle.v8_core.specs.Transfers.{bytes_in}
 use Rattle.v8_core.specs.declared.turn.DataAccess.{DataAccess}
 use Rattle.v8_core.specs.declared.turn.Event.{Event}
 use Rattle.v8_core.specs.declared.turn.Event.TheVariants.{Ran, Annulled, Trapped, ErrorMode, Stopped}
 use Rattle.v8_core.specs.declared.turn.Turn.{Turn}
 use Rattle.v8_map.specs.declared.TheConstants.{PAGE, TRAP_TABLE, HANDLERS}
 use Rattle.v8_loaded.specs.Turns.{ReachesDevice}
-use Rattle.sbx_image.specs.declared.parts.Parts.{Parts}
+use Rattle.sbx_flat.specs.Parts.{Parts}
 use Rattle.sbx_flat.specs.Effects.{declares}
 use Rattle.sbx_flat.specs.Registers.{Registers}
 use Rattle.sbx_flat.specs.Traffic.{is_own_code_page, is_own_data_page}

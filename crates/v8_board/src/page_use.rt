@@ -1,5 +1,6 @@
+//! Which pages were referenced and modified.
 ghost use Rattle.std.specs.Prelude.{◌≡◌, ℕ, ◌+◌, ◌*◌, ◌/◌, ◌%◌, ◌^◌, ◌<◌, ◌≤◌};
-ghost use Rattle.v8_mmu.specs.Ram.{entry_of};
+ghost use Rattle.v8_core.specs.Ram.{entry_of};
 ghost use Rattle.v8_board.specs.Marks.{bit_of, marks, page_use_of};
 
 use v8_map::{CODE_TABLE, DATA_TABLE, STACK_TABLE};

@@ -1,3 +1,4 @@
+//! What loading an image places in RAM.
 ghost use Rattle.std.specs.Prelude.{◌≡◌, ℕ, ◌+◌, ◌-◌, ◌*◌, ◌/◌, ◌^◌, ◌<◌, ◌≤◌, length, false, None};
 ghost use Rattle.v8_board.specs.Start.{IsPlaced, at_most, pages_of};
 

@@ -1,17 +1,17 @@
 -- What a board keeps, whatever words its code has: the invariant of containment.
 use Rattle.std.specs.Prelude.{ℕ, ◌≡◌, ◌+◌, ◌*◌, ◌%◌, ◌/◌, ◌^◌, ◌<◌, ◌≤◌, ◌⊎◌, ◌==◌, if◌then◌else◌, Bool, true, false, List, [], ◌∷◌, ◌++◌, length, get_or, Option, Some, None, IsSome}
-use Rattle.v8_meaning.specs.Transfers.{bytes_in}
-use Rattle.v8_windows.specs.Windows.{Windows, reg_of}
-use Rattle.v8_mmu.specs.Walked.{root_of}
-use Rattle.v8_mmu.specs.declared.translation.MmuRegs.{MmuRegs}
-use Rattle.v8_mmu.specs.declared.bus.Stop.TheVariants.{Exit, Trapped}
-use Rattle.v8_state.specs.declared.state.Cpu.{Cpu}
+use Rattle.v8_core.specs.Transfers.{bytes_in}
+use Rattle.v8_core.specs.Windows.{Windows, reg_of}
+use Rattle.v8_core.specs.Walked.{root_of}
+use Rattle.v8_core.specs.MmuRegs.{MmuRegs}
+use Rattle.v8_core.specs.Stop.TheVariants.{Exit, Trapped}
+use Rattle.v8_core.specs.Cpu.{Cpu}
 use Rattle.v8_core.specs.Accesses.{World}
 use Rattle.v8_core.specs.declared.turn.DataAccess.{DataAccess}
 use Rattle.v8_core.specs.declared.turn.Turn.{Turn}
 use Rattle.v8_map.specs.declared.TheConstants.{PAGE, CODE_START, DATA_START, STACK_END, TRAP_TABLE, HANDLERS, DEVICE, CONTEXT_TABLE}
-use Rattle.v8_layout.specs.Layout.{Pages, AreFew, IsLoaded}
-use Rattle.v8_memory.specs.Board.{Device, gets}
+use Rattle.v8_loaded.specs.Layout.{Pages, AreFew, IsLoaded}
+use Rattle.v8_loaded.specs.Board.{Device, gets}
 
 -- ---- registers
 

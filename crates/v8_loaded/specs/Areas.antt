@@ -1,7 +1,7 @@
 -- The save area of a window: the 64 bytes from its %sp on (chapter 4).
 use Rattle.std.specs.Prelude.{ℕ, ◌≡◌, ◌≢◌, ◌⊎◌, ◌+◌, ◌*◌, ◌-◌, ◌%◌, ◌^◌, ◌<◌, ◌≤◌, List, slice_index, Some}
-use Rattle.v8_mmu.specs.Ram.{entry_of}
-use Rattle.v8_windows.specs.Windows.{Windows, word_at}
+use Rattle.v8_core.specs.Ram.{entry_of}
+use Rattle.v8_core.specs.Windows.{Windows, word_at}
 use Rattle.v8_map.specs.declared.TheConstants.{PAGE, STACK_LOWEST, STACK_END, STACK_PLACE, SYSTEM_TABLE, TABLES_END}
 use Rattle.v8_layout.specs.Layout.{Pages}
 use Rattle.v8_layout.specs.AddressMap.{lowered}

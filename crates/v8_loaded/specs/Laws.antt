@@ -1,11 +1,11 @@
 -- The words that the supervisor fetches.
 use Rattle.std.specs.Prelude.{ℕ, ◌≡◌, ◌+◌, ◌*◌, ◌<◌, false, List, Ok}
-use Rattle.v8_mmu.specs.Walked.{root_of}
-use Rattle.v8_mmu.specs.declared.access.Access.{Access}
-use Rattle.v8_mmu.specs.declared.access.AccessKind.TheVariants.{Fetch}
-use Rattle.v8_mmu.specs.declared.translation.MmuRegs.{MmuRegs}
+use Rattle.v8_core.specs.Walked.{root_of}
+use Rattle.v8_core.specs.Access.{Access}
+use Rattle.v8_core.specs.AccessKind.TheVariants.{Fetch}
+use Rattle.v8_core.specs.MmuRegs.{MmuRegs}
 use Rattle.v8_core.specs.Memory.{fetches}
-use Rattle.v8_handlers.specs.Handlers.{trap_word, handler_word}
+use Rattle.v8_layout.specs.Handlers.{trap_word, handler_word}
 use Rattle.v8_map.specs.declared.TheConstants.{TRAP_TABLE, HANDLERS, CONTEXT_TABLE}
 use Rattle.v8_layout.specs.Layout.{Pages, AreFew, IsLoaded}
 use Rattle.v8_loaded.specs.Places.{handlers_marked, table_marked}

@@ -1,11 +1,11 @@
 -- Places of a loaded board: the window that a trap enters (chapter 7), the entries of pages (appendix H), and what an access marks.
 use Rattle.std.specs.Prelude.{ℕ, ◌+◌, ◌*◌, ◌/◌, Bool, false, List}
-use Rattle.v8_mmu.specs.Paths.{marked_ram}
-use Rattle.v8_windows.specs.Windows.{below}
+use Rattle.v8_core.specs.Paths.{marked_ram}
+use Rattle.v8_core.specs.Windows.{below}
 use Rattle.v8_map.specs.declared.TheConstants.{CODE_TABLE, STACK_TABLE, TRAP_TABLE, HANDLERS, DEVICE, SYSTEM_TABLE}
 use Rattle.v8_layout.specs.Layout.{stack_region, system_region}
 use Rattle.v8_layout.specs.AddressMap.{entry_in}
-use Rattle.v8_state.specs.declared.state.Cpu.{Cpu}
+use Rattle.v8_core.specs.Cpu.{Cpu}
 
 -- the window that a SAVE, and a trap, enters
 abbrev pub entered_window : (n : ℕ) → Cpu n → ℕ

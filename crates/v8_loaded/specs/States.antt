@@ -1,10 +1,10 @@
 -- What the state of a board is, whatever runs there.
 use Rattle.std.specs.Prelude.{ℕ, ◌≡◌, ◌%◌, ◌^◌, ◌<◌, length}
-use Rattle.v8_mmu.specs.Ram.{AreBytes}
-use Rattle.v8_mmu.specs.Walked.{root_of}
-use Rattle.v8_mmu.specs.declared.translation.MmuRegs.{MmuRegs}
-use Rattle.v8_windows.specs.Windows.{IsFile}
-use Rattle.v8_state.specs.declared.state.Cpu.{Cpu}
+use Rattle.v8_core.specs.Ram.{AreBytes}
+use Rattle.v8_core.specs.Walked.{root_of}
+use Rattle.v8_core.specs.MmuRegs.{MmuRegs}
+use Rattle.v8_core.specs.Windows.{IsFile}
+use Rattle.v8_core.specs.Cpu.{Cpu}
 use Rattle.v8_core.specs.Accesses.{World}
 use Rattle.v8_map.specs.declared.TheConstants.{RAM, CONTEXT_TABLE}
 use Rattle.v8_memory.specs.Board.{Device}

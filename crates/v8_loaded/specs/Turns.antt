@@ -1,8 +1,8 @@
 -- Machine turns of a board in a row, and what each of them touches.
 use Rattle.std.specs.Prelude.{ℕ, zero, suc, ◌≡◌, ◌⊎◌, ◌+◌, ◌/◌, ◌%◌, ◌<◌, ◌≤◌, Bool, true, false, List, length, slice_get, Option, Some, None}
-use Rattle.v8_word.specs.declared.Size.TheVariants.{Double}
-use Rattle.v8_mmu.specs.Meaning.{Meaning}
-use Rattle.v8_mmu.specs.declared.translation.MmuRegs.{MmuRegs}
+use Rattle.v8_core.specs.Size.TheVariants.{Double}
+use Rattle.v8_core.specs.Meaning.{Meaning}
+use Rattle.v8_core.specs.MmuRegs.{MmuRegs}
 use Rattle.v8_core.specs.declared.turn.DataAccess.{DataAccess}
 use Rattle.v8_core.specs.declared.turn.Event.{Event}
 use Rattle.v8_core.specs.declared.turn.Event.TheVariants.{Ran}

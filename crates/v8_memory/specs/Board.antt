@@ -1,7 +1,7 @@
 -- What the board's bus does: 1 MiB of RAM from physical address 0, and a device of four word registers at 100000000.
 use Rattle.std.specs.Prelude.{ℕ, ◌≡◌, ◌+◌, ◌-◌, ◌%◌, ◌^◌, ◌==◌, ◌&&◌, not, Bool, true, false, List, [], ◌∷◌, ◌++◌, length, slice_index, nat_lt, Option, Some, None, if◌then◌else◌}
-use Rattle.v8_word.specs.declared.Size.{Size}
-use Rattle.v8_word.specs.declared.Size.TheVariants as sizes
+use Rattle.v8_mmu.specs.Size.{Size}
+use Rattle.v8_mmu.specs.Size.TheVariants as sizes
 use Rattle.v8_mmu.specs.declared.bus.Stop.{Stop}
 use Rattle.v8_mmu.specs.declared.bus.Stop.TheVariants.{Exit, Trapped}
 use Rattle.v8_mmu.specs.Meaning.{Meaning, exchanged_after}

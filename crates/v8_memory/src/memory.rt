@@ -1,3 +1,4 @@
+//! RAM and the device, as a bus.
 ghost use Rattle.std.specs.Prelude.{◌≡◌, ℕ, ◌+◌, ◌*◌, ◌%◌, ◌-◌, ◌^◌, ◌<◌, ◌≤◌, ◌==◌, not, [], length, IfErr, IfOk, OnOk, OnErr, None, false, Option};
 ghost use Rattle.std.specs.Borrow.{sem};
 ghost use Rattle.v8_mmu.specs.Answers.{Grows, IfPort, OnPort, OnUnanswered, Rose, call_if, calls_of};
@@ -10,8 +11,7 @@ use crate::port::Port;
 use crate::ram::Ram;
 use std::alloc::{AllocError, Global};
 use v8_map::DEVICE_PLACE;
-use v8_mmu::{Bus, BusFault, PortFault, Stop};
-use v8_word::Size;
+use v8_mmu::{Bus, BusFault, PortFault, Size, Stop};
 
 /// What a load of the input register gives at the end of the input.
 const NO_BYTE: u64 = 0xFFFF_FFFF;

@@ -1,3 +1,4 @@
+//! RAM as a list of bytes.
 ghost use Rattle.std.specs.Prelude.{◌≡◌, ℕ, ◌+◌, ◌*◌, ◌%◌, ◌/◌, ◌^◌, ◌<◌, ◌≤◌, ◌==◌, ◌&&◌, ◌++◌, IfOk, IfSome, IsSome, IsTrue, ◌↔◌, List, None, true, false, length, nat_le, slice_index, slice_set, take, drop, vec_len, if◌then◌else◌};
 ghost use Rattle.std.specs.Int.{w16, w32, from_be_bytes, to_be_bytes};
 ghost use Rattle.v8_mmu.specs.Meaning.{limit_of};
@@ -10,7 +11,7 @@ use byteorder::{BigEndian, ByteOrder};
 use std::alloc::{AllocError, Global};
 use std::marker::Model;
 use v8_map::RAM;
-use v8_word::Size;
+use v8_mmu::Size;
 
 const BYTES: usize = RAM as usize;
 

@@ -1,20 +1,20 @@
 -- What a call of a service does: the turn of the trap, and those of the words of its vector (chapter 7 and the trap table).
 use Rattle.std.specs.Prelude.{ℕ, ◌≡◌, ◌+◌, ◌%◌, ◌^◌, Bool, true, false, List, [], ◌∷◌, ◌++◌, Some}
-use Rattle.v8_word.specs.declared.Cond.TheVariants.{Always}
-use Rattle.v8_formats.specs.declared.instr.Operand.TheVariants.{Immediate}
-use Rattle.v8_meaning.specs.Operands.{following}
-use Rattle.v8_meaning.specs.declared.operation.Operation.{Operation}
-use Rattle.v8_meaning.specs.declared.operation.Operation.TheVariants.{TrapOnCondition}
-use Rattle.v8_windows.specs.Windows.{Windows, below, can_enter, reg_of, with_reg, with_word, trapped}
-use Rattle.v8_mmu.specs.declared.bus.Stop.TheVariants.{Exit}
-use Rattle.v8_mmu.specs.declared.translation.MmuRegs.{MmuRegs}
-use Rattle.v8_state.specs.declared.state.Control.{Control}
+use Rattle.v8_core.specs.Cond.TheVariants.{Always}
+use Rattle.v8_core.specs.Operand.TheVariants.{Immediate}
+use Rattle.v8_core.specs.Operands.{following}
+use Rattle.v8_core.specs.Operation.{Operation}
+use Rattle.v8_core.specs.Operation.TheVariants.{TrapOnCondition}
+use Rattle.v8_core.specs.Windows.{Windows, below, can_enter, reg_of, with_reg, with_word, trapped}
+use Rattle.v8_core.specs.Stop.TheVariants.{Exit}
+use Rattle.v8_core.specs.MmuRegs.{MmuRegs}
+use Rattle.v8_core.specs.Control.{Control}
 use Rattle.v8_core.specs.declared.turn.Event.{Event}
 use Rattle.v8_core.specs.declared.turn.Event.TheVariants.{Ran, Trapped, Stopped}
 use Rattle.v8_core.specs.Accesses.{World, world}
 use Rattle.v8_map.specs.declared.TheConstants.{TRAP_TABLE, DEVICE}
-use Rattle.v8_layout.specs.Layout.{Pages}
-use Rattle.v8_memory.specs.Board.{Device, gets}
+use Rattle.v8_loaded.specs.Layout.{Pages}
+use Rattle.v8_loaded.specs.Board.{Device, gets}
 pub use Rattle.v8_loaded.specs.Places.{code_marked, table_marked, device_marked}
 pub use Rattle.v8_loaded.specs.Turns.{ReachesDevice, Touches, TurnsTo, Leads}
 pub use Rattle.v8_loaded.specs.Users.{AsksFor, RunsUser, in_vector}
