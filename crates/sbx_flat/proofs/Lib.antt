@@ -5,9 +5,6 @@ pub mod Turns
 pub mod Examples
 pub mod Goes
 pub mod Paired
-pub mod Signed
-pub mod Outcomes
-pub mod Fields
 pub mod Kept
 pub mod Stays
 pub mod Unread

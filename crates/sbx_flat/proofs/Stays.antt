@@ -37,9 +37,9 @@ use Rattle.sbx_flat.specs.Runs.{AreBytes, FlatRun, IsStart, Place, Run, data_at,
 use Rattle.sbx_flat.specs.States.{State, reg, with_reg, advanced, transferred, Turn, Goes, Fails, Over, Wrong, NotAdmitted, Misaligned, ZeroDivisor, TagOverflow, NoService, BadFrame, StackPointer}
 use Rattle.sbx_flat.specs.Turns.{Step, asked, fetches, goes_on, turn, word_at}
 use Rattle.sbx_flat.specs.WellFormed.{AreCalls, AreData, HasWords, IsPlace, IsStacked, IsWellFormed}
-use Rattle.sbx_flat.proofs.Fields.{SmallOperand, SmallSecond, small_second}
+use Rattle.v8_meaning.proofs.Fields.{SmallOperand, SmallSecond, small_second}
 use Rattle.sbx_flat.proofs.Kept.{IsBase, base_says, calls_popped, calls_pushed, calls_slot, calls_written, pick, word_small}
-use Rattle.sbx_flat.proofs.Outcomes.{AreResults, division_words, outcome_words, tagged_words}
+use Rattle.v8_alu.proofs.Outcomes.{AreResults, division_words, outcome_words, tagged_words}
 
 -- ---- bytes
 

@@ -1,5 +1,6 @@
 -- Codes of one or two words, and what a step of them comes to, for examples.
-use Rattle.std.specs.Prelude.{ℕ, ◌%◌, ◌^◌, false, List, [], ◌∷◌, Option, None, Some}
+use Rattle.std.specs.Prelude.{ℕ, ◌+◌, ◌%◌, ◌^◌, false, List, [], ◌∷◌, Option, None, Some}
+use Rattle.v8_map.specs.declared.TheConstants.{CODE_START}
 use Rattle.sbx_image.specs.declared.parts.Parts.{Parts}
 use Rattle.sbx_flat.specs.Registers.{Frame, Fresh}
 use Rattle.sbx_flat.specs.Runs.{Place}
@@ -11,20 +12,20 @@ abbrev pub save_and_restore : List ℕ
 save_and_restore = 0x9DE3BFA0 ∷ 0x81E80000 ∷ []
 
 abbrev pub at_save : Place
-at_save = record { pc = 0x00040000; annulled = false; address = None }
+at_save = record { pc = CODE_START; annulled = false; address = None }
 
 abbrev pub at_restore : Place
-at_restore = record { pc = 0x00040004; annulled = false; address = None }
+at_restore = record { pc = CODE_START + 4; annulled = false; address = None }
 
 -- a state before the first word of the code, and the same before the second
 abbrev pub at_first : State → State
-at_first s = record s { pc = 0x00040000; npc = 0x00040004; annulled = false; exit = None }
+at_first s = record s { pc = CODE_START; npc = CODE_START + 4; annulled = false; exit = None }
 
 abbrev pub at_second : State → State
-at_second s = record s { pc = 0x00040004; npc = 0x00040008; annulled = false; exit = None }
+at_second s = record s { pc = CODE_START + 4; npc = CODE_START + 8; annulled = false; exit = None }
 
 abbrev pub at_third : State → State
-at_third s = record s { pc = 0x00040008; npc = 0x0004000C; annulled = false; exit = None }
+at_third s = record s { pc = CODE_START + 8; npc = CODE_START + 12; annulled = false; exit = None }
 
 -- what comes of the state where the code is this word alone
 abbrev pub step_of : ℕ → Parts → Fresh → State → Turn

@@ -12,3 +12,7 @@ pub mod Unread
 pub mod Invariants
 pub mod Traffic
 pub mod Examples
+-- What its definitions are said in, for the crates above.
+pub use Rattle.sbx_image.specs.Rules
+pub use Rattle.sbx_image.specs.declared.parts.Parts
+pub use Rattle.sbx_image.specs.declared.services.Services

@@ -1,7 +1,8 @@
 -- Which calls of a path a machine with n windows has no window for, and what its turns come to; and the pages that an image calls its own.
-use Rattle.std.specs.Prelude.{ℕ, ◌+◌, ◌*◌, ◌-◌, Bool, ◌==◌, ◌&&◌, ◌||◌, nat_lt, nat_le, if◌then◌else◌, List, [], ◌∷◌, length, Option, Some, None}
+use Rattle.std.specs.Prelude.{ℕ, ◌+◌, ◌*◌, ◌-◌, ◌/◌, Bool, ◌==◌, ◌&&◌, ◌||◌, nat_lt, nat_le, if◌then◌else◌, List, [], ◌∷◌, length, Option, Some, None}
 use Rattle.v8_meaning.specs.declared.operation.Operation.{Operation}
 use Rattle.v8_meaning.specs.declared.operation.Operation.TheVariants.{Save, Restore}
+use Rattle.v8_map.specs.declared.TheConstants.{PAGE, CODE_START, DATA_START, STACK_END}
 use Rattle.sbx_image.specs.declared.parts.Parts.{Parts}
 pub use Rattle.sbx_flat.specs.declared.path.Traffic.{Traffic}
 use Rattle.sbx_flat.specs.Runs.{Place, weight_of}
@@ -42,14 +43,14 @@ traffic_from parts n (place ∷ path) t = traffic_from parts n path (after_place
 abbrev pub traffic : Parts → ℕ → List Place → Traffic
 traffic parts n path = traffic_from parts n path no_traffic
 
--- ---- pages of 4,096 bytes, by number
+-- ---- pages, by number
 
 -- the code pages that hold a code word
 abbrev pub is_own_code_page : Parts → ℕ → Bool
-is_own_code_page parts page = nat_le 0x40 page && nat_lt (4096 * (page - 0x40)) (4 * length parts.words)
+is_own_code_page parts page = nat_le (CODE_START / PAGE) page && nat_lt (PAGE * (page - CODE_START / PAGE)) (4 * length parts.words)
 
 -- the data pages that hold a data byte, and the last pages of the stack
 abbrev pub is_own_data_page : Parts → ℕ → Bool
 is_own_data_page parts page =
-    (nat_le 0x80 page && nat_lt (4096 * (page - 0x80)) (length parts.bytes))
-    || (nat_le (0x100 - parts.stack_pages) page && nat_lt page 0x100)
+    (nat_le (DATA_START / PAGE) page && nat_lt (PAGE * (page - DATA_START / PAGE)) (length parts.bytes))
+    || (nat_le (STACK_END / PAGE - parts.stack_pages) page && nat_lt page (STACK_END / PAGE))

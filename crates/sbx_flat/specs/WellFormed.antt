@@ -1,6 +1,7 @@
 -- What every state that a run reaches keeps: words are words, bytes are bytes, and the open calls stand one below the other on the stack.
 use Rattle.std.specs.Prelude.{ℕ, ◌≡◌, ◌+◌, ◌*◌, ◌%◌, ◌^◌, ◌<◌, ◌≤◌, Some, IfSome}
 use Rattle.std.specs.List.{AllByRecursion}
+use Rattle.v8_map.specs.declared.TheConstants.{PAGE, STACK_END}
 use Rattle.sbx_flat.specs.Calls.{base, depth, slot}
 use Rattle.sbx_flat.specs.Memory.{Bytes}
 use Rattle.sbx_flat.specs.Registers.{AreWords, Frame, Registers}
@@ -21,15 +22,15 @@ pub record AreRegisters (file : Registers) : Type 0 where
 -- Each call has 64 bytes from its base on, a multiple of 8, in the stack's pages, and below those of every older call.
 pub record IsStacked (pages : ℕ) (file : Registers) : Type 0 where
   pub aligned : (k : ℕ) → k < depth file → base file k % 8 ≡ 0
-  pub low : (k : ℕ) → k < depth file → 0x100000 ≤ base file k + 4096 * pages
-  pub high : (k : ℕ) → k < depth file → base file k + 64 ≤ 0x100000
+  pub low : (k : ℕ) → k < depth file → STACK_END ≤ base file k + PAGE * pages
+  pub high : (k : ℕ) → k < depth file → base file k + 64 ≤ STACK_END
   pub apart : (k i : ℕ) → k < i → i < depth file → base file k + 64 ≤ base file i
 
 -- where a call has its slots: above its 64 bytes, and below every older call's
 pub record IsSlot (file : Registers) (k a : ℕ) : Type 0 where
   pub aligned : a % 4 ≡ 0
   pub low : base file k + 64 ≤ a
-  pub high : a + 4 ≤ 0x100000
+  pub high : a + 4 ≤ STACK_END
   pub below : (i : ℕ) → k < i → i < depth file → a + 4 ≤ base file i
 
 abbrev pub HasSlots : Registers → Type 0

@@ -7,6 +7,7 @@ ghost use Rattle.sbx_flat.specs.Turns.{asked, word_at};
 use bitflags::Flags;
 use sbx_image::Services;
 use v8_formats::{Operand, Trap, decode};
+use v8_map::CODE_START;
 use v8_meaning::{Operation, is_service_call, operation_of};
 
 /// The code word at an address, none outside the code.
@@ -14,10 +15,10 @@ use v8_meaning::{Operation, is_service_call, operation_of};
 pub fn word_at(words: &[u32], address: u32) -> Option<u32>
     ensures { result ≡ word_at words.now address }
 {
-    if address < 0x0004_0000 || address % 4 != 0 {
+    if address < CODE_START || address % 4 != 0 {
         return None;
     }
-    words.get(((address - 0x0004_0000) / 4) as usize).copied()
+    words.get(((address - CODE_START) / 4) as usize).copied()
 }
 
 /// What a word asks for.

@@ -3,9 +3,9 @@ use Rattle.std.proofs.Common.{◌≡◌, ◌≢◌, ℕ, ◌+◌, ◌-◌, ◌*�
 use Rattle.std.specs.Prelude.{◌==◌, ◌&&◌, if◌then◌else◌}
 use Rattle.std.proofs.lemmas.Bool.Decides.{nat_tests}
 use Rattle.v8_core.specs.Accesses.{World}
-use Rattle.v8_memory.specs.Board.{Device}
+use Rattle.v8_loaded.specs.Board.{Device}
 use Rattle.v8_board.specs.Start.{pages_of}
-use Rattle.sbx_image.specs.declared.parts.Parts.{Parts}
+use Rattle.sbx_flat.specs.Parts.{Parts}
 use Rattle.sbx_flat.specs.Registers.{Registers, Words, with_word, written}
 use Rattle.sbx_flat.specs.States.{State}
 use Rattle.sbx_shows.specs.Calls.{cell, depth, slot}

@@ -2,24 +2,24 @@
 use Rattle.std.proofs.Common.{◌≡◌, ◌≢◌, ℕ, suc, ◌+◌, ◌-◌, ◌*◌, ◌%◌, ◌^◌, ◌<◌, ◌≤◌, Bool, true, false, List, [], ◌∷◌, Some, None, refl, ap, ◌∙◌, subst, arith}
 use Rattle.std.specs.Prelude.{◌==◌, ◌&&◌, ◌||◌}
 use Rattle.std.proofs.lemmas.Bool.Decides.{nat_tests}
-use Rattle.v8_formats.specs.declared.instr.Three.{Three}
-use Rattle.v8_meaning.specs.Admitted.{is_admitted}
-use Rattle.v8_meaning.specs.Operands.{address}
-use Rattle.v8_meaning.specs.declared.operation.Operation.TheVariants.{Restore, Save}
-use Rattle.v8_windows.specs.Windows.{Windows, above, below, can_enter, moved, with_reg}
-use Rattle.v8_mmu.specs.declared.translation.MmuRegs.{MmuRegs}
-use Rattle.v8_state.specs.Effects.{address_of, advanced as board_advanced, effect, written as board_written}
-use Rattle.v8_state.specs.declared.state.Cpu.{Cpu}
+use Rattle.v8_core.specs.Three.{Three}
+use Rattle.v8_core.specs.Admitted.{is_admitted}
+use Rattle.v8_core.specs.Operands.{address}
+use Rattle.v8_core.specs.Operation.TheVariants.{Restore, Save}
+use Rattle.v8_core.specs.Windows.{Windows, above, below, can_enter, moved, with_reg}
+use Rattle.v8_core.specs.MmuRegs.{MmuRegs}
+use Rattle.v8_core.specs.Effects.{address_of, advanced as board_advanced, effect, written as board_written}
+use Rattle.v8_core.specs.Cpu.{Cpu}
 use Rattle.v8_core.specs.declared.turn.Event.TheVariants.{Ran}
 use Rattle.v8_core.specs.Accesses.{World, world}
 use Rattle.v8_core.specs.Steps.{turn_of}
-use Rattle.v8_memory.specs.Board.{Device}
+use Rattle.v8_loaded.specs.Board.{Device}
 use Rattle.v8_loaded.specs.Users.{AsksFor}
 use Rattle.v8_loaded.proofs.Windows.{above_within, below_within}
 use Rattle.v8_services.proofs.Frames.{file_moved}
 use Rattle.v8_board.specs.Start.{pages_of}
 use Rattle.v8_board.proofs.Placed.{pages_few}
-use Rattle.sbx_image.specs.declared.parts.Parts.{Parts}
+use Rattle.sbx_flat.specs.Parts.{Parts}
 use Rattle.sbx_flat.specs.Effects.{is_base, restores}
 use Rattle.sbx_flat.specs.Registers.{Frame, Fresh, IsFresh, Registers, popped, pushed}
 use Rattle.sbx_flat.specs.States.{Goes, State, advanced, reg, with_reg as flat_with_reg}

@@ -2,20 +2,20 @@
 use Rattle.std.proofs.Common.{◌≡◌, ℕ, ◌+◌, ◌-◌, ◌*◌, ◌/◌, ◌^◌, ◌<◌, ◌≤◌, inr, Bool, true, List, length, Some, refl, sym, ap, ◌∙◌, subst, arith}
 use Rattle.std.specs.Prelude.{nat_le, if◌then◌else◌}
 use Rattle.std.proofs.lemmas.Bool.Decides.{nat_tests}
-use Rattle.v8_word.specs.declared.Size.{Size}
-use Rattle.v8_word.specs.declared.Size.TheVariants.{Byte}
-use Rattle.v8_meaning.specs.Transfers.{bytes_in}
-use Rattle.v8_mmu.specs.Ram.{with_number as board_with}
-use Rattle.v8_mmu.specs.Paths.{marked_ram}
+use Rattle.v8_core.specs.Size.{Size}
+use Rattle.v8_core.specs.Size.TheVariants.{Byte}
+use Rattle.v8_core.specs.Transfers.{bytes_in}
+use Rattle.v8_core.specs.Ram.{with_number as board_with}
+use Rattle.v8_core.specs.Paths.{marked_ram}
 use Rattle.v8_core.specs.Accesses.{World, world}
-use Rattle.v8_layout.specs.Layout.{AreFew, Pages}
-use Rattle.v8_layout.specs.AddressMap.{mapped, page_at}
+use Rattle.v8_loaded.specs.Layout.{AreFew, Pages}
+use Rattle.v8_loaded.specs.AddressMap.{mapped, page_at}
 use Rattle.v8_layout.proofs.Map.{inside, outside}
 use Rattle.v8_layout.proofs.Marks.{Markable, data_markable, mark_keeps}
-use Rattle.v8_memory.specs.Board.{Device}
+use Rattle.v8_loaded.specs.Board.{Device}
 use Rattle.v8_board.specs.Start.{at_most, pages_of}
 use Rattle.v8_board.proofs.Placed.{pages_few}
-use Rattle.sbx_image.specs.declared.parts.Parts.{Parts}
+use Rattle.sbx_flat.specs.Parts.{Parts}
 use Rattle.sbx_flat.specs.Memory.{number_at, with_number}
 use Rattle.sbx_flat.specs.States.{State}
 use Rattle.sbx_flat.specs.Traffic.{is_own_data_page}

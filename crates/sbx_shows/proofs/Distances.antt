@@ -3,7 +3,7 @@ use Rattle.std.proofs.Common.{◌≡◌, ◌≢◌, ℕ, zero, suc, ◌+◌, ◌
 use Rattle.std.specs.Prelude.{◌==◌}
 use Rattle.std.proofs.lemmas.Bool.Decides.{nat_tests}
 use Rattle.std.proofs.Math.Nat.{mod-eq_of_lt, add-mul-mod_self_left}
-use Rattle.v8_windows.specs.Windows.{below, above}
+use Rattle.v8_core.specs.Windows.{below, above}
 use Rattle.v8_windows.proofs.Neighbours.{above_last, below_first, below_next}
 use Rattle.sbx_shows.specs.Shows.{window}
 

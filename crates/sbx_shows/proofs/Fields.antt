@@ -3,22 +3,22 @@ use Rattle.std.proofs.Common.{◌≡◌, ℕ, ◌^◌, ◌<◌, Bool, true, fals
 use Rattle.std.specs.Prelude.{if◌then◌else◌}
 use Rattle.std.specs.List.{AllByRecursion}
 use Rattle.std.proofs.lemmas.Bool.Decides.{nat_tests}
-use Rattle.v8_word.specs.Word.{bits_of, sign_extend}
-use Rattle.v8_formats.specs.Fields.{alternate, is_immediate, place, rd, rs2, three, two, shift}
-use Rattle.v8_formats.specs.Table.{Row, lookup, matches, meaning, table}
-use Rattle.v8_formats.specs.declared.instr.Instr.{Instr}
-use Rattle.v8_formats.specs.declared.instr.Instr.TheVariants.{Undefined}
-use Rattle.v8_formats.specs.declared.instr.Operand.{Operand}
-use Rattle.v8_formats.specs.declared.instr.Operand.TheVariants.{Register, Immediate}
-use Rattle.v8_formats.specs.declared.instr.Place.{Place}
-use Rattle.v8_formats.specs.declared.instr.Place.TheVariants as places
-use Rattle.v8_formats.specs.declared.instr.Three.{Three}
-use Rattle.v8_formats.specs.declared.instr.Two.{Two}
-use Rattle.v8_meaning.specs.Spaces.{is_normal}
-use Rattle.v8_meaning.specs.Operations.{elsewhere, normal, operation_of, space_of}
-use Rattle.v8_meaning.specs.declared.operation.MemoryOperand.{MemoryOperand}
-use Rattle.v8_meaning.specs.declared.operation.Operation.{Operation}
-use Rattle.v8_meaning.specs.declared.operation.Operation.TheVariants.{Compute, Divide, TaggedTrap, SetHigh, ReadY, WriteY, Transfer, Save, Restore, JumpAndLink}
+use Rattle.v8_core.specs.Word.{bits_of, sign_extend}
+use Rattle.v8_core.specs.Fields.{alternate, is_immediate, place, rd, rs2, three, two, shift}
+use Rattle.v8_core.specs.Table.{Row, lookup, matches, meaning, table}
+use Rattle.v8_core.specs.Instr.{Instr}
+use Rattle.v8_core.specs.Instr.TheVariants.{Undefined}
+use Rattle.v8_core.specs.Operand.{Operand}
+use Rattle.v8_core.specs.Operand.TheVariants.{Register, Immediate}
+use Rattle.v8_core.specs.Place.{Place}
+use Rattle.v8_core.specs.Place.TheVariants as places
+use Rattle.v8_core.specs.Three.{Three}
+use Rattle.v8_core.specs.Two.{Two}
+use Rattle.v8_core.specs.Spaces.{is_normal}
+use Rattle.v8_core.specs.Operations.{elsewhere, normal, operation_of, space_of}
+use Rattle.v8_core.specs.MemoryOperand.{MemoryOperand}
+use Rattle.v8_core.specs.Operation.{Operation}
+use Rattle.v8_core.specs.Operation.TheVariants.{Compute, Divide, TaggedTrap, SetHigh, ReadY, WriteY, Transfer, Save, Restore, JumpAndLink}
 
 abbrev pub SecondIn : Operand → Type 0
 SecondIn (Register r) = r < 32

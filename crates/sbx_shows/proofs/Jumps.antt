@@ -2,26 +2,26 @@
 use Rattle.std.proofs.Common.{◌≡◌, ◌≢◌, ℕ, ◌%◌, ◌^◌, ◌<◌, Bool, true, false, List, Some, None, refl, ap, ◌∙◌, subst, arith}
 use Rattle.std.specs.Prelude.{◌==◌, if◌then◌else◌}
 use Rattle.std.proofs.lemmas.Bool.Decides.{nat_tests}
-use Rattle.v8_word.specs.Conditions.{holds}
-use Rattle.v8_formats.specs.declared.instr.Branch.{Branch}
-use Rattle.v8_formats.specs.declared.instr.Three.{Three}
-use Rattle.v8_meaning.specs.Admitted.{is_admitted}
-use Rattle.v8_meaning.specs.Operands.{address, annuls, following, target}
-use Rattle.v8_meaning.specs.declared.operation.Operation.{Operation}
-use Rattle.v8_meaning.specs.declared.operation.Operation.TheVariants.{BranchOnCondition, Call, JumpAndLink}
-use Rattle.v8_windows.specs.Windows.{with_reg}
-use Rattle.v8_mmu.specs.declared.translation.MmuRegs.{MmuRegs}
-use Rattle.v8_state.specs.Effects.{advanced as board_advanced, branched, effect, jumped}
-use Rattle.v8_state.specs.Traps.{first_trap}
-use Rattle.v8_state.specs.declared.state.Control.{Control}
-use Rattle.v8_state.specs.declared.state.Cpu.{Cpu}
+use Rattle.v8_core.specs.Conditions.{holds}
+use Rattle.v8_core.specs.Branch.{Branch}
+use Rattle.v8_core.specs.Three.{Three}
+use Rattle.v8_core.specs.Admitted.{is_admitted}
+use Rattle.v8_core.specs.Operands.{address, annuls, following, target}
+use Rattle.v8_core.specs.Operation.{Operation}
+use Rattle.v8_core.specs.Operation.TheVariants.{BranchOnCondition, Call, JumpAndLink}
+use Rattle.v8_core.specs.Windows.{with_reg}
+use Rattle.v8_core.specs.MmuRegs.{MmuRegs}
+use Rattle.v8_core.specs.Effects.{advanced as board_advanced, branched, effect, jumped}
+use Rattle.v8_core.specs.Traps.{first_trap}
+use Rattle.v8_core.specs.Control.{Control}
+use Rattle.v8_core.specs.Cpu.{Cpu}
 use Rattle.v8_core.specs.declared.turn.Event.TheVariants.{Ran}
 use Rattle.v8_core.specs.Accesses.{World, quiet, world}
 use Rattle.v8_core.specs.Steps.{acts, turn_of}
-use Rattle.v8_memory.specs.Board.{Device, board}
+use Rattle.v8_loaded.specs.Board.{Device, board}
 use Rattle.v8_loaded.specs.Users.{AsksFor}
 use Rattle.v8_board.proofs.Placed.{pages_few}
-use Rattle.sbx_image.specs.declared.parts.Parts.{Parts}
+use Rattle.sbx_flat.specs.Parts.{Parts}
 use Rattle.sbx_flat.specs.Effects.{branched as flat_branched, branches, does}
 use Rattle.sbx_flat.specs.Registers.{still}
 use Rattle.sbx_flat.specs.States.{Goes, State, transferred, with_reg as flat_with_reg, reg}

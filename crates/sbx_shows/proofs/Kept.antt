@@ -1,11 +1,11 @@
 -- RAM that is the same above the tables shows the same.
 use Rattle.std.proofs.Common.{◌≡◌, ℕ, ◌+◌, ◌-◌, ◌*◌, ◌≤◌, inr, Bool, List, sym, ◌∙◌, arith}
 use Rattle.std.specs.Prelude.{slice_index}
-use Rattle.v8_mmu.specs.Ram.{entry_of}
-use Rattle.v8_mmu.specs.Paths.{marked_ram}
+use Rattle.v8_core.specs.Ram.{entry_of}
+use Rattle.v8_core.specs.Paths.{marked_ram}
 use Rattle.v8_layout.proofs.Marks.{Markable, kept_elsewhere}
 use Rattle.v8_loaded.proofs.Turns.{marked_byte}
-use Rattle.sbx_image.specs.declared.parts.Parts.{Parts}
+use Rattle.sbx_flat.specs.Parts.{Parts}
 use Rattle.sbx_flat.specs.Memory.{Bytes}
 use Rattle.sbx_flat.specs.Registers.{Registers}
 use Rattle.sbx_shows.specs.Calls.{base}

@@ -2,23 +2,23 @@
 use Rattle.std.proofs.Common.{◌≡◌, ◌≢◌, ℕ, ◌+◌, ◌*◌, ◌/◌, ◌%◌, ◌^◌, ◌<◌, Bool, true, false, not, List, [], ◌∷◌, Some, refl, ap, ◌∙◌, arith}
 use Rattle.std.specs.Prelude.{◌==◌, ◌||◌, nat_lt, if◌then◌else◌}
 use Rattle.std.proofs.lemmas.Bool.Decides.{nat_tests}
-use Rattle.v8_word.specs.Word.{sign_extend}
-use Rattle.v8_word.specs.declared.Size.{Size}
-use Rattle.v8_word.specs.declared.Size.TheVariants as sizes
-use Rattle.v8_meaning.specs.Transfers.{odd_of, received, sent, size_of, splits_pair, writes_memory}
-use Rattle.v8_meaning.specs.declared.operation.Exchange.TheVariants as exchanges
-use Rattle.v8_meaning.specs.declared.operation.Loading.TheVariants as loadings
-use Rattle.v8_meaning.specs.declared.operation.Transfer.{Transfer}
-use Rattle.v8_meaning.specs.declared.operation.Transfer.TheVariants.{Load, Store, Exchange}
-use Rattle.v8_mmu.specs.Meaning.{limit_of}
-use Rattle.v8_mmu.specs.Ram.{number_at as board_number, with_number as board_with}
-use Rattle.v8_windows.specs.Windows.{with_reg}
-use Rattle.v8_state.specs.Effects.{with_regs as board_with_regs}
+use Rattle.v8_core.specs.Word.{sign_extend}
+use Rattle.v8_core.specs.Size.{Size}
+use Rattle.v8_core.specs.Size.TheVariants as sizes
+use Rattle.v8_core.specs.Transfers.{odd_of, received, sent, size_of, splits_pair, writes_memory}
+use Rattle.v8_core.specs.Exchange.TheVariants as exchanges
+use Rattle.v8_core.specs.Loading.TheVariants as loadings
+use Rattle.v8_core.specs.Transfer.{Transfer}
+use Rattle.v8_core.specs.Transfer.TheVariants.{Load, Store, Exchange}
+use Rattle.v8_core.specs.Meaning.{limit_of}
+use Rattle.v8_core.specs.Ram.{number_at as board_number, with_number as board_with}
+use Rattle.v8_core.specs.Windows.{with_reg}
+use Rattle.v8_core.specs.Effects.{with_regs as board_with_regs}
 use Rattle.v8_core.specs.Accesses.{World, world}
 use Rattle.v8_core.specs.Memory.{answers, loaded_from}
-use Rattle.v8_mmu.specs.Meaning.{exchanged_after, stored_after}
-use Rattle.v8_memory.specs.Board.{Device, beside, board, board_load, board_store, device_base, overwritten}
-use Rattle.sbx_image.specs.declared.parts.Parts.{Parts}
+use Rattle.v8_core.specs.Meaning.{exchanged_after, stored_after}
+use Rattle.v8_loaded.specs.Board.{Device, beside, board, board_load, board_store, device_base, overwritten}
+use Rattle.sbx_flat.specs.Parts.{Parts}
 use Rattle.sbx_flat.specs.Effects.{is_stack_pointer, with_regs}
 use Rattle.sbx_flat.specs.Registers.{written}
 use Rattle.sbx_flat.specs.States.{State, with_reg as flat_with_reg}

@@ -4,22 +4,22 @@ use Rattle.std.specs.Prelude.{slice_index, ◌&&◌, nat_le, nat_lt, if◌then�
 use Rattle.std.specs.Int.{w16, w32, from_be_bytes, to_be_bytes}
 use Rattle.std.proofs.lemmas.Bool.Decides.{nat_tests}
 use Rattle.std.proofs.lemmas.List.{get_or-take, get_or-drop}
-use Rattle.v8_word.specs.declared.Size.{Size}
-use Rattle.v8_word.specs.declared.Size.TheVariants.{Byte, Half, Word, Double}
-use Rattle.v8_meaning.specs.Transfers.{bytes_in}
-use Rattle.v8_mmu.specs.Meaning.{limit_of}
-use Rattle.v8_mmu.specs.Ram.{with_double, entry_of, number_at as board_number, with_byte, with_half, with_entry, with_number as board_with}
+use Rattle.v8_core.specs.Size.{Size}
+use Rattle.v8_core.specs.Size.TheVariants.{Byte, Half, Word, Double}
+use Rattle.v8_core.specs.Transfers.{bytes_in}
+use Rattle.v8_core.specs.Meaning.{limit_of}
+use Rattle.v8_core.specs.Ram.{with_double, entry_of, number_at as board_number, with_byte, with_half, with_entry, with_number as board_with}
 use Rattle.v8_mmu.proofs.RamMore.{byte_among, byte_beside_entry}
 use Rattle.v8_mmu.proofs.RamLemmas.{length-with_entry}
 use Rattle.v8_mmu.proofs.RamNumbers.{byte_beside_byte, byte_beside_double, byte_beside_half, has_byte, has_double, length-with_double, has_half, length-with_byte, length-with_half}
-use Rattle.v8_layout.specs.Layout.{IsLoaded}
+use Rattle.v8_loaded.specs.Layout.{IsLoaded}
 use Rattle.v8_layout.proofs.Marks.{loaded_by}
 use Rattle.v8_loaded.proofs.Stack.{word_there}
 use Rattle.v8_board.specs.Marks.{bit_of}
 use Rattle.v8_board.specs.Start.{pages_of}
 use Rattle.v8_board.proofs.Placed.{pages_few}
 use Rattle.v8_contained.proofs.Stays.{word_kept}
-use Rattle.sbx_image.specs.declared.parts.Parts.{Parts}
+use Rattle.sbx_flat.specs.Parts.{Parts}
 use Rattle.sbx_flat.specs.Memory.{Bytes, byte_of, followed_by, number_at, with_number}
 use Rattle.sbx_flat.specs.Registers.{Registers}
 use Rattle.sbx_shows.specs.Marks.{OwnMarks}

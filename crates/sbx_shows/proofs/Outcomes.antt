@@ -3,16 +3,16 @@ use Rattle.std.proofs.Common.{ℕ, ◌-◌, ◌*◌, ◌/◌, ◌%◌, ◌^◌, 
 use Rattle.std.specs.Prelude.{bit_and, bit_xor, min, ◌==◌, if◌then◌else◌}
 use Rattle.std.proofs.lemmas.Nat.{and_le_l, or_lt, xor_lt}
 use Rattle.std.proofs.Math.Nat.{div-le_self}
-use Rattle.v8_word.specs.declared.Icc.{Icc}
-use Rattle.v8_alu.specs.Outcomes.{complement, divided, division_of, outcome, tagged_outcome}
-use Rattle.v8_alu.specs.declared.Division.{Division}
-use Rattle.v8_alu.specs.declared.Division.TheVariants.{Udiv, UdivCc, Sdiv, SdivCc}
-use Rattle.v8_alu.specs.declared.TaggedOp.{TaggedOp}
-use Rattle.v8_alu.specs.declared.TaggedOp.TheVariants.{TaggedAdd, TaggedSub}
-use Rattle.v8_alu.specs.Results.{difference, quotient, signed_quotient, sum, shifted_right, signed_product, step_y}
-use Rattle.v8_alu.specs.declared.Op.{Op}
-use Rattle.v8_alu.specs.declared.Op.TheVariants.{And, AndCc, Andn, AndnCc, Or, OrCc, Orn, OrnCc, Xor, XorCc, Xnor, XnorCc, Srl, Sra, Umul, UmulCc, Smul, SmulCc, MulsCc}
-use Rattle.v8_alu.specs.declared.AluOut.{AluOut}
+use Rattle.v8_core.specs.Icc.{Icc}
+use Rattle.v8_core.specs.Outcomes.{complement, divided, division_of, outcome, tagged_outcome}
+use Rattle.v8_core.specs.Division.{Division}
+use Rattle.v8_core.specs.Division.TheVariants.{Udiv, UdivCc, Sdiv, SdivCc}
+use Rattle.v8_core.specs.TaggedOp.{TaggedOp}
+use Rattle.v8_core.specs.TaggedOp.TheVariants.{TaggedAdd, TaggedSub}
+use Rattle.v8_core.specs.Results.{difference, quotient, signed_quotient, sum, shifted_right, signed_product, step_y}
+use Rattle.v8_core.specs.Op.{Op}
+use Rattle.v8_core.specs.Op.TheVariants.{And, AndCc, Andn, AndnCc, Or, OrCc, Orn, OrnCc, Xor, XorCc, Xnor, XnorCc, Srl, Sra, Umul, UmulCc, Smul, SmulCc, MulsCc}
+use Rattle.v8_core.specs.AluOut.{AluOut}
 use Rattle.sbx_shows.proofs.Signed.{nearest_small, product_word, shift_word}
 
 and_word : (a b : ℕ) → a < 2 ^ 32 → bit_and a b < 2 ^ 32

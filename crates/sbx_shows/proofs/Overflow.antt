@@ -1,15 +1,15 @@
 -- A SAVE that finds no window: the 24 turns of its trap keep what the board shows, with one call less in windows.
 use Rattle.std.proofs.Common.{◌≡◌, ℕ, suc, ◌+◌, ◌-◌, ◌*◌, ◌/◌, ◌%◌, ◌^◌, ◌<◌, ◌≤◌, ◌⊎◌, inl, inr, List, Some, sym, ap, ◌∙◌, subst, arith}
 use Rattle.std.specs.Prelude.{slice_index}
-use Rattle.v8_formats.specs.declared.instr.Three.{Three}
-use Rattle.v8_meaning.specs.declared.operation.Operation.TheVariants.{Save}
-use Rattle.v8_mmu.specs.Ram.{entry_of}
-use Rattle.v8_mmu.specs.declared.translation.MmuRegs.{MmuRegs}
+use Rattle.v8_core.specs.Three.{Three}
+use Rattle.v8_core.specs.Operation.TheVariants.{Save}
+use Rattle.v8_core.specs.Ram.{entry_of}
+use Rattle.v8_core.specs.MmuRegs.{MmuRegs}
 use Rattle.v8_mmu.proofs.RamLemmas.{entry_is}
-use Rattle.v8_windows.specs.Windows.{word_at}
-use Rattle.v8_state.specs.declared.state.Control.{Control}
+use Rattle.v8_core.specs.Windows.{word_at}
+use Rattle.v8_core.specs.Control.{Control}
 use Rattle.v8_core.specs.Accesses.{World}
-use Rattle.v8_memory.specs.Board.{Device, board}
+use Rattle.v8_loaded.specs.Board.{Device, board}
 use Rattle.v8_loaded.specs.Areas.{HasRoom}
 use Rattle.v8_loaded.specs.Places.{entered_window}
 use Rattle.v8_loaded.specs.Turns.{after}
@@ -18,7 +18,7 @@ use Rattle.v8_spill.specs.Laws.{Handled, Overflows, Spilled, spilled_window, sta
 use Rattle.v8_spill.proofs.Law.{overflow_law}
 use Rattle.v8_board.specs.Start.{pages_of}
 use Rattle.v8_board.proofs.Placed.{pages_few}
-use Rattle.sbx_image.specs.declared.parts.Parts.{Parts}
+use Rattle.sbx_flat.specs.Parts.{Parts}
 use Rattle.sbx_flat.specs.States.{State}
 use Rattle.sbx_shows.specs.Calls.{base, cell, depth}
 use Rattle.sbx_shows.specs.Shows.{HasStack, Shows, ShowsCalls, ShowsControl, ShowsData, ShowsDevice, ShowsSaved, ShowsSlots, window}

@@ -2,22 +2,22 @@
 use Rattle.std.proofs.Common.{◌≡◌, ℕ, ◌+◌, ◌-◌, ◌*◌, ◌/◌, ◌<◌, ◌≤◌, inl, Bool, true, false, not, List, length, Option, Some, None, Result, Ok, Err, refl, sym, ap, subst, arith}
 use Rattle.std.specs.Prelude.{nat_le, if◌then◌else◌}
 use Rattle.std.proofs.lemmas.Bool.Decides.{nat_tests}
-use Rattle.v8_formats.specs.Table.{meaning}
-use Rattle.v8_meaning.specs.Operations.{operation_of}
-use Rattle.v8_mmu.specs.declared.access.AccessKind.TheVariants.{Fetch}
-use Rattle.v8_mmu.specs.declared.bus.Stop.{Stop}
-use Rattle.v8_mmu.specs.declared.translation.MmuRegs.{MmuRegs}
+use Rattle.v8_core.specs.Table.{meaning}
+use Rattle.v8_core.specs.Operations.{operation_of}
+use Rattle.v8_core.specs.AccessKind.TheVariants.{Fetch}
+use Rattle.v8_core.specs.Stop.{Stop}
+use Rattle.v8_core.specs.MmuRegs.{MmuRegs}
 use Rattle.v8_core.specs.declared.turn.DataAccess.{DataAccess}
 use Rattle.v8_core.specs.declared.turn.Event.{Event}
 use Rattle.v8_core.specs.declared.turn.Turn.{Turn}
 use Rattle.v8_core.specs.Accesses.{World, is_user, world}
 use Rattle.v8_core.specs.Memory.{fetches}
 use Rattle.v8_core.specs.Steps.{attempts, ends, executes, goes_on, next, proceeds, tries, turn_of}
-use Rattle.v8_memory.specs.Board.{Device, board}
-use Rattle.v8_state.specs.declared.state.Cpu.{Cpu}
+use Rattle.v8_loaded.specs.Board.{Device, board}
+use Rattle.v8_core.specs.Cpu.{Cpu}
 use Rattle.v8_loaded.specs.Turns.{Touches}
 use Rattle.v8_board.specs.Start.{at_most, pages_of}
-use Rattle.sbx_image.specs.declared.parts.Parts.{Parts}
+use Rattle.sbx_flat.specs.Parts.{Parts}
 use Rattle.sbx_flat.specs.Registers.{Registers}
 use Rattle.sbx_flat.specs.Traffic.{is_own_code_page}
 use Rattle.sbx_shows.specs.Turns.{IsOwnEvent, IsOwnTurn, ReachesData, StaysBeside, StaysOnWord}

@@ -2,18 +2,18 @@
 use Rattle.std.proofs.Common.{◌≡◌, ◌≢◌, ℕ, ◌+◌, ◌-◌, ◌*◌, ◌/◌, ◌%◌, ◌^◌, ◌<◌, ◌≤◌, ◌⊎◌, inl, inr, Bool, true, false, cond, List, length, Option, Some, None, refl, sym, ap, ◌∙◌, arith}
 use Rattle.std.specs.Prelude.{◌==◌, ◌&&◌, ◌||◌, nat_le, nat_lt, if◌then◌else◌}
 use Rattle.std.proofs.lemmas.Bool.Decides.{nat_tests}
-use Rattle.v8_mmu.specs.Ram.{entry_of}
-use Rattle.v8_mmu.specs.Paths.{marked, marked_ram}
+use Rattle.v8_core.specs.Ram.{entry_of}
+use Rattle.v8_core.specs.Paths.{marked, marked_ram}
 use Rattle.v8_mmu.proofs.RamLemmas.{entry_is}
 use Rattle.v8_mmu.proofs.RamMore.{entry_elsewhere, marked_is, marks as marks_of}
-use Rattle.v8_layout.specs.Layout.{Pages, IsLoaded, code_entry, data_entry, stack_entry, system_entry, unmarked}
+use Rattle.v8_loaded.specs.Layout.{Pages, IsLoaded, code_entry, data_entry, stack_entry, system_entry, unmarked}
 use Rattle.v8_layout.specs.Tables.{table_word}
 use Rattle.v8_layout.proofs.Marks.{Markable, code_markable, sides}
 use Rattle.v8_services.specs.Services.{code_marked, device_marked, table_marked, vector_marked}
 use Rattle.v8_board.specs.Start.{IsPlaced, at_most, pages_of}
 use Rattle.v8_board.specs.Marks.{bit_of}
 use Rattle.v8_board.proofs.Placed.{pages_few}
-use Rattle.sbx_image.specs.declared.parts.Parts.{Parts}
+use Rattle.sbx_flat.specs.Parts.{Parts}
 use Rattle.sbx_flat.specs.Traffic.{is_own_code_page, is_own_data_page}
 use Rattle.sbx_shows.specs.Marks.{OwnMarks, is_own_page}
 

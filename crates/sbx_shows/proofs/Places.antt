@@ -2,24 +2,24 @@
 use Rattle.std.proofs.Common.{◌≡◌, ◌≢◌, ℕ, ◌*◌, ◌^◌, ◌<◌, true, List, Some, None, refl, sym, ap, ◌∙◌, subst, arith}
 use Rattle.std.specs.Prelude.{slice_index, ◌==◌, ◌||◌, if◌then◌else◌}
 use Rattle.std.proofs.lemmas.Bool.Decides.{nat_tests}
-use Rattle.v8_formats.specs.declared.instr.Operand.{Operand}
-use Rattle.v8_formats.specs.declared.instr.Operand.TheVariants.{Register, Immediate}
-use Rattle.v8_meaning.specs.Admitted.{is_admitted}
-use Rattle.v8_meaning.specs.Operands.{address, second, sum_address}
-use Rattle.v8_meaning.specs.declared.operation.Operation.{Operation}
-use Rattle.v8_windows.specs.Windows.{Windows, reg_of}
-use Rattle.v8_mmu.specs.declared.translation.MmuRegs.{MmuRegs}
-use Rattle.v8_state.specs.Effects.{address_of, effect}
-use Rattle.v8_state.specs.Traps.{first_trap}
+use Rattle.v8_core.specs.Operand.{Operand}
+use Rattle.v8_core.specs.Operand.TheVariants.{Register, Immediate}
+use Rattle.v8_core.specs.Admitted.{is_admitted}
+use Rattle.v8_core.specs.Operands.{address, second, sum_address}
+use Rattle.v8_core.specs.Operation.{Operation}
+use Rattle.v8_core.specs.Windows.{Windows, reg_of}
+use Rattle.v8_core.specs.MmuRegs.{MmuRegs}
+use Rattle.v8_core.specs.Effects.{address_of, effect}
+use Rattle.v8_core.specs.Traps.{first_trap}
 use Rattle.v8_core.specs.declared.turn.Event.TheVariants.{Ran}
 use Rattle.v8_core.specs.Accesses.{World, quiet, world}
 use Rattle.v8_core.specs.Steps.{acts, next, ran_event, turn_of}
-use Rattle.v8_memory.specs.Board.{Device, board}
+use Rattle.v8_loaded.specs.Board.{Device, board}
 use Rattle.v8_loaded.specs.Places.{code_marked}
 use Rattle.v8_loaded.specs.Users.{AsksFor, RunsUser}
 use Rattle.v8_loaded.proofs.Users.{user_runs}
 use Rattle.v8_board.specs.Start.{pages_of}
-use Rattle.sbx_image.specs.declared.parts.Parts.{Parts}
+use Rattle.sbx_flat.specs.Parts.{Parts}
 use Rattle.sbx_flat.specs.Effects.{does}
 use Rattle.sbx_flat.specs.Registers.{still}
 use Rattle.sbx_flat.specs.States.{Fails, State, Turn, reg}

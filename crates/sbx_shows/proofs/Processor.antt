@@ -2,28 +2,28 @@
 use Rattle.std.proofs.Common.{◌≡◌, ℕ, ◌*◌, ◌%◌, ◌^◌, true, false, Some, None, refl, ap, arith}
 use Rattle.std.specs.Prelude.{◌==◌}
 use Rattle.std.proofs.lemmas.Bool.Decides.{nat_tests}
-use Rattle.v8_word.specs.declared.Icc.{Icc}
-use Rattle.v8_formats.specs.declared.instr.Branch.{Branch}
-use Rattle.v8_formats.specs.declared.instr.Operand.{Operand}
-use Rattle.v8_formats.specs.declared.instr.Three.{Three}
-use Rattle.v8_formats.specs.declared.instr.Two.{Two}
-use Rattle.v8_formats.specs.declared.instr.Upper.{Upper}
-use Rattle.v8_alu.specs.declared.Division.{Division}
-use Rattle.v8_alu.specs.declared.Op.{Op}
-use Rattle.v8_alu.specs.declared.TaggedOp.{TaggedOp}
-use Rattle.v8_alu.specs.declared.AluOut.{AluOut}
-use Rattle.v8_alu.specs.Outcomes.{outcome}
-use Rattle.v8_meaning.specs.Operands.{following, target}
-use Rattle.v8_meaning.specs.Transfers.{bytes_in, size_of, splits_pair}
-use Rattle.v8_meaning.specs.declared.operation.Operation.TheVariants.{Compute, Divide, TaggedTrap, SetHigh, ReadY, WriteY, Save, Restore, Call, BranchOnCondition, JumpAndLink}
-use Rattle.v8_meaning.specs.declared.operation.Operation.TheVariants as operation
-use Rattle.v8_meaning.specs.declared.operation.Space.TheVariants.{Normal}
-use Rattle.v8_meaning.specs.declared.operation.Transfer.{Transfer}
-use Rattle.v8_windows.specs.Windows.{above, below, can_enter, with_reg}
-use Rattle.v8_state.specs.Effects.{address_of, advanced, branched, computed, computed_from, effect, jumped, quotient_from, reg, second_of, state_operand, tagged_from, written}
-use Rattle.v8_state.specs.Traps.{applies, first_trap, memory_applies}
-use Rattle.v8_state.specs.declared.state.Control.{Control}
-use Rattle.v8_state.specs.declared.state.Cpu.{Cpu}
+use Rattle.v8_core.specs.Icc.{Icc}
+use Rattle.v8_core.specs.Branch.{Branch}
+use Rattle.v8_core.specs.Operand.{Operand}
+use Rattle.v8_core.specs.Three.{Three}
+use Rattle.v8_core.specs.Two.{Two}
+use Rattle.v8_core.specs.Upper.{Upper}
+use Rattle.v8_core.specs.Division.{Division}
+use Rattle.v8_core.specs.Op.{Op}
+use Rattle.v8_core.specs.TaggedOp.{TaggedOp}
+use Rattle.v8_core.specs.AluOut.{AluOut}
+use Rattle.v8_core.specs.Outcomes.{outcome}
+use Rattle.v8_core.specs.Operands.{following, target}
+use Rattle.v8_core.specs.Transfers.{bytes_in, size_of, splits_pair}
+use Rattle.v8_core.specs.Operation.TheVariants.{Compute, Divide, TaggedTrap, SetHigh, ReadY, WriteY, Save, Restore, Call, BranchOnCondition, JumpAndLink}
+use Rattle.v8_core.specs.Operation.TheVariants as operation
+use Rattle.v8_core.specs.Space.TheVariants.{Normal}
+use Rattle.v8_core.specs.Transfer.{Transfer}
+use Rattle.v8_core.specs.Windows.{above, below, can_enter, with_reg}
+use Rattle.v8_core.specs.Effects.{address_of, advanced, branched, computed, computed_from, effect, jumped, quotient_from, reg, second_of, state_operand, tagged_from, written}
+use Rattle.v8_core.specs.Traps.{applies, first_trap, memory_applies}
+use Rattle.v8_core.specs.Control.{Control}
+use Rattle.v8_core.specs.Cpu.{Cpu}
 
 -- on to the next instruction, with these codes and Y
 abbrev pub moved_on : Control → Icc → ℕ → Control

@@ -3,29 +3,29 @@ use Rattle.std.proofs.Common.{◌≡◌, ◌≢◌, ℕ, ◌^◌, ◌<◌, Bool,
 use Rattle.std.specs.Prelude.{bit_xor, ◌==◌, ◌||◌, if◌then◌else◌}
 use Rattle.std.proofs.lemmas.Bool.Decides.{nat_tests}
 use Rattle.std.proofs.lemmas.Nat.{xor_lt}
-use Rattle.v8_word.specs.declared.Icc.{Icc}
-use Rattle.v8_formats.specs.declared.instr.Three.{Three}
-use Rattle.v8_formats.specs.declared.instr.Two.{Two}
-use Rattle.v8_formats.specs.declared.instr.Upper.{Upper}
-use Rattle.v8_alu.specs.declared.AluOut.{AluOut}
-use Rattle.v8_alu.specs.declared.Division.{Division}
-use Rattle.v8_alu.specs.declared.Op.{Op}
-use Rattle.v8_alu.specs.declared.TaggedOp.{TaggedOp}
-use Rattle.v8_alu.specs.Outcomes.{division_of, outcome, tagged_outcome}
-use Rattle.v8_meaning.specs.Admitted.{is_admitted}
-use Rattle.v8_meaning.specs.declared.operation.Operation.{Operation}
-use Rattle.v8_meaning.specs.declared.operation.Operation.TheVariants.{Compute, Divide, TaggedTrap, SetHigh, ReadY, WriteY}
-use Rattle.v8_windows.specs.Windows.{reg_of}
-use Rattle.v8_mmu.specs.declared.translation.MmuRegs.{MmuRegs}
-use Rattle.v8_state.specs.Effects.{effect, quotient_from, second_of, state_operand, tagged_from}
-use Rattle.v8_state.specs.Traps.{first_trap}
-use Rattle.v8_state.specs.declared.state.Cpu.{Cpu}
+use Rattle.v8_core.specs.Icc.{Icc}
+use Rattle.v8_core.specs.Three.{Three}
+use Rattle.v8_core.specs.Two.{Two}
+use Rattle.v8_core.specs.Upper.{Upper}
+use Rattle.v8_core.specs.AluOut.{AluOut}
+use Rattle.v8_core.specs.Division.{Division}
+use Rattle.v8_core.specs.Op.{Op}
+use Rattle.v8_core.specs.TaggedOp.{TaggedOp}
+use Rattle.v8_core.specs.Outcomes.{division_of, outcome, tagged_outcome}
+use Rattle.v8_core.specs.Admitted.{is_admitted}
+use Rattle.v8_core.specs.Operation.{Operation}
+use Rattle.v8_core.specs.Operation.TheVariants.{Compute, Divide, TaggedTrap, SetHigh, ReadY, WriteY}
+use Rattle.v8_core.specs.Windows.{reg_of}
+use Rattle.v8_core.specs.MmuRegs.{MmuRegs}
+use Rattle.v8_core.specs.Effects.{effect, quotient_from, second_of, state_operand, tagged_from}
+use Rattle.v8_core.specs.Traps.{first_trap}
+use Rattle.v8_core.specs.Cpu.{Cpu}
 use Rattle.v8_core.specs.declared.turn.Event.TheVariants.{Ran}
 use Rattle.v8_core.specs.Accesses.{World, quiet, world}
 use Rattle.v8_core.specs.Steps.{acts, turn_of}
-use Rattle.v8_memory.specs.Board.{Device, board}
+use Rattle.v8_loaded.specs.Board.{Device, board}
 use Rattle.v8_loaded.specs.Users.{AsksFor}
-use Rattle.sbx_image.specs.declared.parts.Parts.{Parts}
+use Rattle.sbx_flat.specs.Parts.{Parts}
 use Rattle.sbx_flat.specs.Effects.{does, high_word, operand_value, writes, writes_result, writes_some}
 use Rattle.sbx_flat.specs.Registers.{still}
 use Rattle.sbx_flat.specs.States.{Fails, Goes, State, Turn, advanced, reg, with_reg as flat_with_reg}

@@ -2,19 +2,19 @@
 use Rattle.std.proofs.Common.{◌≡◌, ℕ, zero, suc, ◌+◌, ◌-◌, ◌/◌, ◌^◌, ◌<◌, ◌≤◌, ◌⊎◌, inl, inr, Bool, true, false, not, length, Option, Some, None, refl, sym, ap, ◌∙◌, subst, arith}
 use Rattle.std.specs.Prelude.{◌==◌, ◌||◌}
 use Rattle.std.proofs.lemmas.Bool.Decides.{nat_tests}
-use Rattle.v8_meaning.specs.Admitted.{is_admitted}
-use Rattle.v8_meaning.specs.Transfers.{bytes_in}
-use Rattle.v8_meaning.specs.declared.operation.Operation.{Operation}
-use Rattle.v8_meaning.specs.declared.operation.Operation.TheVariants.{Restore, Save}
-use Rattle.v8_mmu.specs.declared.bus.Stop.{Stop}
-use Rattle.v8_mmu.specs.declared.translation.MmuRegs.{MmuRegs}
+use Rattle.v8_core.specs.Admitted.{is_admitted}
+use Rattle.v8_core.specs.Transfers.{bytes_in}
+use Rattle.v8_core.specs.Operation.{Operation}
+use Rattle.v8_core.specs.Operation.TheVariants.{Restore, Save}
+use Rattle.v8_core.specs.Stop.{Stop}
+use Rattle.v8_core.specs.MmuRegs.{MmuRegs}
 use Rattle.v8_core.specs.declared.turn.DataAccess.{DataAccess}
 use Rattle.v8_core.specs.declared.turn.Event.{Event}
 use Rattle.v8_core.specs.declared.turn.Event.TheVariants.{Annulled, ErrorMode, Ran, Stopped, Trapped}
 use Rattle.v8_core.specs.declared.turn.Turn.{Turn}
 use Rattle.v8_core.specs.Accesses.{World, is_user}
 use Rattle.v8_core.specs.Steps.{attempts, ends, goes_on, next, tries}
-use Rattle.v8_memory.specs.Board.{Device, board}
+use Rattle.v8_loaded.specs.Board.{Device, board}
 use Rattle.v8_loaded.specs.Turns.{IsHandlers, ReachesArea, after, turn_at}
 use Rattle.v8_loaded.specs.Users.{AsksFor, IsHandled}
 use Rattle.v8_spill.specs.Laws.{stack_pointer}
@@ -23,7 +23,7 @@ use Rattle.v8_board.specs.declared.outcome.Counts.{Counts}
 use Rattle.v8_board.specs.Counting.{counted, counts_after, with_turn}
 use Rattle.v8_board.specs.Seen.{ending_of}
 use Rattle.v8_board.specs.Start.{pages_of}
-use Rattle.sbx_image.specs.declared.parts.Parts.{Parts}
+use Rattle.sbx_flat.specs.Parts.{Parts}
 use Rattle.sbx_flat.specs.Registers.{Registers}
 use Rattle.sbx_flat.specs.States.{State}
 use Rattle.sbx_flat.specs.Traffic.{after_operation}

@@ -2,16 +2,16 @@
 use Rattle.std.proofs.Common.{◌≡◌, ◌≢◌, ℕ, zero, suc, ◌+◌, ◌-◌, ◌%◌, ◌^◌, ◌<◌, ◌≤◌, inl, inr, Bool, true, false, List, [], ◌∷◌, ◌++◌, length, Some, None, refl, sym, ap, ◌∙◌, subst, arith}
 use Rattle.std.specs.Prelude.{slice_get, if◌then◌else◌}
 use Rattle.std.specs.List.{AllByRecursion}
-use Rattle.v8_meaning.specs.Admitted.{is_admitted}
-use Rattle.v8_meaning.specs.Operands.{following}
-use Rattle.v8_windows.specs.Windows.{IsFile, Windows, below, can_enter, reg_of, with_word, word_at}
-use Rattle.v8_mmu.specs.declared.translation.MmuRegs.{MmuRegs}
+use Rattle.v8_core.specs.Admitted.{is_admitted}
+use Rattle.v8_core.specs.Operands.{following}
+use Rattle.v8_core.specs.Windows.{IsFile, Windows, below, can_enter, reg_of, with_word, word_at}
+use Rattle.v8_core.specs.MmuRegs.{MmuRegs}
 use Rattle.v8_core.specs.declared.turn.Event.{Event}
 use Rattle.v8_core.specs.Accesses.{World, world}
-use Rattle.v8_layout.specs.Layout.{IsLoaded}
+use Rattle.v8_loaded.specs.Layout.{IsLoaded}
 use Rattle.v8_layout.proofs.Marks.{system_markable}
-use Rattle.v8_memory.specs.Board.{Device, board, gets, got_from}
-use Rattle.v8_memory.specs.Input.{next_byte}
+use Rattle.v8_loaded.specs.Board.{Device, board, gets, got_from}
+use Rattle.v8_loaded.specs.Input.{next_byte}
 use Rattle.v8_loaded.specs.Turns.{Leads, after, turn_at}
 use Rattle.v8_loaded.specs.Users.{RunsUser}
 use Rattle.v8_loaded.proofs.Fetches.{device_kept as device_loaded, table_kept}
@@ -24,7 +24,7 @@ use Rattle.v8_board.specs.Counting.{counted, counts_after, with_turn}
 use Rattle.v8_board.specs.Seen.{ending_of}
 use Rattle.v8_board.specs.Start.{pages_of}
 use Rattle.v8_board.proofs.Placed.{pages_few}
-use Rattle.sbx_image.specs.declared.parts.Parts.{Parts}
+use Rattle.sbx_flat.specs.Parts.{Parts}
 use Rattle.sbx_flat.specs.Effects.{declares, does, exits, gets as flat_gets, puts}
 use Rattle.sbx_flat.specs.Registers.{Registers, still}
 use Rattle.sbx_flat.specs.Runs.{AreBytes}

@@ -4,7 +4,7 @@ use Rattle.std.specs.Prelude.{ℤ, pos, negsuc}
 use Rattle.std.proofs.Math.Nat.{div-le_self}
 use Rattle.std.specs.Int.{cast_unsigned, int_div_euclid, w32, w64}
 use Rattle.std.proofs.lemmas.Int.{fits_signed_mul}
-use Rattle.v8_alu.specs.Results.{nearest_word, shifted_right_signed, signed, signed_product}
+use Rattle.v8_core.specs.Results.{nearest_word, shifted_right_signed, signed, signed_product}
 
 small_abs : (a : ℕ) → a < 2 ^ 32 → unsigned_abs (signed a) ≤ 2 ^ 31
 small_abs a p = search rules

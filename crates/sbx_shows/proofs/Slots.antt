@@ -2,17 +2,17 @@
 use Rattle.std.proofs.Common.{◌≡◌, ◌≢◌, ℕ, zero, suc, ◌+◌, ◌-◌, ◌*◌, ◌/◌, ◌%◌, ◌^◌, ◌<◌, ◌≤◌, ◌⊎◌, inl, inr, Bool, true, false, List, length, Some, refl, sym, ap, ◌∙◌, subst, arith}
 use Rattle.std.specs.Prelude.{◌==◌, if◌then◌else◌}
 use Rattle.std.proofs.lemmas.Bool.Decides.{nat_tests}
-use Rattle.v8_mmu.specs.Ram.{entry_of, with_entry}
-use Rattle.v8_mmu.specs.Paths.{marked_ram}
+use Rattle.v8_core.specs.Ram.{entry_of, with_entry}
+use Rattle.v8_core.specs.Paths.{marked_ram}
 use Rattle.v8_mmu.proofs.RamLemmas.{Within, entry_is, entry_of-with_entry}
 use Rattle.v8_mmu.proofs.RamMore.{byte_beside_entry, entry_elsewhere}
 use Rattle.v8_core.specs.Accesses.{World, world}
 use Rattle.v8_layout.proofs.Marks.{Markable, mark_keeps, sides, stack_markable, store_keeps}
-use Rattle.v8_memory.specs.Board.{Device}
+use Rattle.v8_loaded.specs.Board.{Device}
 use Rattle.v8_loaded.specs.Places.{stack_entry_place}
 use Rattle.v8_board.specs.Start.{pages_of}
 use Rattle.v8_board.proofs.Placed.{pages_few}
-use Rattle.sbx_image.specs.declared.parts.Parts.{Parts}
+use Rattle.sbx_flat.specs.Parts.{Parts}
 use Rattle.sbx_flat.specs.Registers.{Registers, with_slot}
 use Rattle.sbx_flat.specs.States.{State}
 use Rattle.sbx_flat.specs.Traffic.{is_own_data_page}

@@ -2,13 +2,13 @@
 use Rattle.std.proofs.Common.{◌≡◌, ◌≢◌, ℕ, ◌+◌, ◌-◌, ◌*◌, ◌/◌, ◌%◌, ◌<◌, ◌≤◌, ◌⊎◌, inl, inr, Bool, true, List, length, sym, ap, ◌∙◌, subst, arith}
 use Rattle.std.specs.Prelude.{nat_le, if◌then◌else◌}
 use Rattle.std.proofs.lemmas.Bool.Decides.{nat_tests}
-use Rattle.v8_mmu.specs.Ram.{entry_of}
-use Rattle.v8_layout.specs.Layout.{IsLoaded}
+use Rattle.v8_core.specs.Ram.{entry_of}
+use Rattle.v8_loaded.specs.Layout.{IsLoaded}
 use Rattle.v8_loaded.specs.Areas.{HasRoom, area_of}
 use Rattle.v8_loaded.specs.Places.{code_marked, stack_entry_place}
 use Rattle.v8_board.specs.Marks.{bit_of}
 use Rattle.v8_board.specs.Start.{at_most, pages_of}
-use Rattle.sbx_image.specs.declared.parts.Parts.{Parts}
+use Rattle.sbx_flat.specs.Parts.{Parts}
 use Rattle.sbx_flat.specs.Registers.{Registers}
 use Rattle.sbx_flat.specs.Traffic.{is_own_data_page}
 use Rattle.sbx_shows.specs.Marks.{is_own_page}

@@ -2,32 +2,32 @@
 use Rattle.std.proofs.Common.{◌≡◌, ℕ, ◌+◌, ◌-◌, ◌*◌, ◌/◌, ◌%◌, ◌^◌, ◌<◌, ◌≤◌, Bool, true, false, not, List, length, Option, Some, None, Ok, refl, sym, ap, ◌∙◌, subst, arith}
 use Rattle.std.specs.Prelude.{◌==◌, ◌&&◌, nat_lt, if◌then◌else◌}
 use Rattle.std.proofs.lemmas.Bool.Decides.{nat_tests}
-use Rattle.v8_word.specs.declared.Size.{Size}
-use Rattle.v8_word.specs.declared.Size.TheVariants as sizes
-use Rattle.v8_formats.specs.declared.instr.Operand.{Operand}
-use Rattle.v8_meaning.specs.Admitted.{is_admitted}
-use Rattle.v8_meaning.specs.Operands.{address}
-use Rattle.v8_meaning.specs.Spaces.{is_normal}
-use Rattle.v8_meaning.specs.Transfers.{bytes_in, received, sent, size_of, splits_pair, writes_memory}
-use Rattle.v8_meaning.specs.declared.operation.Exchange.TheVariants as exchanges
-use Rattle.v8_meaning.specs.declared.operation.Loading.TheVariants as loadings
-use Rattle.v8_meaning.specs.declared.operation.MemoryOperand.{MemoryOperand}
-use Rattle.v8_meaning.specs.declared.operation.Operation.{Operation}
-use Rattle.v8_meaning.specs.declared.operation.Operation.TheVariants as operation
-use Rattle.v8_meaning.specs.declared.operation.Space.{Space}
-use Rattle.v8_meaning.specs.declared.operation.Space.TheVariants.{Alternate, Missing, Normal}
-use Rattle.v8_meaning.specs.declared.operation.Transfer.{Transfer}
-use Rattle.v8_meaning.specs.declared.operation.Transfer.TheVariants.{Load, Store, Exchange}
-use Rattle.v8_mmu.specs.Meaning.{limit_of}
-use Rattle.v8_mmu.specs.Permissions.{permits, rights_of}
-use Rattle.v8_mmu.specs.Paths.{marked_ram}
-use Rattle.v8_mmu.specs.Ram.{entry_of, number_at as board_number}
-use Rattle.v8_mmu.specs.Walked.{Page, root_of, walked}
-use Rattle.v8_mmu.specs.declared.access.Access.{Access}
-use Rattle.v8_mmu.specs.declared.translation.MmuRegs.{MmuRegs}
-use Rattle.v8_windows.specs.Windows.{reg_of}
-use Rattle.v8_state.specs.Effects.{address_of, advanced as board_advanced, taken, with_regs as board_with_regs}
-use Rattle.v8_state.specs.declared.state.Cpu.{Cpu}
+use Rattle.v8_core.specs.Size.{Size}
+use Rattle.v8_core.specs.Size.TheVariants as sizes
+use Rattle.v8_core.specs.Operand.{Operand}
+use Rattle.v8_core.specs.Admitted.{is_admitted}
+use Rattle.v8_core.specs.Operands.{address}
+use Rattle.v8_core.specs.Spaces.{is_normal}
+use Rattle.v8_core.specs.Transfers.{bytes_in, received, sent, size_of, splits_pair, writes_memory}
+use Rattle.v8_core.specs.Exchange.TheVariants as exchanges
+use Rattle.v8_core.specs.Loading.TheVariants as loadings
+use Rattle.v8_core.specs.MemoryOperand.{MemoryOperand}
+use Rattle.v8_core.specs.Operation.{Operation}
+use Rattle.v8_core.specs.Operation.TheVariants as operation
+use Rattle.v8_core.specs.Space.{Space}
+use Rattle.v8_core.specs.Space.TheVariants.{Alternate, Missing, Normal}
+use Rattle.v8_core.specs.Transfer.{Transfer}
+use Rattle.v8_core.specs.Transfer.TheVariants.{Load, Store, Exchange}
+use Rattle.v8_core.specs.Meaning.{limit_of}
+use Rattle.v8_core.specs.Permissions.{permits, rights_of}
+use Rattle.v8_core.specs.Paths.{marked_ram}
+use Rattle.v8_core.specs.Ram.{entry_of, number_at as board_number}
+use Rattle.v8_core.specs.Walked.{Page, root_of, walked}
+use Rattle.v8_core.specs.Access.{Access}
+use Rattle.v8_core.specs.MmuRegs.{MmuRegs}
+use Rattle.v8_core.specs.Windows.{reg_of}
+use Rattle.v8_core.specs.Effects.{address_of, advanced as board_advanced, taken, with_regs as board_with_regs}
+use Rattle.v8_core.specs.Cpu.{Cpu}
 use Rattle.v8_core.specs.declared.access.Moved.{Moved}
 use Rattle.v8_core.specs.declared.turn.DataAccess.{DataAccess}
 use Rattle.v8_core.specs.declared.turn.Event.TheVariants.{Ran}
@@ -36,14 +36,14 @@ use Rattle.v8_core.specs.Accesses.{World, data_kind, moving, transfer_ends, tran
 use Rattle.v8_core.specs.Memory.{Memory, answers, move_answered, move_through, moves}
 use Rattle.v8_core.specs.Steps.{acts, next, ran_event, turn_of}
 use Rattle.v8_layout.proofs.Map.{stack_at}
-use Rattle.v8_memory.specs.Board.{Device, board, device_base}
+use Rattle.v8_loaded.specs.Board.{Device, board, device_base}
 use Rattle.v8_loaded.specs.Places.{stack_entry_place}
 use Rattle.v8_loaded.specs.Users.{AsksFor}
 use Rattle.v8_loaded.proofs.Fetches.{walk_at}
 use Rattle.v8_loaded.proofs.Users.{user_runs}
 use Rattle.v8_board.specs.Start.{pages_of}
 use Rattle.v8_board.proofs.Placed.{pages_few}
-use Rattle.sbx_image.specs.declared.parts.Parts.{Parts}
+use Rattle.sbx_flat.specs.Parts.{Parts}
 use Rattle.sbx_flat.specs.Effects.{does, is_stack_pointer, leaves_in_data, leaves_in_slot, slot_of, takes, transfers_data, transfers_in, with_regs}
 use Rattle.sbx_flat.specs.Memory.{number_at}
 use Rattle.sbx_flat.specs.Registers.{still}

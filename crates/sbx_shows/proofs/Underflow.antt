@@ -1,14 +1,14 @@
 -- A RESTORE that finds its window marked: the 24 turns of its trap keep what the board shows, with one call more in windows.
 use Rattle.std.proofs.Common.{◌≡◌, ℕ, zero, suc, ◌+◌, ◌-◌, ◌*◌, ◌%◌, ◌^◌, ◌<◌, ◌≤◌, inl, List, Some, refl, sym, ap, ◌∙◌, subst, arith}
 use Rattle.std.specs.Prelude.{slice_index}
-use Rattle.v8_formats.specs.declared.instr.Three.{Three}
-use Rattle.v8_meaning.specs.declared.operation.Operation.TheVariants.{Restore}
-use Rattle.v8_mmu.specs.Ram.{entry_of}
-use Rattle.v8_mmu.specs.declared.translation.MmuRegs.{MmuRegs}
-use Rattle.v8_windows.specs.Windows.{word_at}
-use Rattle.v8_state.specs.declared.state.Control.{Control}
+use Rattle.v8_core.specs.Three.{Three}
+use Rattle.v8_core.specs.Operation.TheVariants.{Restore}
+use Rattle.v8_core.specs.Ram.{entry_of}
+use Rattle.v8_core.specs.MmuRegs.{MmuRegs}
+use Rattle.v8_core.specs.Windows.{word_at}
+use Rattle.v8_core.specs.Control.{Control}
 use Rattle.v8_core.specs.Accesses.{World}
-use Rattle.v8_memory.specs.Board.{Device, board}
+use Rattle.v8_loaded.specs.Board.{Device, board}
 use Rattle.v8_loaded.specs.Areas.{HasFrame}
 use Rattle.v8_loaded.specs.Places.{entered_window}
 use Rattle.v8_loaded.specs.Turns.{after}
@@ -17,7 +17,7 @@ use Rattle.v8_refill.specs.Laws.{Handled, Refilled, Underflows, next_window, sta
 use Rattle.v8_refill.proofs.Law.{underflow_law}
 use Rattle.v8_board.specs.Start.{pages_of}
 use Rattle.v8_board.proofs.Placed.{pages_few}
-use Rattle.sbx_image.specs.declared.parts.Parts.{Parts}
+use Rattle.sbx_flat.specs.Parts.{Parts}
 use Rattle.sbx_flat.specs.States.{State}
 use Rattle.sbx_shows.specs.Calls.{base, cell, depth}
 use Rattle.sbx_shows.specs.Shows.{HasStack, Shows, ShowsCalls, ShowsControl, ShowsData, ShowsDevice, ShowsSaved, ShowsSlots, window}

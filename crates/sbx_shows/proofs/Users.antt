@@ -1,21 +1,21 @@
 -- A turn of user code that writes a register, whatever it loads: both machines go on.
 use Rattle.std.proofs.Common.{◌≡◌, ◌≢◌, ℕ, ◌+◌, ◌*◌, ◌/◌, ◌%◌, ◌^◌, ◌<◌, Bool, false, List, refl, sym, ap, ◌∙◌, subst, arith}
-use Rattle.v8_word.specs.declared.Icc.{Icc}
-use Rattle.v8_meaning.specs.Operands.{following}
-use Rattle.v8_windows.specs.Windows.{with_reg}
-use Rattle.v8_mmu.specs.Walked.{root_of}
-use Rattle.v8_mmu.specs.declared.translation.MmuRegs.{MmuRegs}
-use Rattle.v8_state.specs.Effects.{advanced as board_advanced}
-use Rattle.v8_state.specs.declared.state.Control.{Control}
+use Rattle.v8_core.specs.Icc.{Icc}
+use Rattle.v8_core.specs.Operands.{following}
+use Rattle.v8_core.specs.Windows.{with_reg}
+use Rattle.v8_core.specs.Walked.{root_of}
+use Rattle.v8_core.specs.MmuRegs.{MmuRegs}
+use Rattle.v8_core.specs.Effects.{advanced as board_advanced}
+use Rattle.v8_core.specs.Control.{Control}
 use Rattle.v8_core.specs.Accesses.{World, world}
-use Rattle.v8_layout.specs.Layout.{IsLoaded}
+use Rattle.v8_loaded.specs.Layout.{IsLoaded}
 use Rattle.v8_layout.proofs.Marks.{code_markable}
-use Rattle.v8_memory.specs.Board.{Device}
+use Rattle.v8_loaded.specs.Board.{Device}
 use Rattle.v8_services.specs.Services.{RunsUser, code_marked}
 use Rattle.v8_loaded.proofs.Fetches.{code_kept}
 use Rattle.v8_board.specs.Start.{pages_of}
 use Rattle.v8_board.proofs.Placed.{pages_few}
-use Rattle.sbx_image.specs.declared.parts.Parts.{Parts}
+use Rattle.sbx_flat.specs.Parts.{Parts}
 use Rattle.sbx_flat.specs.Registers.{written}
 use Rattle.sbx_flat.specs.Runs.{AreBytes}
 use Rattle.sbx_flat.specs.States.{State, advanced, with_reg as flat_with_reg, reg}

@@ -2,22 +2,22 @@
 use Rattle.std.proofs.Common.{◌≡◌, ℕ, zero, suc, ◌+◌, ◌-◌, Bool, true, false, refl, sym, ap, ◌∙◌, subst, arith}
 use Rattle.std.specs.Prelude.{◌==◌, ◌&&◌, if◌then◌else◌}
 use Rattle.std.proofs.lemmas.Bool.Decides.{nat_tests}
-use Rattle.v8_word.specs.declared.Cond.{Cond}
-use Rattle.v8_word.specs.declared.Cond.TheVariants.{Always}
-use Rattle.v8_formats.specs.declared.instr.Operand.{Operand}
-use Rattle.v8_formats.specs.declared.instr.Operand.TheVariants.{Register, Immediate}
-use Rattle.v8_formats.specs.declared.instr.Trap.{Trap}
-use Rattle.v8_meaning.specs.Admitted.{is_admitted, is_immediate}
-use Rattle.v8_meaning.specs.Operands.{is_always}
-use Rattle.v8_meaning.specs.declared.operation.Operation.{Operation}
-use Rattle.v8_meaning.specs.declared.operation.Operation.TheVariants.{BranchOnCondition, Call, Compute, Coprocessor, Divide, FloatingPoint, Illegal, JumpAndLink, Nothing, ReadState, ReadY, Restore, ReturnFromTrap, Save, SetHigh, TaggedTrap, TrapOnCondition, WriteState, WriteY}
-use Rattle.v8_meaning.specs.declared.operation.Operation.TheVariants as operation
-use Rattle.v8_mmu.specs.declared.translation.MmuRegs.{MmuRegs}
+use Rattle.v8_core.specs.Cond.{Cond}
+use Rattle.v8_core.specs.Cond.TheVariants.{Always}
+use Rattle.v8_core.specs.Operand.{Operand}
+use Rattle.v8_core.specs.Operand.TheVariants.{Register, Immediate}
+use Rattle.v8_core.specs.Trap.{Trap}
+use Rattle.v8_core.specs.Admitted.{is_admitted, is_immediate}
+use Rattle.v8_core.specs.Operands.{is_always}
+use Rattle.v8_core.specs.Operation.{Operation}
+use Rattle.v8_core.specs.Operation.TheVariants.{BranchOnCondition, Call, Compute, Coprocessor, Divide, FloatingPoint, Illegal, JumpAndLink, Nothing, ReadState, ReadY, Restore, ReturnFromTrap, Save, SetHigh, TaggedTrap, TrapOnCondition, WriteState, WriteY}
+use Rattle.v8_core.specs.Operation.TheVariants as operation
+use Rattle.v8_core.specs.MmuRegs.{MmuRegs}
 use Rattle.v8_core.specs.Accesses.{World}
-use Rattle.v8_memory.specs.Board.{Device}
+use Rattle.v8_loaded.specs.Board.{Device}
 use Rattle.v8_loaded.specs.Users.{AsksFor}
 use Rattle.v8_services.specs.Services.{calls}
-use Rattle.sbx_image.specs.declared.parts.Parts.{Parts}
+use Rattle.sbx_flat.specs.Parts.{Parts}
 use Rattle.sbx_flat.specs.Effects.{declares, does}
 use Rattle.sbx_flat.specs.Registers.{still}
 use Rattle.sbx_flat.specs.States.{Fails, State}

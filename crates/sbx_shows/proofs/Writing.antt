@@ -3,8 +3,8 @@ use Rattle.std.proofs.Common.{◌≡◌, ◌≢◌, ℕ, zero, suc, ◌+◌, ◌
 use Rattle.std.specs.Prelude.{slice_index, slice_set, ◌==◌, ◌&&◌, nat_lt, if◌then◌else◌}
 use Rattle.std.proofs.lemmas.Bool.Decides.{nat_tests}
 use Rattle.std.proofs.lemmas.List.{get_or-set_same, get_or-set_other}
-use Rattle.v8_mmu.specs.Ram.{entry_of}
-use Rattle.v8_windows.specs.Windows.{Windows, IsFile, above, with_reg, word_at}
+use Rattle.v8_core.specs.Ram.{entry_of}
+use Rattle.v8_core.specs.Windows.{Windows, IsFile, above, with_reg, word_at}
 use Rattle.v8_windows.proofs.AfterWrites.{written_at, written_current}
 use Rattle.sbx_flat.specs.Registers.{Frame, Registers, Words, with_in, with_word as with_number, written}
 use Rattle.sbx_shows.specs.Calls.{base, cell, depth, slot}

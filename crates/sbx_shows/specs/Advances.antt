@@ -1,13 +1,13 @@
 -- A step of the flat machine as turns of the board: what they count, what they may do, and what is shown at each moment.
 use Rattle.std.specs.Prelude.{ℕ, zero, suc, ◌≡◌, ◌⊎◌, ◌+◌, ◌-◌, ◌^◌, ◌<◌, ◌≤◌, true, None}
-use Rattle.v8_mmu.specs.declared.translation.MmuRegs.{MmuRegs}
+use Rattle.v8_core.specs.MmuRegs.{MmuRegs}
 use Rattle.v8_core.specs.Accesses.{World}
-use Rattle.v8_memory.specs.Board.{Device, board}
+use Rattle.v8_loaded.specs.Board.{Device, board}
 use Rattle.v8_loaded.specs.Turns.{after, turn_at}
 use Rattle.v8_board.specs.declared.outcome.Counts.{Counts}
 use Rattle.v8_board.specs.Counting.{counts_after}
 use Rattle.v8_board.specs.Seen.{ending_of}
-use Rattle.sbx_image.specs.declared.parts.Parts.{Parts}
+use Rattle.sbx_flat.specs.Parts.{Parts}
 use Rattle.sbx_flat.specs.Runs.{place_of}
 use Rattle.sbx_flat.specs.States.{State}
 use Rattle.sbx_flat.specs.Traffic.{after_place}

@@ -1,16 +1,16 @@
 -- The window law: what follows of a moment that the board shows, and the turns of user code that keep it.
 use Rattle.std.specs.Prelude.{ℕ, ◌≡◌, ◌+◌, ◌-◌, ◌<◌, true}
-use Rattle.v8_formats.specs.declared.instr.Three.{Three}
-use Rattle.v8_meaning.specs.declared.operation.Operation.{Operation}
-use Rattle.v8_meaning.specs.declared.operation.Operation.TheVariants.{Restore, Save}
-use Rattle.v8_windows.specs.Windows.{reg_of}
-use Rattle.v8_mmu.specs.declared.translation.MmuRegs.{MmuRegs}
+use Rattle.v8_core.specs.Three.{Three}
+use Rattle.v8_core.specs.Operation.{Operation}
+use Rattle.v8_core.specs.Operation.TheVariants.{Restore, Save}
+use Rattle.v8_core.specs.Windows.{reg_of}
+use Rattle.v8_core.specs.MmuRegs.{MmuRegs}
 use Rattle.v8_core.specs.declared.turn.Event.TheVariants.{Trapped}
 use Rattle.v8_core.specs.Accesses.{World}
-use Rattle.v8_memory.specs.Board.{Device, board}
+use Rattle.v8_loaded.specs.Board.{Device, board}
 use Rattle.v8_loaded.specs.Turns.{after, turn_at}
 use Rattle.v8_loaded.specs.Users.{AsksFor}
-use Rattle.sbx_image.specs.declared.parts.Parts.{Parts}
+use Rattle.sbx_flat.specs.Parts.{Parts}
 use Rattle.sbx_flat.specs.Runs.{weight_of}
 use Rattle.sbx_flat.specs.States.{State, reg}
 use Rattle.sbx_flat.specs.Turns.{IsWrong}

@@ -1,13 +1,16 @@
 -- What a board with n windows shows of the flat machine, r of whose calls have windows of their own.
 use Rattle.std.specs.Prelude.{ℕ, suc, ◌≡◌, ◌+◌, ◌*◌, ◌-◌, ◌%◌, ◌^◌, ◌<◌, ◌≤◌, true, false, List, [], length, slice_index, Some, None}
-use Rattle.v8_mmu.specs.Ram.{entry_of}
-use Rattle.v8_windows.specs.Windows.{Windows, IsFile, word_at}
-use Rattle.v8_state.specs.declared.state.Control.{Control}
+use Rattle.v8_core.specs.Ram.{entry_of}
+use Rattle.v8_core.specs.Windows.{Windows, IsFile, word_at}
+use Rattle.v8_core.specs.Control.{Control}
 use Rattle.v8_core.specs.Accesses.{World}
-use Rattle.v8_layout.specs.Layout.{IsLoaded}
-use Rattle.v8_memory.specs.Board.{Device}
+use Rattle.v8_map.specs.declared.TheConstants.{PAGE, DATA_START, DATA_END, DATA_PLACE, STACK_END, STACK_PLACE, TRAP_TABLE}
+use Rattle.v8_loaded.specs.Layout.{IsLoaded}
+use Rattle.v8_loaded.specs.AddressMap.{lowered}
+use Rattle.v8_loaded.specs.Board.{Device}
+use Rattle.v8_loaded.specs.Areas.{area_of}
 use Rattle.v8_board.specs.Start.{pages_of}
-use Rattle.sbx_image.specs.declared.parts.Parts.{Parts}
+use Rattle.sbx_flat.specs.Parts.{Parts}
 use Rattle.sbx_flat.specs.Memory.{Bytes}
 use Rattle.sbx_flat.specs.Registers.{Registers}
 use Rattle.sbx_flat.specs.Runs.{AreBytes}
@@ -18,7 +21,7 @@ use Rattle.sbx_shows.specs.Calls.{cell, depth, base, slot}
 -- what an image that is accepted keeps
 pub record Fits (parts : Parts) : Type 0 where
   pub words : length parts.words ≤ 65536
-  pub bytes : length parts.bytes ≤ 0x40000
+  pub bytes : length parts.bytes ≤ DATA_END - DATA_START
   pub stack : parts.stack_pages ≤ 16
 
 -- the window of the call k
@@ -39,40 +42,40 @@ pub record ShowsCalls (n : ℕ) (v : Windows) (file : Registers) (r : ℕ) : Typ
 -- Each call has 64 bytes from its base on, a multiple of 8, in the stack's pages, and below those of every older call.
 pub record IsStacked (pages : ℕ) (file : Registers) : Type 0 where
   pub aligned : (k : ℕ) → k < depth file → base file k % 8 ≡ 0
-  pub low : (k : ℕ) → k < depth file → 0x100000 ≤ base file k + 4096 * pages
-  pub high : (k : ℕ) → k < depth file → base file k + 64 ≤ 0x100000
+  pub low : (k : ℕ) → k < depth file → STACK_END ≤ base file k + PAGE * pages
+  pub high : (k : ℕ) → k < depth file → base file k + 64 ≤ STACK_END
   pub apart : (k i : ℕ) → k < i → i < depth file → base file k + 64 ≤ base file i
 
 -- The calls from the r-th on, that have no window of their own, have their locals and ins in their 64 bytes.
 pub record ShowsSaved (file : Registers) (r : ℕ) (ram : List ℕ) : Type 0 where
-  pub locals : (k j : ℕ) → r ≤ k → k < depth file → j < 8 → entry_of ram (base file k - 0x60000 + 4 * j) ≡ Some (cell file k (8 + j))
-  pub ins : (k j : ℕ) → r ≤ k → k < depth file → j < 8 → entry_of ram (base file k - 0x60000 + 32 + 4 * j) ≡ Some (cell file (suc k) j)
+  pub locals : (k j : ℕ) → r ≤ k → k < depth file → j < 8 → entry_of ram (area_of (base file k) + 4 * j) ≡ Some (cell file k (8 + j))
+  pub ins : (k j : ℕ) → r ≤ k → k < depth file → j < 8 → entry_of ram (area_of (base file k) + 32 + 4 * j) ≡ Some (cell file (suc k) j)
 
 -- where a call has its slots: above its 64 bytes, and below every older call's
 pub record IsSlot (file : Registers) (k a : ℕ) : Type 0 where
   pub aligned : a % 4 ≡ 0
   pub low : base file k + 64 ≤ a
-  pub high : a + 4 ≤ 0x100000
+  pub high : a + 4 ≤ STACK_END
   pub below : (i : ℕ) → k < i → i < depth file → a + 4 ≤ base file i
 
 -- A slot is the word of RAM at its address.
 pub record ShowsSlot (file : Registers) (ram : List ℕ) (k a w : ℕ) : Type 0 where
   pub place : IsSlot file k a
-  pub there : entry_of ram (a - 0x60000) ≡ Some w
+  pub there : entry_of ram (area_of a) ≡ Some w
 
 abbrev pub ShowsSlots : Registers → List ℕ → Type 0
 ShowsSlots file ram = (k a w : ℕ) → k < depth file → slot file k a ≡ Some w → ShowsSlot file ram k a w
 
 -- the words of the stack are words
 abbrev pub HasStack : List ℕ → Type 0
-HasStack ram = (p w : ℕ) → 0x90000 ≤ p → entry_of ram p ≡ Some w → w < 2 ^ 32
+HasStack ram = (p w : ℕ) → STACK_PLACE ≤ p → entry_of ram p ≡ Some w → w < 2 ^ 32
 
 -- A byte of the data is the byte of RAM at its address.
 pub record ShowsByte (parts : Parts) (ram : List ℕ) (a b : ℕ) : Type 0 where
-  pub low : 0x80000 ≤ a
-  pub high : a < 0x80000 + length parts.bytes
+  pub low : DATA_START ≤ a
+  pub high : a < DATA_START + length parts.bytes
   pub small : b < 2 ^ 8
-  pub there : slice_index ram (a - 0x30000) ≡ b
+  pub there : slice_index ram (lowered DATA_START DATA_PLACE a) ≡ b
 
 abbrev pub ShowsData : Parts → Bytes → List ℕ → Type 0
 ShowsData parts memory ram = (a b : ℕ) → memory a ≡ Some b → ShowsByte parts ram a b
@@ -90,7 +93,7 @@ pub record ShowsControl (c : Control) (s : State) : Type 0 where
   pub user : c.s ≡ false
   pub traps : c.et ≡ true
   pub sane : c.error ≡ None
-  pub table : c.base ≡ 0xF0000000
+  pub table : c.base ≡ TRAP_TABLE
 
 -- The device has the input that is left, and the output so far.
 pub record ShowsDevice (d : Device) (s : State) : Type 0 where

@@ -1,15 +1,16 @@
 -- User code beside the flat machine, and what its turns come to.
 use Rattle.std.specs.Prelude.{ℕ, ◌≡◌, ◌+◌, ◌*◌, ◌<◌, false, length, Option, Some}
-use Rattle.v8_meaning.specs.declared.operation.Operation.{Operation}
-use Rattle.v8_mmu.specs.Walked.{root_of}
-use Rattle.v8_mmu.specs.declared.bus.Stop.TheVariants.{Exit}
-use Rattle.v8_mmu.specs.declared.translation.MmuRegs.{MmuRegs}
+use Rattle.v8_core.specs.Operation.{Operation}
+use Rattle.v8_core.specs.Walked.{root_of}
+use Rattle.v8_core.specs.Stop.TheVariants.{Exit}
+use Rattle.v8_core.specs.MmuRegs.{MmuRegs}
 use Rattle.v8_core.specs.declared.turn.DataAccess.{DataAccess}
 use Rattle.v8_core.specs.declared.turn.Event.TheVariants.{Ran}
 use Rattle.v8_core.specs.Accesses.{World}
 use Rattle.v8_core.specs.Steps.{next, turn_of}
-use Rattle.v8_memory.specs.Board.{Device, board}
-use Rattle.sbx_image.specs.declared.parts.Parts.{Parts}
+use Rattle.v8_map.specs.declared.TheConstants.{CODE_START, CONTEXT_TABLE}
+use Rattle.v8_loaded.specs.Board.{Device, board}
+use Rattle.sbx_flat.specs.Parts.{Parts}
 use Rattle.sbx_flat.specs.Effects.{does}
 use Rattle.sbx_flat.specs.Registers.{Fresh, IsFresh}
 use Rattle.sbx_flat.specs.States.{Goes, State}
@@ -20,10 +21,10 @@ use Rattle.sbx_shows.specs.Turns.{ReachesData}
 -- The board shows the flat state, which stands at the code word i; r calls have windows.
 pub record Stands (n : ℕ) (parts : Parts) (mmu : MmuRegs) (x : World n Device) (s : State) (r i : ℕ) : Type 0 where
   pub fits : Fits parts
-  pub root : root_of mmu ≡ 0x2000
+  pub root : root_of mmu ≡ CONTEXT_TABLE
   pub shows : Shows n parts x s r
   pub straight : s.annulled ≡ false
-  pub place : s.pc ≡ 0x40000 + 4 * i
+  pub place : s.pc ≡ CODE_START + 4 * i
   pub within : i < length parts.words
 
 -- One turn of the board, and a step of the flat machine by the same operation, for some fresh words; then so many calls have windows.

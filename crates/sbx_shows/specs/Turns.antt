@@ -1,12 +1,13 @@
 -- What a turn of a run may do: which traps it takes, and what it touches beside the calls that are open.
 use Rattle.std.specs.Prelude.{ℕ, ◌≡◌, ◌⊎◌, ◌+◌, ◌-◌, ◌/◌, ◌<◌, ◌≤◌, ◌==◌, ◌||◌, ◌&&◌, nat_le, Bool, true, false, Option, Some, None}
-use Rattle.v8_meaning.specs.Transfers.{bytes_in}
+use Rattle.v8_core.specs.Transfers.{bytes_in}
 use Rattle.v8_core.specs.declared.turn.DataAccess.{DataAccess}
 use Rattle.v8_core.specs.declared.turn.Event.{Event}
 use Rattle.v8_core.specs.declared.turn.Event.TheVariants.{Ran, Annulled, Trapped, ErrorMode, Stopped}
 use Rattle.v8_core.specs.declared.turn.Turn.{Turn}
+use Rattle.v8_map.specs.declared.TheConstants.{PAGE, TRAP_TABLE, HANDLERS}
 use Rattle.v8_loaded.specs.Turns.{ReachesDevice}
-use Rattle.sbx_image.specs.declared.parts.Parts.{Parts}
+use Rattle.sbx_flat.specs.Parts.{Parts}
 use Rattle.sbx_flat.specs.Effects.{declares}
 use Rattle.sbx_flat.specs.Registers.{Registers}
 use Rattle.sbx_flat.specs.Traffic.{is_own_code_page, is_own_data_page}
@@ -27,7 +28,7 @@ IsOwnEvent parts (Stopped stop) = Unit
 -- the image's data and its stack
 abbrev pub ReachesData : Parts → Option DataAccess → Type 0
 ReachesData parts None = Unit
-ReachesData parts (Some access) = is_own_data_page parts (access.va / 4096) ≡ true
+ReachesData parts (Some access) = is_own_data_page parts (access.va / PAGE) ≡ true
 
 -- the 64 bytes of an open call
 abbrev pub ReachesCall : Registers → Option DataAccess → Type 0
@@ -37,8 +38,8 @@ ReachesCall file (Some access) = (k : ℕ) × (k < depth file) × (base file k �
 -- A user turn stands in the image's code and reaches its data and its stack. A supervisor's stands in the pages of the trap table
 -- and the window handlers, and reaches the device or the 64 bytes of an open call.
 abbrev pub StaysBeside : Parts → Registers → Bool → ℕ → Option DataAccess → Type 0
-StaysBeside parts file true pc access = (is_own_code_page parts (pc / 4096) ≡ true) × ReachesData parts access
-StaysBeside parts file false pc access = (((pc / 4096 == 0xF0000) || (pc / 4096 == 0xF0001)) ≡ true) × (ReachesDevice access ⊎ ReachesCall file access)
+StaysBeside parts file true pc access = (is_own_code_page parts (pc / PAGE) ≡ true) × ReachesData parts access
+StaysBeside parts file false pc access = (((pc / PAGE == TRAP_TABLE / PAGE) || (pc / PAGE == HANDLERS / PAGE)) ≡ true) × (ReachesDevice access ⊎ ReachesCall file access)
 
 -- a turn that fetched a word; an annulled turn fetches and reaches nothing
 abbrev pub StaysOnWord : Parts → Registers → Option ℕ → Bool → ℕ → Option DataAccess → Type 0

@@ -2,20 +2,20 @@
 use Rattle.std.proofs.Common.{◌≡◌, ℕ, zero, suc, ◌*◌, ◌%◌, ◌^◌, Bool, true, false, List, [], ◌∷◌, Option, Some, None, refl, sym, ap, ◌∙◌}
 use Rattle.std.specs.Prelude.{◌==◌, ◌||◌, if◌then◌else◌}
 use Rattle.std.proofs.lemmas.List.{append_assoc}
-use Rattle.v8_alu.specs.declared.AluOut.{AluOut}
-use Rattle.v8_alu.specs.Outcomes.{division_of, tagged_outcome}
-use Rattle.v8_word.specs.declared.Size.TheVariants as sizes
-use Rattle.v8_meaning.specs.Admitted.{is_admitted}
-use Rattle.v8_meaning.specs.Operands.{address}
-use Rattle.v8_meaning.specs.Transfers.{bytes_in, received, sent, size_of}
-use Rattle.v8_meaning.specs.declared.operation.Loading.TheVariants as loadings
-use Rattle.v8_meaning.specs.declared.operation.Operation.{Operation}
-use Rattle.v8_meaning.specs.declared.operation.Operation.TheVariants.{BranchOnCondition, Call, Compute, Coprocessor, Divide, FloatingPoint, Illegal, JumpAndLink, Nothing, ReadState, ReadY, Restore, ReturnFromTrap, Save, SetHigh, TaggedTrap, TrapOnCondition, WriteState, WriteY}
-use Rattle.v8_meaning.specs.declared.operation.Operation.TheVariants as operation
-use Rattle.v8_meaning.specs.declared.operation.Transfer.{Transfer}
-use Rattle.v8_meaning.specs.declared.operation.Transfer.TheVariants.{Load, Store, Exchange}
-use Rattle.sbx_image.specs.declared.parts.Parts.{Parts}
-use Rattle.sbx_image.specs.declared.services.Services.{Services}
+use Rattle.v8_core.specs.AluOut.{AluOut}
+use Rattle.v8_core.specs.Outcomes.{division_of, tagged_outcome}
+use Rattle.v8_core.specs.Size.TheVariants as sizes
+use Rattle.v8_core.specs.Admitted.{is_admitted}
+use Rattle.v8_core.specs.Operands.{address}
+use Rattle.v8_core.specs.Transfers.{bytes_in, received, sent, size_of}
+use Rattle.v8_core.specs.Loading.TheVariants as loadings
+use Rattle.v8_core.specs.Operation.{Operation}
+use Rattle.v8_core.specs.Operation.TheVariants.{BranchOnCondition, Call, Compute, Coprocessor, Divide, FloatingPoint, Illegal, JumpAndLink, Nothing, ReadState, ReadY, Restore, ReturnFromTrap, Save, SetHigh, TaggedTrap, TrapOnCondition, WriteState, WriteY}
+use Rattle.v8_core.specs.Operation.TheVariants as operation
+use Rattle.v8_core.specs.Transfer.{Transfer}
+use Rattle.v8_core.specs.Transfer.TheVariants.{Load, Store, Exchange}
+use Rattle.sbx_flat.specs.Parts.{Parts}
+use Rattle.sbx_flat.specs.Services.{Services}
 use Rattle.sbx_flat.specs.Effects.{aligned, declares, does, gets, is_stack_pointer, leaves_in_data, leaves_in_slot, operand_value, restores, served, serves, service_of, slot_of, takes, transfers_data, transfers_in, with_regs, writes, writes_some}
 use Rattle.sbx_flat.specs.Memory.{number_at}
 use Rattle.sbx_flat.specs.Registers.{Fresh, Registers, popped, written}

@@ -6,21 +6,21 @@ use Rattle.std.proofs.lemmas.Option.{slice_get_within, get_or_from_slice_get}
 use Rattle.std.proofs.Math.Nat.{mod-eq_of_lt}
 use Rattle.std.proofs.Math.Pow.{pow_mono}
 use Rattle.std.proofs.lemmas.List.{append-nil}
-use Rattle.v8_mmu.specs.Ram.{entry_of}
+use Rattle.v8_core.specs.Ram.{entry_of}
 use Rattle.v8_mmu.proofs.RamLemmas.{entry_is}
-use Rattle.v8_windows.specs.Windows.{Windows, IsFile, with_reg, word_at}
+use Rattle.v8_core.specs.Windows.{Windows, IsFile, with_reg, word_at}
 use Rattle.v8_windows.proofs.AfterWrites.{written_at, written_current}
-use Rattle.v8_state.specs.Registers.{booted, started_with}
-use Rattle.v8_state.specs.declared.state.Cpu.{Cpu}
+use Rattle.v8_core.specs.Registers.{booted, started_with}
+use Rattle.v8_core.specs.Cpu.{Cpu}
 use Rattle.v8_core.specs.Accesses.{world}
-use Rattle.v8_memory.specs.Board.{Device}
+use Rattle.v8_loaded.specs.Board.{Device}
 use Rattle.v8_loaded.proofs.Frames.{word_fits}
 use Rattle.v8_board.specs.Seen.{State as BoardState}
 use Rattle.v8_board.specs.Start.{IsPlaced, IsStart, at_most, pages_of}
 use Rattle.v8_board.proofs.Placed.{placed_loaded}
 use Rattle.v8_contained.proofs.Stays.{word_kept}
-use Rattle.sbx_image.specs.Rules.{code_start}
-use Rattle.sbx_image.specs.declared.parts.Parts.{Parts}
+use Rattle.sbx_flat.specs.Rules.{code_start}
+use Rattle.sbx_flat.specs.Parts.{Parts}
 use Rattle.sbx_flat.specs.Registers.{Registers}
 use Rattle.sbx_flat.specs.Runs.{AreBytes, IsStart as IsFlatStart, data_at}
 use Rattle.sbx_flat.specs.States.{State}

@@ -1,14 +1,14 @@
 -- The second law: what a run of a safe image is on a board with any count of windows, moment by moment and at its end.
 use Rattle.std.specs.Prelude.{ℕ, ◌≡◌, ◌^◌, ◌<◌, ◌≤◌, List, ◌++◌, None, slice_index}
-use Rattle.v8_mmu.specs.declared.translation.MmuRegs.{MmuRegs}
+use Rattle.v8_core.specs.MmuRegs.{MmuRegs}
 use Rattle.v8_core.specs.Accesses.{World}
-use Rattle.v8_memory.specs.Board.{Device}
+use Rattle.v8_loaded.specs.Board.{Device}
 use Rattle.v8_loaded.specs.States.{IsState}
 use Rattle.v8_board.specs.declared.outcome.Counts.{Counts}
 use Rattle.v8_board.specs.Runs.{after as board_after}
 use Rattle.v8_board.specs.Seen.{State as BoardState, ending_of, turned}
 use Rattle.v8_board.specs.Start.{IsStart}
-use Rattle.sbx_image.specs.declared.parts.Parts.{Parts}
+use Rattle.sbx_flat.specs.Parts.{Parts}
 use Rattle.sbx_flat.specs.Runs.{AreBytes, FlatRun, FlatSafe, budget, weight}
 use Rattle.sbx_flat.specs.States.{State}
 use Rattle.sbx_flat.specs.Traffic.{traffic}

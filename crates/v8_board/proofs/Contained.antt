@@ -2,17 +2,17 @@
 use Rattle.std.proofs.Common.{◌≡◌, ℕ, zero, suc, ◌%◌, ◌^◌, ◌<◌, ◌≤◌, inl, inr, List, length, None, refl, sym, ap, ◌∙◌, subst, lit<, Result, Ok, Err}
 use Rattle.std.specs.Prelude.{IfOk, OnErr}
 use Rattle.sbx_image.specs.declared.parts.Parts.{Parts}
-use Rattle.v8_mmu.specs.Ram.{AreBytes}
-use Rattle.v8_mmu.specs.Walked.{root_of}
-use Rattle.v8_mmu.specs.declared.translation.MmuRegs.{MmuRegs}
-use Rattle.v8_windows.specs.Windows.{IsFile, Windows}
-use Rattle.v8_state.specs.declared.state.Control.{Control}
-use Rattle.v8_state.specs.declared.state.Cpu.{Cpu}
-use Rattle.v8_state.specs.Registers.{booted, started_with}
+use Rattle.v8_core.specs.Ram.{AreBytes}
+use Rattle.v8_core.specs.Walked.{root_of}
+use Rattle.v8_core.specs.MmuRegs.{MmuRegs}
+use Rattle.v8_core.specs.Windows.{IsFile, Windows}
+use Rattle.v8_core.specs.Control.{Control}
+use Rattle.v8_core.specs.Cpu.{Cpu}
+use Rattle.v8_core.specs.Registers.{booted, started_with}
 use Rattle.v8_core.specs.Accesses.{world}
 use Rattle.v8_core.specs.declared.turn.Turn.{Turn}
-use Rattle.v8_layout.specs.Layout.{IsLoaded}
-use Rattle.v8_memory.specs.Board.{Device, IsBlank}
+use Rattle.v8_loaded.specs.Layout.{IsLoaded}
+use Rattle.v8_loaded.specs.Board.{Device, IsBlank}
 use Rattle.v8_loaded.specs.States.{IsState}
 use Rattle.v8_contained.specs.Contained.{IsShaped, IsUser, IsContained, TurnIs}
 use Rattle.v8_contained.proofs.Law.{turns_contained}

@@ -1,7 +1,7 @@
 -- Bits added to a number, each in its place.
 use Rattle.std.proofs.Common.{◌≡◌, ℕ, suc, ◌+◌, ◌*◌, ◌%◌, ◌^◌, ◌<◌, ◌≤◌, ◌⊎◌, inl, inr, List, refl, sym, ap, ◌∙◌, subst, arith}
 use Rattle.std.proofs.Math.Nat.{pow-le-pow_right, pow-succ', mod-eq_of_lt}
-use Rattle.v8_mmu.specs.Ram.{entry_of}
+use Rattle.v8_core.specs.Ram.{entry_of}
 use Rattle.v8_board.specs.Marks.{bit_of, marks}
 
 power : (i : ℕ) → i < 64 → 2 ^ i ≤ 2 ^ 63

@@ -3,9 +3,9 @@ use Rattle.std.proofs.Common.{◌≡◌, ℕ, ◌+◌, ◌*◌, ◌/◌, ◌<◌
 use Rattle.std.specs.Prelude.{nat_le}
 use Rattle.std.proofs.lemmas.Bool.Decides.{nat_tests}
 use Rattle.sbx_image.specs.declared.parts.Parts.{Parts}
-use Rattle.v8_mmu.specs.Ram.{AreBytes, entry_of}
-use Rattle.v8_handlers.specs.Handlers.{trap_word, handler_word}
-use Rattle.v8_layout.specs.Layout.{AreFew, HasTables, IsLoaded}
+use Rattle.v8_core.specs.Ram.{AreBytes, entry_of}
+use Rattle.v8_loaded.specs.Handlers.{trap_word, handler_word}
+use Rattle.v8_loaded.specs.Layout.{AreFew, HasTables, IsLoaded}
 use Rattle.v8_layout.specs.Laws.{IsMapped}
 use Rattle.v8_layout.specs.Tables.{table_word}
 use Rattle.v8_layout.proofs.Map.{tables_map}

@@ -1,6 +1,7 @@
 -- Which pages were referenced and modified: R (bit 5) and M (bit 6) of the entries of the tables of code, data and stack.
 use Rattle.std.specs.Prelude.{ℕ, zero, suc, ◌+◌, ◌*◌, ◌/◌, ◌%◌, ◌^◌, List, [], ◌∷◌, Option, Some, None}
-use Rattle.v8_mmu.specs.Ram.{entry_of}
+use Rattle.v8_core.specs.Ram.{entry_of}
+use Rattle.v8_map.specs.declared.TheConstants.{CODE_TABLE, DATA_TABLE, STACK_TABLE}
 use Rattle.v8_board.specs.declared.page_use.PageUse.{PageUse}
 
 -- the bit of a word that is there
@@ -16,6 +17,6 @@ marks ram table low (suc k) = marks ram table low k + bit_of (entry_of ram (tabl
 unfoldable pub page_use_of : List ℕ → PageUse
 page_use_of ram =
     record {
-      referenced = marks ram 0x2A00 5 64 ∷ marks ram 0x2B00 5 64 ∷ marks ram 0x2C00 5 64 ∷ [];
-      modified = marks ram 0x2A00 6 64 ∷ marks ram 0x2B00 6 64 ∷ marks ram 0x2C00 6 64 ∷ [];
+      referenced = marks ram CODE_TABLE 5 64 ∷ marks ram DATA_TABLE 5 64 ∷ marks ram STACK_TABLE 5 64 ∷ [];
+      modified = marks ram CODE_TABLE 6 64 ∷ marks ram DATA_TABLE 6 64 ∷ marks ram STACK_TABLE 6 64 ∷ [];
     }

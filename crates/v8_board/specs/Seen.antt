@@ -1,14 +1,14 @@
 -- What a board is seen as: its processor, RAM and device, the MMU's registers, and the counts of its run.
 use Rattle.std.specs.Prelude.{ℕ, List, Option, Some, None}
-use Rattle.v8_mmu.specs.declared.bus.PortFault.{PortFault}
-use Rattle.v8_mmu.specs.declared.bus.Stop.{Stop}
-use Rattle.v8_mmu.specs.declared.bus.Stop.TheVariants as stops
-use Rattle.v8_mmu.specs.declared.translation.MmuRegs.{MmuRegs}
+use Rattle.v8_core.specs.PortFault.{PortFault}
+use Rattle.v8_core.specs.Stop.{Stop}
+use Rattle.v8_core.specs.Stop.TheVariants as stops
+use Rattle.v8_core.specs.MmuRegs.{MmuRegs}
 use Rattle.v8_core.specs.declared.turn.Event.{Event}
 use Rattle.v8_core.specs.declared.turn.Turn.{Turn}
 use Rattle.v8_core.specs.Accesses.{World}
 use Rattle.v8_core.specs.Steps.{next}
-use Rattle.v8_memory.specs.Board.{Device, board}
+use Rattle.v8_loaded.specs.Board.{Device, board}
 use Rattle.v8_board.specs.declared.outcome.Counts.{Counts}
 use Rattle.v8_board.specs.declared.outcome.Ending.{Ending}
 use Rattle.v8_board.specs.declared.outcome.Ending.TheVariants as endings

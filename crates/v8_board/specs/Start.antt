@@ -1,13 +1,14 @@
 -- What a board is when it is made, and when an image has been loaded.
 use Rattle.std.specs.Prelude.{ℕ, ◌≡◌, ◌+◌, ◌*◌, ◌/◌, ◌<◌, ◌≤◌, nat_le, false, List, length, slice_index, Some, None, if◌then◌else◌}
 use Rattle.sbx_image.specs.declared.parts.Parts.{Parts}
-use Rattle.v8_mmu.specs.Ram.{AreBytes, entry_of}
-use Rattle.v8_mmu.specs.Walked.{root_of}
-use Rattle.v8_state.specs.Registers.{booted, cleared, started_with}
-use Rattle.v8_handlers.specs.Handlers.{trap_word, handler_word}
-use Rattle.v8_layout.specs.Layout.{Pages}
+use Rattle.v8_core.specs.Ram.{AreBytes, entry_of}
+use Rattle.v8_core.specs.Walked.{root_of}
+use Rattle.v8_core.specs.Registers.{booted, cleared, started_with}
+use Rattle.v8_loaded.specs.Handlers.{trap_word, handler_word}
+use Rattle.v8_map.specs.declared.TheConstants.{CODE_PLACE, DATA_PLACE, STACK_PLACE, HANDLERS_PLACE, RAM, CONTEXT_TABLE}
+use Rattle.v8_loaded.specs.Layout.{Pages}
 use Rattle.v8_layout.specs.Tables.{table_word}
-use Rattle.v8_memory.specs.Board.{IsBlank, seen}
+use Rattle.v8_loaded.specs.Board.{IsBlank, seen}
 use Rattle.v8_board.specs.declared.outcome.Counts.{Counts}
 use Rattle.v8_board.specs.Seen.{State}
 
@@ -19,7 +20,7 @@ pub record IsNew (n : ℕ) (input output : List ℕ) (s : State n) : Type 0 wher
   pub cpu : s.world.cpu ≡ booted n (record { regs = cleared n; control = started_with 0 })
   pub ram : IsBlank s.world.memory.ram
   pub device : s.world.memory.device ≡ seen input false output None
-  pub mmu : root_of s.mmu ≡ 0x2000
+  pub mmu : root_of s.mmu ≡ CONTEXT_TABLE
   pub counts : s.counts ≡ no_counts
 
 -- ---- an image in RAM
@@ -40,13 +41,13 @@ pages_of p =
 -- Trap table, handlers, tables, code and data; the rest of the last code page and of the last data page is 0. The bytes of the
 -- stack, and all above them, are as before.
 pub record IsPlaced (n : ℕ) (p : Parts) (old new : List ℕ) : Type 0 where
-  pub size : length new ≡ 0x100000
+  pub size : length new ≡ RAM
   pub trap : (k : ℕ) → k < 1024 → entry_of new (4 * k) ≡ Some (trap_word k)
-  pub handler : (k : ℕ) → k < 1024 → entry_of new (0x1000 + 4 * k) ≡ Some (handler_word n k)
-  pub tables : (k : ℕ) → k < 896 → entry_of new (0x2000 + 4 * k) ≡ Some (table_word (pages_of p) k)
-  pub code : (i : ℕ) → i < 1024 * (pages_of p).code_count → entry_of new (0x10000 + 4 * i) ≡ Some (slice_index p.words i)
-  pub bytes : (i : ℕ) → i < 4096 * (pages_of p).data_count → slice_index new (0x50000 + i) ≡ slice_index p.bytes i
-  pub stack : (i : ℕ) → 0x90000 ≤ i → slice_index new i ≡ slice_index old i
+  pub handler : (k : ℕ) → k < 1024 → entry_of new (HANDLERS_PLACE + 4 * k) ≡ Some (handler_word n k)
+  pub tables : (k : ℕ) → k < 896 → entry_of new (CONTEXT_TABLE + 4 * k) ≡ Some (table_word (pages_of p) k)
+  pub code : (i : ℕ) → i < 1024 * (pages_of p).code_count → entry_of new (CODE_PLACE + 4 * i) ≡ Some (slice_index p.words i)
+  pub bytes : (i : ℕ) → i < 4096 * (pages_of p).data_count → slice_index new (DATA_PLACE + i) ≡ slice_index p.bytes i
+  pub stack : (i : ℕ) → STACK_PLACE ≤ i → slice_index new i ≡ slice_index old i
   pub fit : AreBytes old → AreBytes new
 
 -- The state in which an image starts. Registers but those that booting sets, and Y, are as before.
@@ -55,5 +56,5 @@ pub record IsStart (n : ℕ) (p : Parts) (old new : State n) : Type 0 where
   pub ram : IsPlaced n p old.world.memory.ram new.world.memory.ram
   pub device : new.world.memory.device ≡ record old.world.memory.device { ended = false; stopped = None }
   pub mmu : new.mmu ≡ old.mmu
-  pub root : root_of new.mmu ≡ 0x2000
+  pub root : root_of new.mmu ≡ CONTEXT_TABLE
   pub counts : new.counts ≡ no_counts

@@ -1,14 +1,15 @@
+//! The board: the machine over its memory, with the counts of a run.
 ghost use Rattle.std.specs.Prelude.{◌≡◌, ℕ, ◌+◌, ◌-◌, ◌*◌, ◌%◌, ◌^◌, ◌<◌, ◌≤◌, IfErr, IfOk, OnErr, IsSome, Option, Some, None, List};
 ghost use Rattle.std.specs.Borrow.{Lends, sem};
-ghost use Rattle.v8_mmu.specs.Answers.{Grows, Rose};
+ghost use Rattle.v8_core.specs.Answers.{Grows, Rose};
 ghost use Rattle.v8_core.specs.Calls.{calls_by, most_calls};
-ghost use Rattle.v8_memory.specs.Board.{board};
-ghost use Rattle.v8_mmu.specs.Ram.{entry_of};
-ghost use Rattle.v8_mmu.specs.Walked.{root_of};
-ghost use Rattle.v8_state.specs.Registers.{psr_of};
-ghost use Rattle.v8_windows.specs.Windows.{reg_of};
+ghost use Rattle.v8_loaded.specs.Board.{board};
+ghost use Rattle.v8_core.specs.Ram.{entry_of};
+ghost use Rattle.v8_core.specs.Walked.{root_of};
+ghost use Rattle.v8_core.specs.Registers.{psr_of};
+ghost use Rattle.v8_core.specs.Windows.{reg_of};
 ghost use Rattle.v8_layout.specs.Laws.{IsMapped};
-ghost use Rattle.v8_layout.specs.Layout.{IsLoaded};
+ghost use Rattle.v8_loaded.specs.Layout.{IsLoaded};
 
 use crate::outcome::{Counts, Ending, Outcome};
 use crate::page_use::{PageUse, page_use_of};
@@ -17,12 +18,10 @@ use sbx_image::Image;
 use std::alloc::{AllocError, Global};
 use std::marker::Model;
 use v8_core::{Machine, Turn};
+use v8_map::CONTEXT_TABLE;
 use v8_memory::{Memory, Port};
 use v8_mmu::{Bus, MmuRegs, PortFault, Stop};
 use v8_word::Reg;
-
-/// Where the context table lies.
-const CONTEXTS: u64 = 0x2000;
 
 /// A machine of `N` register windows, 4 to 32, with RAM of 1 MiB and a device over a port.
 #[derive(Drop)]
@@ -34,8 +33,9 @@ pub struct Board<const N: usize, P: Port> {
 impl<const N: usize, P: Port> Model for Board<N, P> {
     ghost use Rattle.std.specs.Prelude.{◌≡◌, ℕ, ◌≤◌};
     ghost use Rattle.v8_core.specs.Accesses.{world};
-    ghost use Rattle.v8_mmu.specs.Walked.{root_of};
-    ghost use Rattle.v8_memory.specs.Board.{seen};
+    ghost use Rattle.v8_core.specs.Walked.{root_of};
+    ghost use Rattle.v8_map.specs.declared.TheConstants.{CONTEXT_TABLE};
+    ghost use Rattle.v8_loaded.specs.Board.{seen};
     ghost use Rattle.v8_board.specs.Seen.{Seen};
 
     ghost Value = { Seen N };
@@ -51,7 +51,7 @@ impl<const N: usize, P: Port> Model for Board<N, P> {
       fault = P.fault b.machine.bus.port;
     } };
 
-    ghost invariant = { λ b. (4 ≤ N) × (N ≤ 32) × (root_of b.machine.mmu ≡ 0x2000) };
+    ghost invariant = { λ b. (4 ≤ N) × (N ≤ 32) × (root_of b.machine.mmu ≡ CONTEXT_TABLE) };
 }
 
 impl<const N: usize, P: Port> Board<N, P> {
@@ -77,7 +77,7 @@ impl<const N: usize, P: Port> Board<N, P> {
                 machine: Machine::new(
                     memory,
                     MmuRegs {
-                        table: CONTEXTS,
+                        table: CONTEXT_TABLE as u64,
                         context: 0,
                     },
                 ),

@@ -1,3 +1,4 @@
+//! How a run of a board ends, and what it counts.
 ghost use Rattle.std.specs.Prelude.{◌≡◌};
 ghost use Rattle.v8_board.specs.Counting.{counted, counts_after};
 

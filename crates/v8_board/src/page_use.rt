@@ -1,7 +1,9 @@
+//! Which pages were referenced and modified.
 ghost use Rattle.std.specs.Prelude.{◌≡◌, ℕ, ◌+◌, ◌*◌, ◌/◌, ◌%◌, ◌^◌, ◌<◌, ◌≤◌};
-ghost use Rattle.v8_mmu.specs.Ram.{entry_of};
+ghost use Rattle.v8_core.specs.Ram.{entry_of};
 ghost use Rattle.v8_board.specs.Marks.{bit_of, marks, page_use_of};
 
+use v8_map::{CODE_TABLE, DATA_TABLE, STACK_TABLE};
 use v8_memory::{Memory, Port};
 
 /// Which pages of code, data and stack were referenced and modified: bit i of each word is R or M of the entry i of that table
@@ -55,14 +57,14 @@ pub(crate) fn page_use_of<P: Port>(memory: &Memory<P>) -> PageUse
 {
     PageUse {
         referenced: [
-            marks(memory, 0x2A00, 5),
-            marks(memory, 0x2B00, 5),
-            marks(memory, 0x2C00, 5),
+            marks(memory, CODE_TABLE as u64, 5),
+            marks(memory, DATA_TABLE as u64, 5),
+            marks(memory, STACK_TABLE as u64, 5),
         ],
         modified: [
-            marks(memory, 0x2A00, 6),
-            marks(memory, 0x2B00, 6),
-            marks(memory, 0x2C00, 6),
+            marks(memory, CODE_TABLE as u64, 6),
+            marks(memory, DATA_TABLE as u64, 6),
+            marks(memory, STACK_TABLE as u64, 6),
         ],
     }
 }

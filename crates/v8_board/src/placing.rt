@@ -1,9 +1,11 @@
+//! What loading an image places in RAM.
 ghost use Rattle.std.specs.Prelude.{◌≡◌, ℕ, ◌+◌, ◌-◌, ◌*◌, ◌/◌, ◌^◌, ◌<◌, ◌≤◌, length, false, None};
 ghost use Rattle.v8_board.specs.Start.{IsPlaced, at_most, pages_of};
 
 use sbx_image::Image;
 use v8_handlers::{handler_page, trap_table};
 use v8_layout::{PageCounts, page_tables};
+use v8_map::{CODE_PLACE, CONTEXT_TABLE, DATA_PLACE, HANDLERS_PLACE};
 use v8_memory::{Memory, Port};
 
 /// How many pages of so many items hold a number of items, at most `most`.
@@ -65,9 +67,9 @@ pub(crate) fn place<const N: usize, P: Port>(memory: &mut Memory<P>, image: &Ima
 {
     let counts = pages_of(image);
     memory.set_words(0, &trap_table::<N>(), 1024);
-    memory.set_words(0x1000, &handler_page::<N>(), 1024);
-    memory.set_words(0x2000, &page_tables(&counts), 896);
-    memory.set_words(0x1_0000, image.words(), code_words(&counts));
-    memory.set_bytes(0x5_0000, image.bytes(), data_bytes(&counts));
+    memory.set_words(HANDLERS_PLACE as u64, &handler_page::<N>(), 1024);
+    memory.set_words(CONTEXT_TABLE as u64, &page_tables(&counts), 896);
+    memory.set_words(CODE_PLACE as u64, image.words(), code_words(&counts));
+    memory.set_bytes(DATA_PLACE as u64, image.bytes(), data_bytes(&counts));
     memory.restart();
 }

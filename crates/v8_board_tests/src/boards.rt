@@ -1,3 +1,4 @@
+//! Boards for tests, and what they show.
 ghost use Rattle.std.specs.Prelude.{ℕ, ◌+◌, ◌*◌, ◌≤◌};
 
 use crate::images::raw_image;

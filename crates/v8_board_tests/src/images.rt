@@ -1,3 +1,4 @@
+//! Images of raw words.
 use sbx_image::{Image, parse};
 use std::alloc::{AllocError, Global};
 use std::test::Fail;

@@ -1,3 +1,4 @@
+//! The device, register by register.
 use crate::ports::Probe;
 use std::alloc::{AllocError, Global};
 use std::test::Fail;

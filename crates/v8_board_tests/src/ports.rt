@@ -1,3 +1,4 @@
+//! A port that fails when it is told to.
 ghost use Rattle.std.specs.Prelude.{◌≡◌, ℕ, ◌<◌, ◌≤◌};
 ghost use Rattle.v8_mmu.specs.Answers.{Rose, one_more};
 

@@ -1,3 +1,4 @@
+//! Raw runs, with their ends.
 ghost use Rattle.std.specs.Prelude.{◌≤◌, ℕ};
 
 use crate::images::{EXIT, End, GET, GREETING, NOP, PUT, RESTORE, RET, SAVE, raw_image};

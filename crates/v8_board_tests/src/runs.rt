@@ -1,3 +1,4 @@
+//! Runs of raw words on a board.
 use crate::boards::{
     Tested, are_alike_below_the_stack, board, ends, have, kept, load, loaded_with, outcome,
     used_code_alone,

@@ -1,3 +1,4 @@
+//! Code that nobody wrote: words by chance, whose runs stay contained.
 ghost use Rattle.std.specs.Prelude.{ℕ, ◌<◌, ◌≤◌};
 
 use crate::boards::{Tested, are_loaded_alike, board, load};

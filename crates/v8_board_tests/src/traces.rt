@@ -1,3 +1,4 @@
+//! Traces, line by line.
 use crate::images::{EXIT, GREETING, NOP, raw_image};
 use sbx_raw::{Ending, Line, Outcome, RunFault, make_line, trace};
 use std::alloc::Global;

@@ -1,3 +1,4 @@
+//! Turns of a board, one by one.
 use crate::boards::{Tested, board, ends, kept, load, loaded_with, outcome, registers};
 use crate::images::{GREETING, NOP, SAVE};
 use std::alloc::Global;

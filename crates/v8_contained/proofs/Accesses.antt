@@ -2,29 +2,29 @@
 use Rattle.std.proofs.Common.{◌≡◌, ℕ, ◌-◌, ◌%◌, ◌^◌, ◌<◌, ◌≤◌, ◌⊎◌, inl, inr, Bool, true, false, cond, List, Option, Some, None, Result, Ok, Err, refl, sym, subst, arith}
 use Rattle.std.specs.Prelude.{nat_lt}
 use Rattle.std.proofs.lemmas.Bool.Decides.{nat_tests}
-use Rattle.v8_word.specs.declared.Size.{Size}
-use Rattle.v8_word.specs.declared.Size.TheVariants.{Byte, Half, Word, Double}
-use Rattle.v8_meaning.specs.Transfers.{bytes_in, size_of, loaded_size, exchanged_size, writes_memory}
-use Rattle.v8_meaning.specs.declared.operation.Transfer.{Transfer}
-use Rattle.v8_meaning.specs.declared.operation.Transfer.TheVariants as transfers
-use Rattle.v8_mmu.specs.Meaning.{exchanged_after, stored_after}
-use Rattle.v8_mmu.specs.Ram.{number_at}
-use Rattle.v8_mmu.specs.Paths.{marked_ram}
-use Rattle.v8_mmu.specs.Permissions.{permits, rights_of}
-use Rattle.v8_mmu.specs.Walked.{Page, walked, root_of}
-use Rattle.v8_mmu.specs.declared.access.Access.{Access}
-use Rattle.v8_mmu.specs.declared.access.AccessKind.{AccessKind}
-use Rattle.v8_mmu.specs.declared.access.AccessKind.TheVariants as kinds
-use Rattle.v8_mmu.specs.declared.translation.MmuRegs.{MmuRegs}
-use Rattle.v8_mmu.specs.declared.translation.MmuFault.{MmuFault}
+use Rattle.v8_core.specs.Size.{Size}
+use Rattle.v8_core.specs.Size.TheVariants.{Byte, Half, Word, Double}
+use Rattle.v8_core.specs.Transfers.{bytes_in, size_of, loaded_size, exchanged_size, writes_memory}
+use Rattle.v8_core.specs.Transfer.{Transfer}
+use Rattle.v8_core.specs.Transfer.TheVariants as transfers
+use Rattle.v8_core.specs.Meaning.{exchanged_after, stored_after}
+use Rattle.v8_core.specs.Ram.{number_at}
+use Rattle.v8_core.specs.Paths.{marked_ram}
+use Rattle.v8_core.specs.Permissions.{permits, rights_of}
+use Rattle.v8_core.specs.Walked.{Page, walked, root_of}
+use Rattle.v8_core.specs.Access.{Access}
+use Rattle.v8_core.specs.AccessKind.{AccessKind}
+use Rattle.v8_core.specs.AccessKind.TheVariants as kinds
+use Rattle.v8_core.specs.MmuRegs.{MmuRegs}
+use Rattle.v8_core.specs.MmuFault.{MmuFault}
 use Rattle.v8_core.specs.declared.access.Moved.{Moved}
 use Rattle.v8_core.specs.declared.access.Moved.TheVariants.{Done, Fault}
 use Rattle.v8_core.specs.Memory.{Memory, loaded_from, answers, moves, move_through, move_answered}
 use Rattle.v8_core.specs.Accesses.{data_kind}
-use Rattle.v8_layout.specs.Layout.{Pages, AreFew, IsLoaded}
-use Rattle.v8_layout.specs.AddressMap.{mapped}
+use Rattle.v8_loaded.specs.Layout.{Pages, AreFew, IsLoaded}
+use Rattle.v8_loaded.specs.AddressMap.{mapped}
 use Rattle.v8_layout.proofs.Marks.{mark_keeps}
-use Rattle.v8_memory.specs.Board.{Device, board, board_load, board_store, device_load, device_store, device_base, is_word, beside, overwritten, with_ram}
+use Rattle.v8_loaded.specs.Board.{Device, board, board_load, board_store, device_load, device_store, device_base, is_word, beside, overwritten, with_ram}
 use Rattle.v8_contained.specs.Contained.{IsData}
 use Rattle.v8_contained.proofs.Reaches.{Reached, Kind, IsWritable, Code, Writable, System, Registers, reaches}
 use Rattle.v8_contained.proofs.Stays.{number_is, number_stored}

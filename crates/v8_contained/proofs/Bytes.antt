@@ -5,11 +5,11 @@ use Rattle.std.specs.Option.{option_map_or}
 use Rattle.std.specs.Int.{w16, w32, from_be_bytes, to_be_bytes}
 use Rattle.std.proofs.lemmas.List.{get_or_append_left, get_or-append_right, get_or-take, get_or-drop, get_or_past, length-take}
 use Rattle.std.proofs.lemmas.Option.{same_Some}
-use Rattle.v8_word.specs.declared.Size.{Size}
-use Rattle.v8_word.specs.declared.Size.TheVariants.{Byte, Half, Word, Double}
-use Rattle.v8_mmu.specs.Meaning.{limit_of}
-use Rattle.v8_mmu.specs.Paths.{marked, marked_ram}
-use Rattle.v8_mmu.specs.Ram.{AreBytes, byte_of, double_of, entry_of, half_of, joined, number_at, with_byte, with_double, with_entry, with_half, with_number}
+use Rattle.v8_core.specs.Size.{Size}
+use Rattle.v8_core.specs.Size.TheVariants.{Byte, Half, Word, Double}
+use Rattle.v8_core.specs.Meaning.{limit_of}
+use Rattle.v8_core.specs.Paths.{marked, marked_ram}
+use Rattle.v8_core.specs.Ram.{AreBytes, byte_of, double_of, entry_of, half_of, joined, number_at, with_byte, with_double, with_entry, with_half, with_number}
 
 -- ---- lists of bytes
 

@@ -3,9 +3,9 @@ use Rattle.std.proofs.Common.{◌≡◌, ◌≢◌, ℕ, ◌-◌, ◌^◌, ◌<�
 use Rattle.std.specs.Prelude.{slice_index, slice_set, ◌==◌, nat_lt, if◌then◌else◌}
 use Rattle.std.proofs.lemmas.Bool.Decides.{nat_tests}
 use Rattle.std.proofs.lemmas.List.{get_or-set_same, get_or-set_other, get_or_past, length-set}
-use Rattle.v8_windows.specs.Windows.{IsFile, Windows, above, below, moved, reg_of, trapped, with_reg, with_word, word_at}
+use Rattle.v8_core.specs.Windows.{IsFile, Windows, above, below, moved, reg_of, trapped, with_reg, with_word, word_at}
 use Rattle.v8_windows.proofs.AfterWrites.{above_less}
-use Rattle.v8_state.specs.Effects.{with_regs}
+use Rattle.v8_core.specs.Effects.{with_regs}
 use Rattle.v8_contained.proofs.Shapes.{below_less}
 
 fit_written : (xs : List ℕ) (k x i : ℕ) → ((j : ℕ) → slice_index xs j < 2 ^ 32) → x < 2 ^ 32 → slice_index (slice_set xs k x) i < 2 ^ 32

@@ -2,32 +2,32 @@
 use Rattle.std.proofs.Common.{◌≡◌, ℕ, ◌+◌, ◌-◌, ◌*◌, ◌%◌, ◌^◌, ◌<◌, ◌≤◌, ◌⊎◌, inl, inr, Bool, true, false, cond, List, [], ◌∷◌, ◌++◌, Some, None, Ok, IsSome, refl, sym, ap, ◌∙◌, subst, arith}
 use Rattle.std.specs.Prelude.{not, ◌==◌}
 use Rattle.std.proofs.lemmas.Bool.Decides.{nat_tests}
-use Rattle.v8_word.specs.declared.Size.TheVariants as sizes
-use Rattle.v8_formats.specs.Table.{meaning}
-use Rattle.v8_meaning.specs.Operations.{operation_of, load, store}
-use Rattle.v8_meaning.specs.declared.operation.Loading.TheVariants as loadings
-use Rattle.v8_meaning.specs.declared.operation.Transfer.TheVariants as transfer
-use Rattle.v8_meaning.specs.declared.operation.Operation.{Operation}
-use Rattle.v8_meaning.specs.declared.operation.Operation.TheVariants.{SetHigh, ReadState, JumpAndLink, ReturnFromTrap}
-use Rattle.v8_meaning.specs.declared.operation.Space.TheVariants as spaces
-use Rattle.v8_meaning.specs.declared.operation.StateRegister.TheVariants.{Wim}
-use Rattle.v8_mmu.specs.declared.access.AccessKind.TheVariants as kinds
-use Rattle.v8_mmu.specs.declared.bus.Stop.TheVariants.{Exit, Trapped}
-use Rattle.v8_mmu.specs.declared.translation.MmuRegs.{MmuRegs}
-use Rattle.v8_mmu.specs.Walked.{root_of}
-use Rattle.v8_windows.specs.Windows.{with_reg, reg_of}
-use Rattle.v8_state.specs.declared.state.Cpu.{Cpu}
-use Rattle.v8_state.specs.Effects.{address_of, advanced, branched, jumped, stepped, written, taken, effect}
+use Rattle.v8_core.specs.Size.TheVariants as sizes
+use Rattle.v8_core.specs.Table.{meaning}
+use Rattle.v8_core.specs.Operations.{operation_of, load, store}
+use Rattle.v8_core.specs.Loading.TheVariants as loadings
+use Rattle.v8_core.specs.Transfer.TheVariants as transfer
+use Rattle.v8_core.specs.Operation.{Operation}
+use Rattle.v8_core.specs.Operation.TheVariants.{SetHigh, ReadState, JumpAndLink, ReturnFromTrap}
+use Rattle.v8_core.specs.Space.TheVariants as spaces
+use Rattle.v8_core.specs.StateRegister.TheVariants.{Wim}
+use Rattle.v8_core.specs.AccessKind.TheVariants as kinds
+use Rattle.v8_core.specs.Stop.TheVariants.{Exit, Trapped}
+use Rattle.v8_core.specs.MmuRegs.{MmuRegs}
+use Rattle.v8_core.specs.Walked.{root_of}
+use Rattle.v8_core.specs.Windows.{with_reg, reg_of}
+use Rattle.v8_core.specs.Cpu.{Cpu}
+use Rattle.v8_core.specs.Effects.{address_of, advanced, branched, jumped, stepped, written, taken, effect}
 use Rattle.v8_core.specs.declared.access.Moved.{Moved}
 use Rattle.v8_core.specs.declared.access.Moved.TheVariants.{Done}
 use Rattle.v8_core.specs.declared.turn.Outcome.{Outcome}
 use Rattle.v8_core.specs.Memory.{Memory, moves, move_through, fetches}
 use Rattle.v8_core.specs.Accesses.{World, world, place_of, access_of, transfer_ends, transfers, moving}
 use Rattle.v8_core.specs.Steps.{acts, ends, next}
-use Rattle.v8_handlers.specs.Handlers.{trap_word, handler_word}
-use Rattle.v8_layout.specs.Layout.{Pages, AreFew, IsLoaded}
-use Rattle.v8_memory.specs.Board.{Device, board, board_load, board_store, device_load, device_store, gets, got_from}
-use Rattle.v8_memory.specs.Input.{next_byte}
+use Rattle.v8_loaded.specs.Handlers.{trap_word, handler_word}
+use Rattle.v8_loaded.specs.Layout.{Pages, AreFew, IsLoaded}
+use Rattle.v8_loaded.specs.Board.{Device, board, board_load, board_store, device_load, device_store, gets, got_from}
+use Rattle.v8_loaded.specs.Input.{next_byte}
 use Rattle.v8_loaded.specs.Places.{table_marked, handlers_marked, device_marked}
 use Rattle.v8_loaded.proofs.Fetches.{by_supervisor, fetches_table, fetches_handlers, table_kept, handlers_kept, device_kept, reaches_device, reaches_input}
 use Rattle.v8_contained.specs.Contained.{IsSupervisor, IsAt, Place, Enters, Acts, Branches, Slips, Leaves, Returns, Handles, Retries, Stands, IsActing, IsHandler, IsBack, vector_of, handler_at, trap_to, acted, TurnIs}

@@ -2,13 +2,13 @@
 use Rattle.std.proofs.Common.{◌≡◌, ℕ, ◌+◌, ◌-◌, ◌*◌, ◌/◌, ◌^◌, ◌<◌, ◌≤◌, ◌⊎◌, inl, inr, Bool, true, false, cond, List, Option, Some, None, Result, Ok, Err, IfSome, refl, sym, ap, ◌∙◌, subst, arith}
 use Rattle.std.specs.Prelude.{◌&&◌, nat_le, if◌then◌else◌}
 use Rattle.std.proofs.lemmas.Bool.Decides.{nat_tests}
-use Rattle.v8_mmu.specs.Permissions.{permits, rights_of, access_type}
-use Rattle.v8_mmu.specs.Walked.{Page, walked, root_of}
-use Rattle.v8_mmu.specs.declared.access.Access.{Access}
-use Rattle.v8_mmu.specs.declared.translation.MmuRegs.{MmuRegs}
-use Rattle.v8_mmu.specs.declared.translation.MmuFault.{MmuFault}
-use Rattle.v8_layout.specs.Layout.{Pages, AreFew, IsLoaded}
-use Rattle.v8_layout.specs.AddressMap.{Mapped, mapped, within, page_at, reached, translated}
+use Rattle.v8_core.specs.Permissions.{permits, rights_of, access_type}
+use Rattle.v8_core.specs.Walked.{Page, walked, root_of}
+use Rattle.v8_core.specs.Access.{Access}
+use Rattle.v8_core.specs.MmuRegs.{MmuRegs}
+use Rattle.v8_core.specs.MmuFault.{MmuFault}
+use Rattle.v8_loaded.specs.Layout.{Pages, AreFew, IsLoaded}
+use Rattle.v8_loaded.specs.AddressMap.{Mapped, mapped, within, page_at, reached, translated}
 use Rattle.v8_layout.proofs.Map.{tables_map}
 use Rattle.v8_layout.proofs.Marks.{Markable, mapped_markable}
 

@@ -3,10 +3,10 @@ use Rattle.std.proofs.Common.{◌≡◌, ◌≢◌, ℕ, zero, suc, ◌-◌, ◌
 use Rattle.std.specs.Prelude.{slice_set, ◌==◌, nat_lt}
 use Rattle.std.proofs.lemmas.Bool.Decides.{nat_tests}
 use Rattle.std.proofs.lemmas.List.{get_or-set_same, get_or-set_other, length-set}
-use Rattle.v8_windows.specs.Windows.{Windows, above, below, moved, trapped, with_reg, with_word, reg_of}
+use Rattle.v8_core.specs.Windows.{Windows, above, below, moved, trapped, with_reg, with_word, reg_of}
 use Rattle.v8_windows.proofs.AfterWrites.{above_less, word_with}
 use Rattle.v8_windows.proofs.Neighbours.{below_first, below_next}
-use Rattle.v8_state.specs.Effects.{with_regs}
+use Rattle.v8_core.specs.Effects.{with_regs}
 use Rattle.v8_contained.specs.Contained.{IsShaped}
 
 pub below_less : (n c : ℕ) → 4 ≤ n → c < n → below n c < n

@@ -3,41 +3,41 @@ use Rattle.std.proofs.Common.{◌≡◌, ℕ, zero, suc, ◌+◌, ◌*◌, ◌%�
 use Rattle.std.specs.Prelude.{find, ◌==◌, not, slice_index}
 use Rattle.std.proofs.lemmas.Bool.Decides.{nat_tests}
 use Rattle.std.proofs.lemmas.Nat.{xor_lt}
-use Rattle.v8_word.specs.Conditions.{holds}
-use Rattle.v8_word.specs.Word.{bits_of, sign_extend}
-use Rattle.v8_formats.specs.declared.instr.Branch.{Branch}
-use Rattle.v8_formats.specs.declared.instr.Operand.{Operand}
-use Rattle.v8_formats.specs.declared.instr.Operand.TheVariants.{Register, Immediate}
-use Rattle.v8_formats.specs.declared.instr.Two.{Two}
-use Rattle.v8_alu.specs.declared.AluOut.{AluOut}
-use Rattle.v8_alu.specs.Results.{from_flag}
-use Rattle.v8_meaning.specs.Operands.{annuls, following, target}
-use Rattle.v8_meaning.specs.Transfers.{loaded, loaded_size, received, size_of}
-use Rattle.v8_meaning.specs.declared.operation.Exchange.TheVariants.{Ones, Register as Exchanged}
-use Rattle.v8_meaning.specs.declared.operation.Loading.{Loading}
-use Rattle.v8_meaning.specs.declared.operation.Loading.TheVariants as loadings
-use Rattle.v8_meaning.specs.declared.operation.Operation.{Operation}
-use Rattle.v8_meaning.specs.declared.operation.Operation.TheVariants.{Compute, Divide, TaggedTrap, SetHigh, ReadY, WriteY, ReadState, WriteState, Transfer, Save, Restore, Call, BranchOnCondition, JumpAndLink, ReturnFromTrap, TrapOnCondition, Nothing, Illegal, FloatingPoint, Coprocessor}
-use Rattle.v8_meaning.specs.declared.operation.StateRegister.{StateRegister}
-use Rattle.v8_meaning.specs.declared.operation.StateRegister.TheVariants.{Psr, Wim, Tbr}
-use Rattle.v8_meaning.specs.declared.operation.Transfer.{Transfer as Moving}
-use Rattle.v8_meaning.specs.declared.operation.Transfer.TheVariants as transfer
-use Rattle.v8_mmu.specs.Meaning.{limit_of}
-use Rattle.v8_windows.specs.Windows.{IsFile, Windows, above, below, moved, trapped, with_reg}
+use Rattle.v8_core.specs.Conditions.{holds}
+use Rattle.v8_core.specs.Word.{bits_of, sign_extend}
+use Rattle.v8_core.specs.Branch.{Branch}
+use Rattle.v8_core.specs.Operand.{Operand}
+use Rattle.v8_core.specs.Operand.TheVariants.{Register, Immediate}
+use Rattle.v8_core.specs.Two.{Two}
+use Rattle.v8_core.specs.AluOut.{AluOut}
+use Rattle.v8_core.specs.Results.{from_flag}
+use Rattle.v8_core.specs.Operands.{annuls, following, target}
+use Rattle.v8_core.specs.Transfers.{loaded, loaded_size, received, size_of}
+use Rattle.v8_core.specs.Exchange.TheVariants.{Ones, Register as Exchanged}
+use Rattle.v8_core.specs.Loading.{Loading}
+use Rattle.v8_core.specs.Loading.TheVariants as loadings
+use Rattle.v8_core.specs.Operation.{Operation}
+use Rattle.v8_core.specs.Operation.TheVariants.{Compute, Divide, TaggedTrap, SetHigh, ReadY, WriteY, ReadState, WriteState, Transfer, Save, Restore, Call, BranchOnCondition, JumpAndLink, ReturnFromTrap, TrapOnCondition, Nothing, Illegal, FloatingPoint, Coprocessor}
+use Rattle.v8_core.specs.StateRegister.{StateRegister}
+use Rattle.v8_core.specs.StateRegister.TheVariants.{Psr, Wim, Tbr}
+use Rattle.v8_core.specs.Transfer.{Transfer as Moving}
+use Rattle.v8_core.specs.Transfer.TheVariants as transfer
+use Rattle.v8_core.specs.Meaning.{limit_of}
+use Rattle.v8_core.specs.Windows.{IsFile, Windows, above, below, moved, trapped, with_reg}
 use Rattle.v8_windows.proofs.AfterWrites.{above_less}
 use Rattle.v8_windows.proofs.Masks.{low_bits}
-use Rattle.v8_state.specs.declared.state.Control.{Control}
-use Rattle.v8_state.specs.declared.state.Cpu.{Cpu}
-use Rattle.v8_state.specs.Effects.{address_of, advanced, branched, computed, computed_from, effect, jumped, quotient_from, reg, returned, second_of, state_operand, stepped, tagged_from, taken, with_regs, written}
-use Rattle.v8_state.specs.Registers.{psr_of, psr_window, state_word, tbr_of, trap_base, with_psr, with_state}
-use Rattle.v8_state.specs.Traps.{applies, by_priority, entered, first_trap, state_applies}
+use Rattle.v8_core.specs.Control.{Control}
+use Rattle.v8_core.specs.Cpu.{Cpu}
+use Rattle.v8_core.specs.Effects.{address_of, advanced, branched, computed, computed_from, effect, jumped, quotient_from, reg, returned, second_of, state_operand, stepped, tagged_from, taken, with_regs, written}
+use Rattle.v8_core.specs.Registers.{psr_of, psr_window, state_word, tbr_of, trap_base, with_psr, with_state}
+use Rattle.v8_core.specs.Traps.{applies, by_priority, entered, first_trap, state_applies}
 use Rattle.v8_core.specs.Accesses.{faulted}
 use Rattle.v8_core.specs.Steps.{skipped}
 use Rattle.v8_loaded.specs.States.{IsSound}
 use Rattle.v8_contained.proofs.Shapes.{below_less}
-use Rattle.v8_contained.proofs.Fields.{SmallOperand, SmallSecond}
+use Rattle.v8_meaning.proofs.Fields.{SmallOperand, SmallSecond}
 use Rattle.v8_contained.proofs.Files.{AreWords, file_mask, file_moved, file_reg, file_regs, file_trapped, reads_word}
-use Rattle.v8_contained.proofs.Outcomes.{AreResults, division_words, outcome_words, tagged_words}
+use Rattle.v8_alu.proofs.Outcomes.{AreResults, division_words, outcome_words, tagged_words}
 
 -- ---- traps that did not apply
 

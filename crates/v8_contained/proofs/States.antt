@@ -1,44 +1,44 @@
 -- Every turn of a board leaves its state a state, whatever runs there.
 use Rattle.std.proofs.Common.{◌≡◌, ℕ, suc, ◌+◌, ◌-◌, ◌*◌, ◌/◌, ◌%◌, ◌^◌, ◌<◌, Bool, true, false, cond, List, [], ◌∷◌, ◌++◌, length, Option, Some, None, IfSome, Result, Ok, Err, refl, ◌∙◌, arith, lit<}
 use Rattle.std.specs.Prelude.{◌==◌, nat_lt, if◌then◌else◌}
-use Rattle.v8_word.specs.declared.Size.{Size}
-use Rattle.v8_word.specs.declared.Size.TheVariants as sizes
-use Rattle.v8_formats.specs.Table.{meaning}
-use Rattle.v8_meaning.specs.Operations.{operation_of}
-use Rattle.v8_meaning.specs.Transfers.{exchanged_size, loaded_size, sent, size_of, stored, writes_memory}
-use Rattle.v8_meaning.specs.declared.operation.Exchange.TheVariants.{Ones, Register}
-use Rattle.v8_meaning.specs.declared.operation.MemoryOperand.{MemoryOperand}
-use Rattle.v8_meaning.specs.declared.operation.Operation.{Operation}
-use Rattle.v8_meaning.specs.declared.operation.Operation.TheVariants.{Compute, Divide, TaggedTrap, SetHigh, ReadY, WriteY, ReadState, WriteState, Transfer, Save, Restore, Call, BranchOnCondition, JumpAndLink, ReturnFromTrap, TrapOnCondition, Nothing, Illegal, FloatingPoint, Coprocessor}
-use Rattle.v8_meaning.specs.declared.operation.Transfer.{Transfer as Moving}
-use Rattle.v8_meaning.specs.declared.operation.Transfer.TheVariants as transfer
-use Rattle.v8_mmu.specs.Meaning.{exchanged_after, limit_of, stored_after}
-use Rattle.v8_mmu.specs.Paths.{marked_ram}
-use Rattle.v8_mmu.specs.Ram.{AreBytes, entry_of, number_at}
-use Rattle.v8_mmu.specs.Walked.{Page, root_of, walked}
-use Rattle.v8_mmu.specs.declared.access.Access.{Access}
-use Rattle.v8_mmu.specs.declared.access.AccessKind.TheVariants as kinds
-use Rattle.v8_mmu.specs.declared.bus.Stop.{Stop}
-use Rattle.v8_mmu.specs.declared.bus.Stop.TheVariants.{Exit, Trapped}
-use Rattle.v8_mmu.specs.declared.translation.MmuFault.{MmuFault}
-use Rattle.v8_mmu.specs.declared.translation.MmuRegs.{MmuRegs}
+use Rattle.v8_core.specs.Size.{Size}
+use Rattle.v8_core.specs.Size.TheVariants as sizes
+use Rattle.v8_core.specs.Table.{meaning}
+use Rattle.v8_core.specs.Operations.{operation_of}
+use Rattle.v8_core.specs.Transfers.{exchanged_size, loaded_size, sent, size_of, stored, writes_memory}
+use Rattle.v8_core.specs.Exchange.TheVariants.{Ones, Register}
+use Rattle.v8_core.specs.MemoryOperand.{MemoryOperand}
+use Rattle.v8_core.specs.Operation.{Operation}
+use Rattle.v8_core.specs.Operation.TheVariants.{Compute, Divide, TaggedTrap, SetHigh, ReadY, WriteY, ReadState, WriteState, Transfer, Save, Restore, Call, BranchOnCondition, JumpAndLink, ReturnFromTrap, TrapOnCondition, Nothing, Illegal, FloatingPoint, Coprocessor}
+use Rattle.v8_core.specs.Transfer.{Transfer as Moving}
+use Rattle.v8_core.specs.Transfer.TheVariants as transfer
+use Rattle.v8_core.specs.Meaning.{exchanged_after, limit_of, stored_after}
+use Rattle.v8_core.specs.Paths.{marked_ram}
+use Rattle.v8_core.specs.Ram.{AreBytes, entry_of, number_at}
+use Rattle.v8_core.specs.Walked.{Page, root_of, walked}
+use Rattle.v8_core.specs.Access.{Access}
+use Rattle.v8_core.specs.AccessKind.TheVariants as kinds
+use Rattle.v8_core.specs.Stop.{Stop}
+use Rattle.v8_core.specs.Stop.TheVariants.{Exit, Trapped}
+use Rattle.v8_core.specs.MmuFault.{MmuFault}
+use Rattle.v8_core.specs.MmuRegs.{MmuRegs}
 use Rattle.v8_mmu.proofs.RamLemmas.{length-marked_ram}
-use Rattle.v8_windows.specs.Windows.{Windows, IsFile, reg_of}
-use Rattle.v8_state.specs.declared.state.Cpu.{Cpu}
-use Rattle.v8_state.specs.Effects.{effect}
-use Rattle.v8_state.specs.Traps.{first_trap}
+use Rattle.v8_core.specs.Windows.{Windows, IsFile, reg_of}
+use Rattle.v8_core.specs.Cpu.{Cpu}
+use Rattle.v8_core.specs.Effects.{effect}
+use Rattle.v8_core.specs.Traps.{first_trap}
 use Rattle.v8_core.specs.declared.access.Moved.{Moved}
 use Rattle.v8_core.specs.declared.access.Moved.TheVariants.{Done, Fault}
 use Rattle.v8_core.specs.declared.turn.DataAccess.{DataAccess}
 use Rattle.v8_core.specs.Accesses.{World, access_of, is_user, place_of, transfer_ends, transfers, world}
 use Rattle.v8_core.specs.Memory.{Memory, answers, fetch_answered, fetch_through, fetches, loaded_from, move_answered, move_through, moves}
 use Rattle.v8_core.specs.Steps.{acts, attempts, ends, executes, executes_or, goes_on, next, proceeds, tries}
-use Rattle.v8_memory.specs.Board.{Device, beside, board, board_load, board_store, device_base, device_load, device_store, gets, got_from, overwritten, with_ram}
-use Rattle.v8_memory.specs.Input.{next_byte}
+use Rattle.v8_loaded.specs.Board.{Device, beside, board, board_load, board_store, device_base, device_load, device_store, gets, got_from, overwritten, with_ram}
+use Rattle.v8_loaded.specs.Input.{next_byte}
 use Rattle.v8_loaded.specs.States.{IsSound}
 use Rattle.v8_contained.specs.Laws.{StatesStay}
 use Rattle.v8_contained.proofs.Bytes.{mark_bytes, number_bytes, number_fits}
-use Rattle.v8_contained.proofs.Fields.{SmallSecond, small_second}
+use Rattle.v8_meaning.proofs.Fields.{SmallSecond, small_second}
 use Rattle.v8_contained.proofs.Files.{reads_word}
 use Rattle.v8_contained.proofs.Sound.{sound_effect, sound_entered, sound_faulted, sound_skipped, sound_taken}
 use Rattle.v8_contained.proofs.Stays.{number_is, with_number_kept}

@@ -4,14 +4,14 @@ use Rattle.std.specs.Prelude.{◌==◌, ◌&&◌, nat_le, slice_index, if◌then
 use Rattle.std.specs.Int.{w32, from_be_bytes}
 use Rattle.std.proofs.lemmas.List.{get_or-take, get_or-drop, length-take, length-drop}
 use Rattle.std.proofs.lemmas.Grind.{same_number_lists}
-use Rattle.v8_word.specs.declared.Size.{Size}
-use Rattle.v8_word.specs.declared.Size.TheVariants.{Byte, Half, Word, Double}
-use Rattle.v8_meaning.specs.Transfers.{bytes_in}
-use Rattle.v8_mmu.specs.Ram.{entry_of, with_entry, with_half, with_byte, with_double, number_at, with_number}
+use Rattle.v8_core.specs.Size.{Size}
+use Rattle.v8_core.specs.Size.TheVariants.{Byte, Half, Word, Double}
+use Rattle.v8_core.specs.Transfers.{bytes_in}
+use Rattle.v8_core.specs.Ram.{entry_of, with_entry, with_half, with_byte, with_double, number_at, with_number}
 use Rattle.v8_mmu.proofs.RamLemmas.{entry_is, length-with_entry}
 use Rattle.v8_mmu.proofs.RamNumbers.{half_is, length-with_half, byte_beside_half, byte_is, length-with_byte, byte_beside_byte, double_is, length-with_double, byte_beside_double}
 use Rattle.v8_mmu.proofs.RamMore.{byte_beside_entry}
-use Rattle.v8_layout.specs.Layout.{Pages, AreFew, IsLoaded}
+use Rattle.v8_loaded.specs.Layout.{Pages, AreFew, IsLoaded}
 use Rattle.v8_layout.proofs.Marks.{loaded_by}
 
 four_same : (old new : List ℕ) (p : ℕ) → length new ≡ length old → ((j : ℕ) → p ≤ j → j < p + 4 → slice_index new j ≡ slice_index old j) → take 4 (drop p new) ≡ take 4 (drop p old)

@@ -1,34 +1,34 @@
 -- A turn of the supervisor, at each place of the vectors and the handlers.
 use Rattle.std.proofs.Common.{◌≡◌, ℕ, ◌+◌, ◌%◌, ◌^◌, ◌<◌, ◌≤◌, ◌⊎◌, inl, inr, Bool, true, false, List, Option, Some, None, Result, Ok, IsSome, refl, sym, ap, ◌∙◌, subst, arith}
 use Rattle.std.specs.Prelude.{not, ◌&&◌}
-use Rattle.v8_word.specs.declared.Size.TheVariants as sizes
-use Rattle.v8_formats.specs.Table.{meaning}
-use Rattle.v8_formats.specs.declared.instr.Three.{Three}
-use Rattle.v8_formats.specs.declared.instr.Two.{Two}
-use Rattle.v8_meaning.specs.Operations.{operation_of}
-use Rattle.v8_meaning.specs.Operands.{following}
-use Rattle.v8_meaning.specs.declared.operation.MemoryOperand.{MemoryOperand}
-use Rattle.v8_meaning.specs.declared.operation.Operation.{Operation}
-use Rattle.v8_meaning.specs.declared.operation.Operation.TheVariants.{Compute, SetHigh, ReadState, WriteState, Transfer, Save, Restore, JumpAndLink, ReturnFromTrap}
-use Rattle.v8_meaning.specs.declared.operation.Loading.TheVariants as loadings
-use Rattle.v8_meaning.specs.declared.operation.Transfer.{Transfer as Moving}
-use Rattle.v8_meaning.specs.declared.operation.Transfer.TheVariants as transfer
-use Rattle.v8_meaning.specs.Transfers.{received, sent, size_of, writes_memory}
-use Rattle.v8_meaning.specs.declared.operation.Space.{Space}
-use Rattle.v8_meaning.specs.declared.operation.Space.TheVariants as spaces
-use Rattle.v8_meaning.specs.declared.operation.StateRegister.{StateRegister}
-use Rattle.v8_meaning.specs.declared.operation.StateRegister.TheVariants.{Psr, Wim, Tbr}
-use Rattle.v8_mmu.specs.Walked.{root_of}
-use Rattle.v8_mmu.specs.declared.access.Access.{Access}
-use Rattle.v8_mmu.specs.declared.access.AccessKind.TheVariants as kinds
-use Rattle.v8_mmu.specs.declared.translation.MmuRegs.{MmuRegs}
-use Rattle.v8_windows.specs.Windows.{Windows, above, below, moved, with_reg}
+use Rattle.v8_core.specs.Size.TheVariants as sizes
+use Rattle.v8_core.specs.Table.{meaning}
+use Rattle.v8_core.specs.Three.{Three}
+use Rattle.v8_core.specs.Two.{Two}
+use Rattle.v8_core.specs.Operations.{operation_of}
+use Rattle.v8_core.specs.Operands.{following}
+use Rattle.v8_core.specs.MemoryOperand.{MemoryOperand}
+use Rattle.v8_core.specs.Operation.{Operation}
+use Rattle.v8_core.specs.Operation.TheVariants.{Compute, SetHigh, ReadState, WriteState, Transfer, Save, Restore, JumpAndLink, ReturnFromTrap}
+use Rattle.v8_core.specs.Loading.TheVariants as loadings
+use Rattle.v8_core.specs.Transfer.{Transfer as Moving}
+use Rattle.v8_core.specs.Transfer.TheVariants as transfer
+use Rattle.v8_core.specs.Transfers.{received, sent, size_of, writes_memory}
+use Rattle.v8_core.specs.Space.{Space}
+use Rattle.v8_core.specs.Space.TheVariants as spaces
+use Rattle.v8_core.specs.StateRegister.{StateRegister}
+use Rattle.v8_core.specs.StateRegister.TheVariants.{Psr, Wim, Tbr}
+use Rattle.v8_core.specs.Walked.{root_of}
+use Rattle.v8_core.specs.Access.{Access}
+use Rattle.v8_core.specs.AccessKind.TheVariants as kinds
+use Rattle.v8_core.specs.MmuRegs.{MmuRegs}
+use Rattle.v8_core.specs.Windows.{Windows, above, below, moved, with_reg}
 use Rattle.v8_windows.proofs.AfterWrites.{above_less}
-use Rattle.v8_state.specs.declared.state.Control.{Control}
-use Rattle.v8_state.specs.declared.state.Cpu.{Cpu}
-use Rattle.v8_state.specs.Effects.{reg, address_of, advanced, jumped, returned, stepped, written, with_regs, taken, computed, effect}
-use Rattle.v8_state.specs.Registers.{state_word, with_state}
-use Rattle.v8_state.specs.Traps.{first_trap, entered}
+use Rattle.v8_core.specs.Control.{Control}
+use Rattle.v8_core.specs.Cpu.{Cpu}
+use Rattle.v8_core.specs.Effects.{reg, address_of, advanced, jumped, returned, stepped, written, with_regs, taken, computed, effect}
+use Rattle.v8_core.specs.Registers.{state_word, with_state}
+use Rattle.v8_core.specs.Traps.{first_trap, entered}
 use Rattle.v8_core.specs.declared.access.Moved.{Moved}
 use Rattle.v8_core.specs.declared.access.Moved.TheVariants.{Done, Fault}
 use Rattle.v8_core.specs.declared.turn.DataAccess.{DataAccess}
@@ -38,8 +38,8 @@ use Rattle.v8_core.specs.Memory.{Memory, moves, fetches}
 use Rattle.v8_core.specs.Accesses.{World, world, is_user, place_of, access_of, data_kind, transfer_ends, transfers}
 use Rattle.v8_core.specs.Steps.{acts, executes, executes_or, proceeds, attempts, ends, tries, next}
 use Rattle.v8_core.proofs.Turns.{Ready, tries_as}
-use Rattle.v8_layout.specs.Layout.{Pages, AreFew, IsLoaded}
-use Rattle.v8_memory.specs.Board.{Device, board, is_word}
+use Rattle.v8_loaded.specs.Layout.{Pages, AreFew, IsLoaded}
+use Rattle.v8_loaded.specs.Board.{Device, board, is_word}
 use Rattle.v8_contained.specs.Contained.{IsShaped, IsUser, IsSupervisor, Place, Stands, IsOwn, TurnIs, ByVector}
 use Rattle.v8_contained.proofs.Shapes.{shaped_reg, shaped_regs, shaped_moved, shaped_mask, below_less}
 use Rattle.v8_contained.proofs.Accesses.{mem_of, data_access, MoveIs, move_is}

@@ -1,9 +1,9 @@
 -- User code of a contained board, as the laws of the handlers and of the services take it.
 use Rattle.std.proofs.Common.{◌≡◌, ℕ, inl, inr, false, true, List, Option, Some, None, IsSome, sym, ◌∙◌}
-use Rattle.v8_mmu.specs.declared.translation.MmuRegs.{MmuRegs}
+use Rattle.v8_core.specs.MmuRegs.{MmuRegs}
 use Rattle.v8_core.specs.Accesses.{World}
-use Rattle.v8_layout.specs.Layout.{Pages}
-use Rattle.v8_memory.specs.Board.{Device}
+use Rattle.v8_loaded.specs.Layout.{Pages}
+use Rattle.v8_loaded.specs.Board.{Device}
 use Rattle.v8_loaded.proofs.Frames.{state_runs}
 use Rattle.v8_contained.specs.Contained.{IsContained, IsUser}
 use Rattle.v8_contained.specs.Laws.{UserRuns}

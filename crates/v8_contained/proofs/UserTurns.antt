@@ -1,33 +1,33 @@
 -- A turn of user code.
 use Rattle.std.proofs.Common.{◌≡◌, ℕ, ◌+◌, ◌*◌, ◌%◌, ◌^◌, ◌<◌, ◌≤◌, ◌⊎◌, inl, inr, Bool, true, false, List, Option, Some, None, Result, Ok, Err, refl, sym, ap, ◌∙◌, subst, arith, lit<}
 use Rattle.std.specs.Prelude.{not}
-use Rattle.v8_formats.specs.Table.{meaning}
-use Rattle.v8_meaning.specs.Operations.{operation_of}
-use Rattle.v8_meaning.specs.declared.operation.Operation.{Operation}
-use Rattle.v8_mmu.specs.Ram.{entry_of}
-use Rattle.v8_mmu.specs.Paths.{marked_ram}
-use Rattle.v8_mmu.specs.Permissions.{permits, rights_of}
-use Rattle.v8_mmu.specs.Walked.{Page, walked, root_of}
-use Rattle.v8_mmu.specs.declared.access.Access.{Access}
-use Rattle.v8_mmu.specs.declared.access.AccessKind.TheVariants as kinds
-use Rattle.v8_mmu.specs.declared.bus.Stop.{Stop}
-use Rattle.v8_mmu.specs.declared.translation.MmuFault.{MmuFault}
-use Rattle.v8_mmu.specs.declared.translation.MmuRegs.{MmuRegs}
+use Rattle.v8_core.specs.Table.{meaning}
+use Rattle.v8_core.specs.Operations.{operation_of}
+use Rattle.v8_core.specs.Operation.{Operation}
+use Rattle.v8_core.specs.Ram.{entry_of}
+use Rattle.v8_core.specs.Paths.{marked_ram}
+use Rattle.v8_core.specs.Permissions.{permits, rights_of}
+use Rattle.v8_core.specs.Walked.{Page, walked, root_of}
+use Rattle.v8_core.specs.Access.{Access}
+use Rattle.v8_core.specs.AccessKind.TheVariants as kinds
+use Rattle.v8_core.specs.Stop.{Stop}
+use Rattle.v8_core.specs.MmuFault.{MmuFault}
+use Rattle.v8_core.specs.MmuRegs.{MmuRegs}
 use Rattle.v8_mmu.proofs.RamLemmas.{entry_is}
-use Rattle.v8_windows.specs.Windows.{trapped}
-use Rattle.v8_state.specs.declared.state.Cpu.{Cpu}
-use Rattle.v8_state.specs.Effects.{advanced}
-use Rattle.v8_state.specs.Traps.{first_trap, entered}
+use Rattle.v8_core.specs.Windows.{trapped}
+use Rattle.v8_core.specs.Cpu.{Cpu}
+use Rattle.v8_core.specs.Effects.{advanced}
+use Rattle.v8_core.specs.Traps.{first_trap, entered}
 use Rattle.v8_core.specs.declared.turn.DataAccess.{DataAccess}
 use Rattle.v8_core.specs.declared.turn.Event.TheVariants.{Annulled}
 use Rattle.v8_core.specs.declared.turn.Outcome.{Outcome}
 use Rattle.v8_core.specs.Memory.{fetches, fetch_through, fetch_answered}
 use Rattle.v8_core.specs.Accesses.{World, world, is_user, faulted}
 use Rattle.v8_core.specs.Steps.{executes, executes_or, proceeds, attempts, turn_of, ends, tries, skipped, goes_on, next}
-use Rattle.v8_layout.specs.Layout.{Pages, AreFew, IsLoaded}
-use Rattle.v8_layout.specs.AddressMap.{mapped}
+use Rattle.v8_loaded.specs.Layout.{Pages, AreFew, IsLoaded}
+use Rattle.v8_loaded.specs.AddressMap.{mapped}
 use Rattle.v8_layout.proofs.Marks.{mark_keeps}
-use Rattle.v8_memory.specs.Board.{Device, board}
+use Rattle.v8_loaded.specs.Board.{Device, board}
 use Rattle.v8_contained.specs.Contained.{IsUser, IsSupervisor, IsContained, Enters, IsOwn, IsOwnFetch, IsOwnAccess, TurnIs}
 use Rattle.v8_contained.proofs.Shapes.{shaped_trapped}
 use Rattle.v8_contained.proofs.Reaches.{Reached, Kind, Code, Writable, System, Registers, reaches}

@@ -1,38 +1,38 @@
 -- What an operation of user code does, whichever it is.
 use Rattle.std.proofs.Common.{◌≡◌, ℕ, ◌+◌, ◌*◌, ◌%◌, ◌^◌, ◌<◌, ◌≤◌, Bool, true, false, cond, List, [], ◌∷◌, Option, Some, None, IfSome, refl, sym, ap, ◌∙◌, subst, arith, lit<}
 use Rattle.std.specs.Prelude.{◌&&◌, not, find}
-use Rattle.v8_word.specs.Conditions.{holds}
-use Rattle.v8_formats.specs.declared.instr.Branch.{Branch}
-use Rattle.v8_formats.specs.declared.instr.Two.{Two}
-use Rattle.v8_alu.specs.declared.AluOut.{AluOut}
-use Rattle.v8_meaning.specs.Operands.{annuls, following, target}
-use Rattle.v8_meaning.specs.Spaces.{is_normal}
-use Rattle.v8_meaning.specs.Transfers.{received, sent, size_of, writes_memory}
-use Rattle.v8_meaning.specs.declared.operation.MemoryOperand.{MemoryOperand}
-use Rattle.v8_meaning.specs.declared.operation.Operation.{Operation}
-use Rattle.v8_meaning.specs.declared.operation.Operation.TheVariants.{Compute, Divide, TaggedTrap, SetHigh, ReadY, WriteY, ReadState, WriteState, Transfer, Save, Restore, Call, BranchOnCondition, JumpAndLink, ReturnFromTrap, TrapOnCondition, Nothing, Illegal, FloatingPoint, Coprocessor}
-use Rattle.v8_meaning.specs.declared.operation.Transfer.{Transfer as Moving}
-use Rattle.v8_meaning.specs.declared.operation.Space.{Space}
-use Rattle.v8_meaning.specs.declared.operation.Space.TheVariants as spaces
-use Rattle.v8_meaning.specs.declared.operation.StateRegister.{StateRegister}
-use Rattle.v8_meaning.specs.declared.operation.StateRegister.TheVariants.{Psr, Wim, Tbr}
-use Rattle.v8_mmu.specs.declared.access.Access.{Access}
-use Rattle.v8_mmu.specs.declared.translation.MmuRegs.{MmuRegs}
-use Rattle.v8_mmu.specs.Walked.{root_of}
-use Rattle.v8_windows.specs.Windows.{Windows, above, below, moved, with_reg}
+use Rattle.v8_core.specs.Conditions.{holds}
+use Rattle.v8_core.specs.Branch.{Branch}
+use Rattle.v8_core.specs.Two.{Two}
+use Rattle.v8_core.specs.AluOut.{AluOut}
+use Rattle.v8_core.specs.Operands.{annuls, following, target}
+use Rattle.v8_core.specs.Spaces.{is_normal}
+use Rattle.v8_core.specs.Transfers.{received, sent, size_of, writes_memory}
+use Rattle.v8_core.specs.MemoryOperand.{MemoryOperand}
+use Rattle.v8_core.specs.Operation.{Operation}
+use Rattle.v8_core.specs.Operation.TheVariants.{Compute, Divide, TaggedTrap, SetHigh, ReadY, WriteY, ReadState, WriteState, Transfer, Save, Restore, Call, BranchOnCondition, JumpAndLink, ReturnFromTrap, TrapOnCondition, Nothing, Illegal, FloatingPoint, Coprocessor}
+use Rattle.v8_core.specs.Transfer.{Transfer as Moving}
+use Rattle.v8_core.specs.Space.{Space}
+use Rattle.v8_core.specs.Space.TheVariants as spaces
+use Rattle.v8_core.specs.StateRegister.{StateRegister}
+use Rattle.v8_core.specs.StateRegister.TheVariants.{Psr, Wim, Tbr}
+use Rattle.v8_core.specs.Access.{Access}
+use Rattle.v8_core.specs.MmuRegs.{MmuRegs}
+use Rattle.v8_core.specs.Walked.{root_of}
+use Rattle.v8_core.specs.Windows.{Windows, above, below, moved, with_reg}
 use Rattle.v8_windows.proofs.AfterWrites.{above_less}
-use Rattle.v8_state.specs.declared.state.Control.{Control}
-use Rattle.v8_state.specs.declared.state.Cpu.{Cpu}
-use Rattle.v8_state.specs.Effects.{reg, address_of, advanced, jumped, branched, stepped, written, with_regs, taken, computed, computed_from, quotient_from, tagged_from, effect}
-use Rattle.v8_state.specs.Traps.{applies, memory_applies, state_applies, first_trap, by_priority, software_of}
+use Rattle.v8_core.specs.Control.{Control}
+use Rattle.v8_core.specs.Cpu.{Cpu}
+use Rattle.v8_core.specs.Effects.{reg, address_of, advanced, jumped, branched, stepped, written, with_regs, taken, computed, computed_from, quotient_from, tagged_from, effect}
+use Rattle.v8_core.specs.Traps.{applies, memory_applies, state_applies, first_trap, by_priority, software_of}
 use Rattle.v8_core.specs.declared.access.Moved.{Moved}
 use Rattle.v8_core.specs.declared.access.Moved.TheVariants.{Done, Fault}
 use Rattle.v8_core.specs.declared.turn.Outcome.{Outcome}
 use Rattle.v8_core.specs.Memory.{Memory, moves}
 use Rattle.v8_core.specs.Accesses.{World, world, faulted, place_of, access_of, data_kind, transfer_ends, transfers}
 use Rattle.v8_core.specs.Steps.{acts}
-use Rattle.v8_layout.specs.Layout.{Pages, AreFew, IsLoaded}
-use Rattle.v8_memory.specs.Board.{Device, board}
+use Rattle.v8_loaded.specs.Layout.{Pages, AreFew, IsLoaded}
+use Rattle.v8_loaded.specs.Board.{Device, board}
 use Rattle.v8_contained.specs.Contained.{IsShaped, IsUser, IsOwnAccess}
 use Rattle.v8_contained.proofs.Shapes.{shaped_reg, shaped_regs, shaped_moved, below_less}
 use Rattle.v8_contained.proofs.Accesses.{mem_of, data_access, MoveIs, move_is}

@@ -2,19 +2,19 @@
 use Rattle.std.proofs.Common.{◌≡◌, ℕ, zero, suc, ◌+◌, ◌-◌, ◌*◌, ◌/◌, ◌%◌, ◌<◌, ◌≤◌, ◌⊎◌, inl, inr, Bool, true, false, cond, List, refl, ap, ◌∙◌, arith}
 use Rattle.std.specs.Prelude.{◌&&◌, ◌||◌, ◌==◌, slice_index}
 use Rattle.std.proofs.lemmas.Bool.Decides.{nat_tests}
-use Rattle.v8_word.specs.declared.Cond.TheVariants.{Always}
-use Rattle.v8_formats.specs.Table.{meaning}
+use Rattle.v8_core.specs.Cond.TheVariants.{Always}
+use Rattle.v8_core.specs.Table.{meaning}
 use Rattle.v8_formats.proofs.Keys.{by_opcodes}
-use Rattle.v8_formats.specs.declared.instr.Operand.TheVariants.{Register, Immediate}
-use Rattle.v8_formats.specs.declared.instr.Three.{Three}
-use Rattle.v8_formats.specs.declared.instr.Two.{Two}
-use Rattle.v8_meaning.specs.Operations.{operation_of, load, store}
-use Rattle.v8_meaning.specs.declared.operation.MemoryOperand.{MemoryOperand}
-use Rattle.v8_meaning.specs.declared.operation.Loading.TheVariants as loadings
-use Rattle.v8_word.specs.declared.Size.TheVariants as sizes
-use Rattle.v8_meaning.specs.declared.operation.Operation.{Operation}
-use Rattle.v8_meaning.specs.declared.operation.Operation.TheVariants.{SetHigh, BranchOnCondition, JumpAndLink, ReturnFromTrap}
-use Rattle.v8_handlers.specs.Handlers.{trap_word, vector, handler_word, page_word, exit_vector, get_vector, put_vector, stop_vector}
+use Rattle.v8_core.specs.Operand.TheVariants.{Register, Immediate}
+use Rattle.v8_core.specs.Three.{Three}
+use Rattle.v8_core.specs.Two.{Two}
+use Rattle.v8_core.specs.Operations.{operation_of, load, store}
+use Rattle.v8_core.specs.MemoryOperand.{MemoryOperand}
+use Rattle.v8_core.specs.Loading.TheVariants as loadings
+use Rattle.v8_core.specs.Size.TheVariants as sizes
+use Rattle.v8_core.specs.Operation.{Operation}
+use Rattle.v8_core.specs.Operation.TheVariants.{SetHigh, BranchOnCondition, JumpAndLink, ReturnFromTrap}
+use Rattle.v8_loaded.specs.Handlers.{trap_word, vector, handler_word, page_word, exit_vector, get_vector, put_vector, stop_vector}
 use Rattle.v8_loaded.proofs.Words.{Asks, fields, memory_at, source}
 use Rattle.v8_contained.proofs.Supervisors.{tame}
 

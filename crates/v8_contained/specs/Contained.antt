@@ -1,16 +1,17 @@
 -- What a board keeps, whatever words its code has: the invariant of containment.
 use Rattle.std.specs.Prelude.{ℕ, ◌≡◌, ◌+◌, ◌*◌, ◌%◌, ◌/◌, ◌^◌, ◌<◌, ◌≤◌, ◌⊎◌, ◌==◌, if◌then◌else◌, Bool, true, false, List, [], ◌∷◌, ◌++◌, length, get_or, Option, Some, None, IsSome}
-use Rattle.v8_meaning.specs.Transfers.{bytes_in}
-use Rattle.v8_windows.specs.Windows.{Windows, reg_of}
-use Rattle.v8_mmu.specs.Walked.{root_of}
-use Rattle.v8_mmu.specs.declared.translation.MmuRegs.{MmuRegs}
-use Rattle.v8_mmu.specs.declared.bus.Stop.TheVariants.{Exit, Trapped}
-use Rattle.v8_state.specs.declared.state.Cpu.{Cpu}
+use Rattle.v8_core.specs.Transfers.{bytes_in}
+use Rattle.v8_core.specs.Windows.{Windows, reg_of}
+use Rattle.v8_core.specs.Walked.{root_of}
+use Rattle.v8_core.specs.MmuRegs.{MmuRegs}
+use Rattle.v8_core.specs.Stop.TheVariants.{Exit, Trapped}
+use Rattle.v8_core.specs.Cpu.{Cpu}
 use Rattle.v8_core.specs.Accesses.{World}
 use Rattle.v8_core.specs.declared.turn.DataAccess.{DataAccess}
 use Rattle.v8_core.specs.declared.turn.Turn.{Turn}
-use Rattle.v8_layout.specs.Layout.{Pages, AreFew, IsLoaded}
-use Rattle.v8_memory.specs.Board.{Device, gets}
+use Rattle.v8_map.specs.declared.TheConstants.{PAGE, CODE_START, DATA_START, STACK_END, TRAP_TABLE, HANDLERS, DEVICE, CONTEXT_TABLE}
+use Rattle.v8_loaded.specs.Layout.{Pages, AreFew, IsLoaded}
+use Rattle.v8_loaded.specs.Board.{Device, gets}
 
 -- ---- registers
 
@@ -27,7 +28,7 @@ pub record IsUser (n : ℕ) (cpu : Cpu n) : Type 0 where
   pub shape : IsShaped n cpu.regs
   pub user : cpu.control.s ≡ false
   pub traps : cpu.control.et ≡ true
-  pub table : cpu.control.base ≡ 0xF0000000
+  pub table : cpu.control.base ≡ TRAP_TABLE
   pub sane : cpu.control.error ≡ None
   pub pc_word : cpu.control.pc < 2 ^ 32
   pub npc_word : cpu.control.npc < 2 ^ 32
@@ -59,10 +60,10 @@ IsHandler k = (k ≡ 0) ⊎ (k ≡ 32)
 
 -- where the four words of a trap's vector begin, and where word k of the handlers' page lies
 abbrev pub vector_of : ℕ → ℕ
-vector_of t = 0xF0000000 + 16 * t
+vector_of t = TRAP_TABLE + 16 * t
 
 abbrev pub handler_at : ℕ → ℕ
-handler_at k = 0xF0001000 + 4 * k
+handler_at k = HANDLERS + 4 * k
 
 -- the trap whose vector branches to the handler at word k
 abbrev pub trap_to : ℕ → ℕ
@@ -74,7 +75,7 @@ pub record IsActing {n : ℕ} (cpu : Cpu n) (t : ℕ) : Type 0 where
   pub not_over : t ≡ 5 → ⊥
   pub not_under : t ≡ 6 → ⊥
   pub at : IsAt cpu (vector_of t + 4) (vector_of t + 8)
-  pub device : reg_of n cpu.regs 19 ≡ 0xF0010000
+  pub device : reg_of n cpu.regs 19 ≡ DEVICE
 
 -- the services that come back
 abbrev pub IsBack : ℕ → Type 0
@@ -98,7 +99,7 @@ pub record IsSupervisor (n : ℕ) (cpu : Cpu n) : Type 0 where
   pub off : cpu.control.et ≡ false
   pub before : cpu.control.ps ≡ false
   pub straight : cpu.control.annul ≡ false
-  pub table : cpu.control.base ≡ 0xF0000000
+  pub table : cpu.control.base ≡ TRAP_TABLE
   pub sane : cpu.control.error ≡ None
   pub npc_word : cpu.control.npc < 2 ^ 32
   pub place : Place
@@ -119,7 +120,7 @@ pub record IsContained (n : ℕ) (g : Pages) (words : List ℕ) (mmu : MmuRegs) 
   pub few : 4 ≤ n
   pub many : n ≤ 32
   pub pages : AreFew g
-  pub root : root_of mmu ≡ 0x2000
+  pub root : root_of mmu ≡ CONTEXT_TABLE
   pub loaded : IsLoaded n g words x.memory.ram
   pub mode : HasEnded n x ⊎ IsRunning n x
 
@@ -127,7 +128,7 @@ pub record IsContained (n : ℕ) (g : Pages) (words : List ℕ) (mmu : MmuRegs) 
 
 -- the data's pages, or the last pages of the stack
 abbrev pub IsData : Pages → ℕ → ℕ → Type 0
-IsData g va bytes = ((0x80000 ≤ va) × (va + bytes ≤ 0x80000 + 4096 * g.data_count)) ⊎ ((0x100000 ≤ va + 4096 * g.stack_count) × (va + bytes ≤ 0x100000))
+IsData g va bytes = ((DATA_START ≤ va) × (va + bytes ≤ DATA_START + PAGE * g.data_count)) ⊎ ((STACK_END ≤ va + PAGE * g.stack_count) × (va + bytes ≤ STACK_END))
 
 abbrev pub IsOwnAccess : Pages → Option DataAccess → Type 0
 IsOwnAccess g None = Unit
@@ -135,7 +136,7 @@ IsOwnAccess g (Some a) = IsData g a.va (bytes_in a.size)
 
 abbrev pub IsOwnFetch : Pages → ℕ → Option ℕ → Type 0
 IsOwnFetch g pc None = Unit
-IsOwnFetch g pc (Some word) = (0x40000 ≤ pc) × (pc + 4 ≤ 0x40000 + 4096 * g.code_count)
+IsOwnFetch g pc (Some word) = (CODE_START ≤ pc) × (pc + 4 ≤ CODE_START + PAGE * g.code_count)
 
 -- a user's turn: the fetch and the access that were completed
 abbrev pub IsOwn : Pages → Bool → ℕ → Option ℕ → Option DataAccess → Type 0

@@ -1,3 +1,5 @@
+//! How accesses to memory and fetches end.
+
 /// How an access to data ends: the number that came in, of a store 0, and the physical address; or the fault status.
 #[derive(Clone, Copy)]
 pub enum Moved {

@@ -1,3 +1,4 @@
+//! What is told of a turn.
 use v8_mmu::Stop;
 use v8_word::{Size, TrapType};
 

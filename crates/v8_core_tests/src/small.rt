@@ -1,3 +1,4 @@
+//! A small bus for tests.
 #![tactic(auto, unfolding(v8_mmu::specs::Ram::entry_of, v8_mmu::specs::Ram::with_entry))]
 
 ghost use Rattle.std.specs.Prelude.{◌≡◌, ℕ, ◌+◌, ◌*◌, ◌/◌, ◌%◌, ◌^◌, ◌<◌, ◌≤◌, take, drop, ◌++◌, length, nat_le, ◌==◌, ◌&&◌, IsTrue, ◌↔◌, IfSome, Some, None, IsSome, false, replicate};

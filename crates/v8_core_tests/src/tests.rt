@@ -1,3 +1,4 @@
+//! Programs and traps with the states that they leave.
 use crate::small::Small;
 use v8_core::{DataAccess, Event, Machine, Turn};
 use v8_mmu::{MmuRegs, PortFault, Stop};

@@ -1,3 +1,4 @@
+//! The words of the page tables.
 ghost use Rattle.std.specs.Prelude.{◌≡◌, ℕ, ◌+◌, ◌-◌, ◌*◌, ◌^◌, ◌<◌, ◌≤◌, ◌==◌, nat_lt, slice_index, length, if◌then◌else◌};
 ghost use Rattle.v8_layout.specs.Layout.{leads_to, maps, code_entry, data_entry, program_entry, region_entry, stack_entry, system_entry, system_region_entry};
 ghost use Rattle.v8_layout.specs.Tables.{table_word};

@@ -8,26 +8,26 @@
 use Rattle.std.proofs.Common.{◌≡◌, ℕ, ◌+◌, ◌-◌, ◌%◌, ◌^◌, ◌<◌, ◌≤◌, true, false, length, None, refl, ap, ◌∙◌, arith}
 use Rattle.std.specs.Prelude.{slice_index, slice_set, bit_or, bit_xor}
 use Rattle.std.proofs.Math.Nat.{mod-eq_of_lt}
-use Rattle.v8_word.specs.declared.Cond.TheVariants.{Always}
-use Rattle.v8_word.specs.declared.Size.TheVariants.{Double}
-use Rattle.v8_formats.specs.declared.instr.Operand.{Operand}
-use Rattle.v8_formats.specs.declared.instr.Operand.TheVariants.{Register, Immediate}
-use Rattle.v8_alu.specs.declared.Op.{Op}
-use Rattle.v8_alu.specs.declared.Op.TheVariants as ops
-use Rattle.v8_alu.specs.Outcomes.{out, outcome}
-use Rattle.v8_alu.specs.Results.{shifted_left, shifted_right}
-use Rattle.v8_meaning.specs.Operands.{second, target}
-use Rattle.v8_meaning.specs.declared.operation.Operation.{Operation}
-use Rattle.v8_meaning.specs.Operations.{load, store}
-use Rattle.v8_meaning.specs.declared.operation.Loading.TheVariants as loadings
-use Rattle.v8_meaning.specs.declared.operation.Operation.TheVariants.{Compute, SetHigh, ReadState, WriteState, Save, Restore, BranchOnCondition, JumpAndLink, ReturnFromTrap}
-use Rattle.v8_meaning.specs.declared.operation.StateRegister.TheVariants.{Wim}
-use Rattle.v8_mmu.specs.declared.translation.MmuRegs.{MmuRegs}
-use Rattle.v8_windows.specs.Windows.{reg_of, with_reg, below, above, is_masked, can_enter}
-use Rattle.v8_state.specs.declared.state.Control.{Control}
-use Rattle.v8_state.specs.declared.state.Cpu.{Cpu}
-use Rattle.v8_state.specs.Effects.{effect, address_of, advanced, branched, computed, jumped, returned, written}
-use Rattle.v8_state.specs.Traps.{applies, first_trap, memory_applies}
+use Rattle.v8_core.specs.Cond.TheVariants.{Always}
+use Rattle.v8_core.specs.Size.TheVariants.{Double}
+use Rattle.v8_core.specs.Operand.{Operand}
+use Rattle.v8_core.specs.Operand.TheVariants.{Register, Immediate}
+use Rattle.v8_core.specs.Op.{Op}
+use Rattle.v8_core.specs.Op.TheVariants as ops
+use Rattle.v8_core.specs.Outcomes.{out, outcome}
+use Rattle.v8_core.specs.Results.{shifted_left, shifted_right}
+use Rattle.v8_core.specs.Operands.{second, target}
+use Rattle.v8_core.specs.Operation.{Operation}
+use Rattle.v8_core.specs.Operations.{load, store}
+use Rattle.v8_core.specs.Loading.TheVariants as loadings
+use Rattle.v8_core.specs.Operation.TheVariants.{Compute, SetHigh, ReadState, WriteState, Save, Restore, BranchOnCondition, JumpAndLink, ReturnFromTrap}
+use Rattle.v8_core.specs.StateRegister.TheVariants.{Wim}
+use Rattle.v8_core.specs.MmuRegs.{MmuRegs}
+use Rattle.v8_core.specs.Windows.{reg_of, with_reg, below, above, is_masked, can_enter}
+use Rattle.v8_core.specs.Control.{Control}
+use Rattle.v8_core.specs.Cpu.{Cpu}
+use Rattle.v8_core.specs.Effects.{effect, address_of, advanced, branched, computed, jumped, returned, written}
+use Rattle.v8_core.specs.Traps.{applies, first_trap, memory_applies}
 use Rattle.v8_core.specs.Accesses.{World, quiet}
 use Rattle.v8_core.specs.Steps.{acts}
 use Rattle.v8_memory.specs.Board.{Device, board}

@@ -8,10 +8,10 @@
 use Rattle.std.proofs.Common.{◌≡◌, ◌≢◌, ℕ, ◌+◌, ◌*◌, ◌%◌, ◌^◌, ◌<◌, Bool, true, false, List, [], length, get_or, Option, Some, None, sym, ap, ◌∙◌, arith}
 use Rattle.std.specs.Prelude.{slice_index, slice_set, if◌then◌else◌}
 use Rattle.std.proofs.lemmas.List.{get_or-set_same, get_or-set_other, length-set, set-set}
-use Rattle.v8_windows.specs.Windows.{trapped}
-use Rattle.v8_state.specs.declared.state.Control.{Control}
-use Rattle.v8_state.specs.declared.state.Cpu.{Cpu}
-use Rattle.v8_state.specs.Traps.{entered}
+use Rattle.v8_core.specs.Windows.{trapped}
+use Rattle.v8_core.specs.Control.{Control}
+use Rattle.v8_core.specs.Cpu.{Cpu}
+use Rattle.v8_core.specs.Traps.{entered}
 use Rattle.v8_loaded.specs.Places.{entered_window}
 use Rattle.v8_loaded.specs.Users.{in_vector}
 use Rattle.v8_loaded.proofs.Stages.{Inside, stage, handling, fit_written}

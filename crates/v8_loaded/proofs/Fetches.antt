@@ -7,15 +7,15 @@
 --   reaches_input, reaches_device                     the supervisor's walks to the device
 use Rattle.std.proofs.Common.{◌≡◌, ℕ, ◌+◌, ◌-◌, ◌*◌, ◌/◌, ◌^◌, ◌<◌, ◌≤◌, Bool, true, false, List, Some, Ok, refl, ap, ◌∙◌, arith}
 use Rattle.std.specs.Prelude.{slice_index}
-use Rattle.v8_mmu.specs.Permissions.{permits, rights_of}
-use Rattle.v8_mmu.specs.Walked.{Page, walked, root_of}
-use Rattle.v8_mmu.specs.declared.access.Access.{Access}
-use Rattle.v8_mmu.specs.declared.access.AccessKind.{AccessKind}
-use Rattle.v8_mmu.specs.declared.access.AccessKind.TheVariants.{Fetch, Load, Store}
-use Rattle.v8_mmu.specs.declared.translation.MmuRegs.{MmuRegs}
+use Rattle.v8_core.specs.Permissions.{permits, rights_of}
+use Rattle.v8_core.specs.Walked.{Page, walked, root_of}
+use Rattle.v8_core.specs.Access.{Access}
+use Rattle.v8_core.specs.AccessKind.{AccessKind}
+use Rattle.v8_core.specs.AccessKind.TheVariants.{Fetch, Load, Store}
+use Rattle.v8_core.specs.MmuRegs.{MmuRegs}
 use Rattle.v8_core.specs.Memory.{fetches}
 use Rattle.v8_core.proofs.Turns.{fetched}
-use Rattle.v8_handlers.specs.Handlers.{trap_word, handler_word}
+use Rattle.v8_layout.specs.Handlers.{trap_word, handler_word}
 use Rattle.v8_layout.specs.Layout.{Pages, AreFew, HasTables, IsLoaded}
 use Rattle.v8_layout.specs.AddressMap.{mapped, page_at, through, reached, translated}
 use Rattle.v8_layout.proofs.Map.{tables_map, table_at, handlers_at, code_at, device_at}

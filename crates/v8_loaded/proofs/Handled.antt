@@ -5,11 +5,11 @@
 --   ends          the state after them
 --   same_but      RAM after them
 use Rattle.std.proofs.Common.{◌≡◌, ℕ, suc, ◌+◌, ◌*◌, ◌<◌, inr, false, List, Some, sym, ap, ◌∙◌, subst, arith}
-use Rattle.v8_meaning.specs.declared.operation.Operation.{Operation}
-use Rattle.v8_mmu.specs.declared.translation.MmuRegs.{MmuRegs}
-use Rattle.v8_windows.specs.Windows.{below}
-use Rattle.v8_state.specs.declared.state.Cpu.{Cpu}
-use Rattle.v8_state.specs.Traps.{first_trap}
+use Rattle.v8_core.specs.Operation.{Operation}
+use Rattle.v8_core.specs.MmuRegs.{MmuRegs}
+use Rattle.v8_core.specs.Windows.{below}
+use Rattle.v8_core.specs.Cpu.{Cpu}
+use Rattle.v8_core.specs.Traps.{first_trap}
 use Rattle.v8_core.specs.Accesses.{World, world}
 use Rattle.v8_core.specs.Steps.{next}
 use Rattle.v8_layout.specs.Layout.{Pages}

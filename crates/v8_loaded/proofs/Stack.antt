@@ -10,25 +10,25 @@ use Rattle.std.specs.Int.{w32, from_be_bytes}
 use Rattle.std.specs.Prelude.{nat_lt, slice_index}
 use Rattle.std.proofs.lemmas.Bool.Decides.{nat_tests}
 use Rattle.std.proofs.Math.Nat.{mod-eq_of_lt}
-use Rattle.v8_word.specs.declared.Size.TheVariants.{Double}
-use Rattle.v8_formats.specs.declared.instr.Operand.TheVariants.{Immediate}
-use Rattle.v8_meaning.specs.Operations.{load, store}
-use Rattle.v8_meaning.specs.Transfers.{odd_of}
-use Rattle.v8_meaning.specs.declared.operation.Loading.TheVariants as loadings
-use Rattle.v8_meaning.specs.declared.operation.Transfer.TheVariants.{Load, Store}
-use Rattle.v8_mmu.specs.Meaning.{stored_after}
-use Rattle.v8_mmu.specs.Ram.{entry_of, with_entry, with_double}
-use Rattle.v8_mmu.specs.Paths.{marked_ram}
-use Rattle.v8_mmu.specs.Walked.{walked, root_of}
-use Rattle.v8_mmu.specs.declared.access.Access.{Access}
-use Rattle.v8_mmu.specs.declared.access.AccessKind.TheVariants.{Fetch, Load as LoadKind, Store as StoreKind}
-use Rattle.v8_mmu.specs.declared.translation.MmuRegs.{MmuRegs}
-use Rattle.v8_mmu.specs.Permissions.{permits, rights_of}
+use Rattle.v8_core.specs.Size.TheVariants.{Double}
+use Rattle.v8_core.specs.Operand.TheVariants.{Immediate}
+use Rattle.v8_core.specs.Operations.{load, store}
+use Rattle.v8_core.specs.Transfers.{odd_of}
+use Rattle.v8_core.specs.Loading.TheVariants as loadings
+use Rattle.v8_core.specs.Transfer.TheVariants.{Load, Store}
+use Rattle.v8_core.specs.Meaning.{stored_after}
+use Rattle.v8_core.specs.Ram.{entry_of, with_entry, with_double}
+use Rattle.v8_core.specs.Paths.{marked_ram}
+use Rattle.v8_core.specs.Walked.{walked, root_of}
+use Rattle.v8_core.specs.Access.{Access}
+use Rattle.v8_core.specs.AccessKind.TheVariants.{Fetch, Load as LoadKind, Store as StoreKind}
+use Rattle.v8_core.specs.MmuRegs.{MmuRegs}
+use Rattle.v8_core.specs.Permissions.{permits, rights_of}
 use Rattle.v8_mmu.proofs.RamLemmas.{length-with_entry, within_entry}
 use Rattle.v8_mmu.proofs.RamNumbers.{has_double}
-use Rattle.v8_state.specs.declared.state.Control.{Control}
-use Rattle.v8_state.specs.declared.state.Cpu.{Cpu}
-use Rattle.v8_state.specs.Effects.{address_of, advanced, reg, taken}
+use Rattle.v8_core.specs.Control.{Control}
+use Rattle.v8_core.specs.Cpu.{Cpu}
+use Rattle.v8_core.specs.Effects.{address_of, advanced, reg, taken}
 use Rattle.v8_core.specs.declared.access.Moved.{Moved}
 use Rattle.v8_core.specs.declared.access.Moved.TheVariants.{Done}
 use Rattle.v8_core.specs.declared.turn.DataAccess.{DataAccess}
@@ -38,7 +38,7 @@ use Rattle.v8_core.specs.Memory.{Memory, fetches, loaded_from, moves, move_throu
 use Rattle.v8_core.specs.Accesses.{World, world, transfer_ends, transfers}
 use Rattle.v8_core.specs.Steps.{acts, ran_event, turn_of}
 use Rattle.v8_core.proofs.Turns.{runs_to}
-use Rattle.v8_handlers.specs.Handlers.{handler_word}
+use Rattle.v8_layout.specs.Handlers.{handler_word}
 use Rattle.v8_layout.specs.Layout.{Pages, AreFew, IsLoaded}
 use Rattle.v8_layout.proofs.Map.{stack_at}
 use Rattle.v8_layout.proofs.Marks.{Markable, kept_elsewhere, mark_keeps, stack_markable, store_keeps}

@@ -12,13 +12,13 @@ use Rattle.std.proofs.Common.{◌≡◌, ◌≢◌, ℕ, ◌+◌, ◌-◌, ◌%�
 use Rattle.std.specs.Prelude.{slice_index, slice_set, ◌==◌}
 use Rattle.std.proofs.lemmas.Bool.Decides.{nat_tests}
 use Rattle.std.proofs.lemmas.List.{get_or-set_same, get_or-set_other, set-set, set_comm}
-use Rattle.v8_alu.specs.Outcomes.{out}
-use Rattle.v8_meaning.specs.Operands.{following}
-use Rattle.v8_meaning.specs.Transfers.{odd_of}
-use Rattle.v8_windows.specs.Windows.{Windows, reg_of, with_reg, above}
-use Rattle.v8_state.specs.declared.state.Control.{Control}
-use Rattle.v8_state.specs.declared.state.Cpu.{Cpu}
-use Rattle.v8_state.specs.Effects.{advanced, computed, written}
+use Rattle.v8_core.specs.Outcomes.{out}
+use Rattle.v8_core.specs.Operands.{following}
+use Rattle.v8_core.specs.Transfers.{odd_of}
+use Rattle.v8_core.specs.Windows.{Windows, reg_of, with_reg, above}
+use Rattle.v8_core.specs.Control.{Control}
+use Rattle.v8_core.specs.Cpu.{Cpu}
+use Rattle.v8_core.specs.Effects.{advanced, computed, written}
 
 -- windows where window w has the words of `row`
 abbrev pub inside : List (List ℕ) → ℕ → List ℕ → List ℕ → ℕ → ℕ → Windows

@@ -9,15 +9,15 @@
 --   table, handler     one turn more: a word of the trap table, of the handlers, that reaches no memory
 use Rattle.std.proofs.Common.{◌≡◌, ◌≢◌, ℕ, suc, ◌+◌, ◌*◌, ◌%◌, ◌^◌, ◌<◌, ◌≤◌, ◌⊎◌, inl, inr, Bool, true, false, List, length, Option, Some, None, Ok, refl, sym, ap, ◌∙◌, subst, arith}
 use Rattle.std.specs.Prelude.{not, slice_index}
-use Rattle.v8_meaning.specs.declared.operation.Operation.{Operation}
-use Rattle.v8_mmu.specs.Ram.{entry_of, with_entry}
-use Rattle.v8_mmu.specs.Paths.{marked, marked_ram}
-use Rattle.v8_mmu.specs.Walked.{root_of}
-use Rattle.v8_mmu.specs.declared.access.AccessKind.TheVariants.{Fetch}
-use Rattle.v8_mmu.specs.declared.translation.MmuRegs.{MmuRegs}
+use Rattle.v8_core.specs.Operation.{Operation}
+use Rattle.v8_core.specs.Ram.{entry_of, with_entry}
+use Rattle.v8_core.specs.Paths.{marked, marked_ram}
+use Rattle.v8_core.specs.Walked.{root_of}
+use Rattle.v8_core.specs.AccessKind.TheVariants.{Fetch}
+use Rattle.v8_core.specs.MmuRegs.{MmuRegs}
 use Rattle.v8_mmu.proofs.RamLemmas.{Within, entry_is, entry_of-with_entry}
 use Rattle.v8_mmu.proofs.RamMore.{byte_beside_entry, entry_elsewhere, marked_is}
-use Rattle.v8_state.specs.declared.state.Cpu.{Cpu}
+use Rattle.v8_core.specs.Cpu.{Cpu}
 use Rattle.v8_core.specs.declared.turn.DataAccess.{DataAccess}
 use Rattle.v8_core.specs.declared.turn.Event.TheVariants.{Ran}
 use Rattle.v8_core.specs.declared.turn.Turn.{Turn}
@@ -25,7 +25,7 @@ use Rattle.v8_core.specs.Accesses.{World, world, quiet}
 use Rattle.v8_core.specs.Memory.{fetches}
 use Rattle.v8_core.specs.Steps.{next, ran_event, turn_of}
 use Rattle.v8_core.proofs.Turns.{runs_to}
-use Rattle.v8_handlers.specs.Handlers.{trap_word, handler_word}
+use Rattle.v8_layout.specs.Handlers.{trap_word, handler_word}
 use Rattle.v8_layout.specs.Layout.{Pages, AreFew, IsLoaded}
 use Rattle.v8_layout.proofs.Marks.{Markable, kept_elsewhere, sides}
 use Rattle.v8_memory.specs.Board.{Device, board}

@@ -5,13 +5,13 @@
 --   plain_turn, trap_turn     the same as a turn with its event: an operation that reaches no memory; the entry into the trap's vector
 use Rattle.std.proofs.Common.{◌≡◌, ℕ, ◌+◌, ◌^◌, ◌/◌, ◌<◌, ◌≤◌, Bool, true, List, Option, Some, None, Ok, refl, sym, ap, ◌∙◌, subst, arith}
 use Rattle.std.specs.Prelude.{slice_index, not, if◌then◌else◌}
-use Rattle.v8_meaning.specs.declared.operation.Operation.{Operation}
-use Rattle.v8_windows.specs.Windows.{trapped}
-use Rattle.v8_mmu.specs.declared.access.AccessKind.TheVariants.{Fetch}
-use Rattle.v8_mmu.specs.declared.translation.MmuRegs.{MmuRegs}
-use Rattle.v8_state.specs.Effects.{effect}
-use Rattle.v8_state.specs.Traps.{entered, first_trap}
-use Rattle.v8_state.specs.declared.state.Cpu.{Cpu}
+use Rattle.v8_core.specs.Operation.{Operation}
+use Rattle.v8_core.specs.Windows.{trapped}
+use Rattle.v8_core.specs.AccessKind.TheVariants.{Fetch}
+use Rattle.v8_core.specs.MmuRegs.{MmuRegs}
+use Rattle.v8_core.specs.Effects.{effect}
+use Rattle.v8_core.specs.Traps.{entered, first_trap}
+use Rattle.v8_core.specs.Cpu.{Cpu}
 use Rattle.v8_core.specs.declared.turn.DataAccess.{DataAccess}
 use Rattle.v8_core.specs.declared.turn.Event.{Event}
 use Rattle.v8_core.specs.declared.turn.Event.TheVariants.{Ran, Trapped, ErrorMode}

@@ -1,10 +1,10 @@
 -- A turn in the vector of a trap that user code took: a word of the trap table, which may reach the device.
 use Rattle.std.proofs.Common.{◌≡◌, ℕ, ◌+◌, ◌*◌, ◌/◌, ◌<◌, List, Option, None, refl, sym, ap, ◌∙◌, subst, arith}
-use Rattle.v8_meaning.specs.declared.operation.Operation.{Operation}
-use Rattle.v8_windows.specs.Windows.{Windows}
-use Rattle.v8_mmu.specs.declared.access.AccessKind.TheVariants.{Fetch}
-use Rattle.v8_mmu.specs.declared.translation.MmuRegs.{MmuRegs}
-use Rattle.v8_state.specs.Traps.{first_trap}
+use Rattle.v8_core.specs.Operation.{Operation}
+use Rattle.v8_core.specs.Windows.{Windows}
+use Rattle.v8_core.specs.AccessKind.TheVariants.{Fetch}
+use Rattle.v8_core.specs.MmuRegs.{MmuRegs}
+use Rattle.v8_core.specs.Traps.{first_trap}
 use Rattle.v8_core.specs.declared.turn.DataAccess.{DataAccess}
 use Rattle.v8_core.specs.declared.turn.Event.{Event}
 use Rattle.v8_core.specs.declared.turn.Turn.{Turn}
@@ -12,7 +12,7 @@ use Rattle.v8_core.specs.Accesses.{World, world}
 use Rattle.v8_core.specs.Memory.{fetches}
 use Rattle.v8_core.specs.Steps.{acts, ran_event}
 use Rattle.v8_core.proofs.Turns.{Ready, runs_to}
-use Rattle.v8_handlers.specs.Handlers.{trap_word}
+use Rattle.v8_layout.specs.Handlers.{trap_word}
 use Rattle.v8_layout.specs.Layout.{Pages, IsLoaded}
 use Rattle.v8_memory.specs.Board.{Device, board}
 use Rattle.v8_loaded.specs.Places.{table_marked}

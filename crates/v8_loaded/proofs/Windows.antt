@@ -9,8 +9,8 @@
 use Rattle.std.proofs.Common.{◌≡◌, ◌≢◌, ℕ, ◌-◌, ◌%◌, ◌^◌, ◌<◌, ◌≤◌, Bool, true, false, refl, arith}
 use Rattle.std.specs.Prelude.{◌==◌, bit_or, bit_xor, not, if◌then◌else◌, nat_lt}
 use Rattle.std.proofs.lemmas.Bool.Decides.{nat_tests}
-use Rattle.v8_alu.specs.Results.{shifted_left, shifted_right}
-use Rattle.v8_windows.specs.Windows.{below, above, is_masked}
+use Rattle.v8_core.specs.Results.{shifted_left, shifted_right}
+use Rattle.v8_core.specs.Windows.{below, above, is_masked}
 use Rattle.v8_loaded.proofs.Upto.{all_below, all_below_at, each_window}
 
 equals : (a b : ℕ) → (a == b) ≡ true → a ≡ b

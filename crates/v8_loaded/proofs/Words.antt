@@ -5,24 +5,24 @@
 --   underflow handler      shifts_right, joins_local, writes_mask_local, nothing, restores, loads_0 .. loads_7, saves, jumps, returns
 use Rattle.std.proofs.Common.{◌≡◌, ℕ, ◌+◌, ◌-◌, ◌≤◌, false, refl, ap, ◌∙◌, arith}
 use Rattle.std.specs.Prelude.{◌==◌, if◌then◌else◌}
-use Rattle.v8_word.specs.Word.{bits_of}
-use Rattle.v8_word.specs.declared.Cond.TheVariants.{Always}
-use Rattle.v8_formats.specs.Table.{meaning}
-use Rattle.v8_formats.specs.Fields.{shift, short_operand}
+use Rattle.v8_core.specs.Word.{bits_of}
+use Rattle.v8_core.specs.Cond.TheVariants.{Always}
+use Rattle.v8_core.specs.Table.{meaning}
+use Rattle.v8_core.specs.Fields.{shift, short_operand}
 use Rattle.v8_formats.proofs.Keys.{by_opcodes}
-use Rattle.v8_formats.specs.declared.instr.Operand.{Operand}
-use Rattle.v8_formats.specs.declared.instr.Operand.TheVariants.{Register, Immediate}
-use Rattle.v8_formats.specs.declared.instr.Three.{Three}
-use Rattle.v8_formats.specs.declared.instr.Two.{Two}
-use Rattle.v8_alu.specs.declared.Op.TheVariants as ops
-use Rattle.v8_word.specs.declared.Size.TheVariants.{Double}
-use Rattle.v8_meaning.specs.declared.operation.Loading.TheVariants as loadings
-use Rattle.v8_meaning.specs.Operations.{operation_of, load, store}
-use Rattle.v8_meaning.specs.declared.operation.MemoryOperand.{MemoryOperand}
-use Rattle.v8_meaning.specs.declared.operation.Operation.{Operation}
-use Rattle.v8_meaning.specs.declared.operation.Operation.TheVariants.{Compute, SetHigh, ReadState, WriteState, Save, Restore, BranchOnCondition, JumpAndLink, ReturnFromTrap}
-use Rattle.v8_meaning.specs.declared.operation.Space.TheVariants.{Normal}
-use Rattle.v8_meaning.specs.declared.operation.StateRegister.TheVariants.{Wim}
+use Rattle.v8_core.specs.Operand.{Operand}
+use Rattle.v8_core.specs.Operand.TheVariants.{Register, Immediate}
+use Rattle.v8_core.specs.Three.{Three}
+use Rattle.v8_core.specs.Two.{Two}
+use Rattle.v8_core.specs.Op.TheVariants as ops
+use Rattle.v8_core.specs.Size.TheVariants.{Double}
+use Rattle.v8_core.specs.Loading.TheVariants as loadings
+use Rattle.v8_core.specs.Operations.{operation_of, load, store}
+use Rattle.v8_core.specs.MemoryOperand.{MemoryOperand}
+use Rattle.v8_core.specs.Operation.{Operation}
+use Rattle.v8_core.specs.Operation.TheVariants.{Compute, SetHigh, ReadState, WriteState, Save, Restore, BranchOnCondition, JumpAndLink, ReturnFromTrap}
+use Rattle.v8_core.specs.Space.TheVariants.{Normal}
+use Rattle.v8_core.specs.StateRegister.TheVariants.{Wim}
 
 abbrev pub fields : ℕ → ℕ → Operand → Three
 fields d s o = record { rd = d; rs1 = s; operand2 = o }

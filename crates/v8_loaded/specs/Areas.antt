@@ -1,19 +1,21 @@
 -- The save area of a window: the 64 bytes from its %sp on (chapter 4).
 use Rattle.std.specs.Prelude.{ℕ, ◌≡◌, ◌≢◌, ◌⊎◌, ◌+◌, ◌*◌, ◌-◌, ◌%◌, ◌^◌, ◌<◌, ◌≤◌, List, slice_index, Some}
-use Rattle.v8_mmu.specs.Ram.{entry_of}
-use Rattle.v8_windows.specs.Windows.{Windows, word_at}
+use Rattle.v8_core.specs.Ram.{entry_of}
+use Rattle.v8_core.specs.Windows.{Windows, word_at}
+use Rattle.v8_map.specs.declared.TheConstants.{PAGE, STACK_LOWEST, STACK_END, STACK_PLACE, SYSTEM_TABLE, TABLES_END}
 use Rattle.v8_layout.specs.Layout.{Pages}
+use Rattle.v8_layout.specs.AddressMap.{lowered}
 use Rattle.v8_loaded.specs.Places.{code_marked, stack_entry_place}
 
 -- A window's %sp is a multiple of 8, and its 64 bytes lie in the stack's pages.
 pub record HasRoom (g : Pages) (sp : ℕ) : Type 0 where
   pub aligned : sp % 8 ≡ 0
-  pub low : 0x100000 ≤ sp + 4096 * g.stack_count
-  pub high : sp + 64 ≤ 0x100000
+  pub low : STACK_END ≤ sp + PAGE * g.stack_count
+  pub high : sp + 64 ≤ STACK_END
 
 -- where they lie in physical memory
 abbrev pub area_of : ℕ → ℕ
-area_of sp = sp - 0x60000
+area_of sp = lowered STACK_LOWEST STACK_PLACE sp
 
 -- and they hold sixteen words
 pub record HasFrame (g : Pages) (ram : List ℕ) (sp : ℕ) : Type 0 where
@@ -32,7 +34,7 @@ IsBeside p size at count = (count ≡ 0) ⊎ ((p + size ≤ at) ⊎ (at + count 
 -- After a trap at the code word i and the turns of its handler: above the tables no byte differs but so many from a physical address
 -- on. The entries of code, data and stack pages are those after the fetch, but for the pages of the 64 bytes from there on.
 pub record SameBut (i at count : ℕ) (old new : List ℕ) : Type 0 where
-  pub bytes : (p : ℕ) → 0x2E00 ≤ p → IsBeside p 1 at count → slice_index new p ≡ slice_index old p
-  pub words : (p : ℕ) → 0x2E00 ≤ p → IsBeside p 4 at count → entry_of new p ≡ entry_of old p
-  pub entries : (p : ℕ) → p < 0x2D00 → p % 4 ≡ 0 → ((j : ℕ) → j < 16 → p ≢ stack_entry_place (at + 0x60000 + 4 * j)) →
+  pub bytes : (p : ℕ) → TABLES_END ≤ p → IsBeside p 1 at count → slice_index new p ≡ slice_index old p
+  pub words : (p : ℕ) → TABLES_END ≤ p → IsBeside p 4 at count → entry_of new p ≡ entry_of old p
+  pub entries : (p : ℕ) → p < SYSTEM_TABLE → p % 4 ≡ 0 → ((j : ℕ) → j < 16 → p ≢ stack_entry_place (at + (STACK_LOWEST - STACK_PLACE) + 4 * j)) →
       entry_of new p ≡ entry_of (code_marked i old) p

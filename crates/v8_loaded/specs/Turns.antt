@@ -1,14 +1,15 @@
 -- Machine turns of a board in a row, and what each of them touches.
 use Rattle.std.specs.Prelude.{ℕ, zero, suc, ◌≡◌, ◌⊎◌, ◌+◌, ◌/◌, ◌%◌, ◌<◌, ◌≤◌, Bool, true, false, List, length, slice_get, Option, Some, None}
-use Rattle.v8_word.specs.declared.Size.TheVariants.{Double}
-use Rattle.v8_mmu.specs.Meaning.{Meaning}
-use Rattle.v8_mmu.specs.declared.translation.MmuRegs.{MmuRegs}
+use Rattle.v8_core.specs.Size.TheVariants.{Double}
+use Rattle.v8_core.specs.Meaning.{Meaning}
+use Rattle.v8_core.specs.MmuRegs.{MmuRegs}
 use Rattle.v8_core.specs.declared.turn.DataAccess.{DataAccess}
 use Rattle.v8_core.specs.declared.turn.Event.{Event}
 use Rattle.v8_core.specs.declared.turn.Event.TheVariants.{Ran}
 use Rattle.v8_core.specs.declared.turn.Turn.{Turn}
 use Rattle.v8_core.specs.Accesses.{World}
 use Rattle.v8_core.specs.Steps.{next}
+use Rattle.v8_map.specs.declared.TheConstants.{PAGE, CODE_START, TRAP_TABLE, HANDLERS, DEVICE}
 use Rattle.v8_layout.specs.Layout.{Pages}
 use Rattle.v8_memory.specs.Board.{Device, board}
 
@@ -26,7 +27,7 @@ turn_at m n mmu k old = (next m n mmu (after m n mmu k old)).0
 -- the device's page and no other
 abbrev pub ReachesDevice : Option DataAccess → Type 0
 ReachesDevice None = Unit
-ReachesDevice (Some access) = access.va / 4096 ≡ 0xF0010
+ReachesDevice (Some access) = access.va / PAGE ≡ DEVICE / PAGE
 
 -- a double word in so many bytes from an address on, which is stored or loaded
 abbrev pub ReachesArea : ℕ → ℕ → Bool → Option DataAccess → Type 0
@@ -36,15 +37,15 @@ ReachesArea from count store (Some access) = (from ≤ access.va) × (access.va 
 -- What a turn touches, by its mode, place and access: user code is fetched from the code's pages, and reaches no data; a vector is
 -- fetched from the page of the trap table, and reaches the device alone.
 abbrev pub Touches : Pages → Bool → ℕ → Option DataAccess → Type 0
-Touches g true pc access = (0x40 ≤ pc / 4096) × (pc / 4096 < 0x40 + g.code_count) × (access ≡ None)
-Touches g false pc access = (pc / 4096 ≡ 0xF0000) × ReachesDevice access
+Touches g true pc access = (CODE_START / PAGE ≤ pc / PAGE) × (pc / PAGE < CODE_START / PAGE + g.code_count) × (access ≡ None)
+Touches g false pc access = (pc / PAGE ≡ TRAP_TABLE / PAGE) × ReachesDevice access
 
 -- A turn of a window trap's vector or of its handler. It ran in supervisor mode, in the page of the trap table or of the handlers,
 -- and it reaches the save area alone: so many bytes from an address on, which the handler either stores or loads.
 pub record IsHandlers (from count : ℕ) (store : Bool) (turn : Turn) : Type 0 where
   pub event : turn.event ≡ Ran
   pub system : turn.user ≡ false
-  pub page : (turn.pc / 4096 ≡ 0xF0000) ⊎ (turn.pc / 4096 ≡ 0xF0001)
+  pub page : (turn.pc / PAGE ≡ TRAP_TABLE / PAGE) ⊎ (turn.pc / PAGE ≡ HANDLERS / PAGE)
   pub access : ReachesArea from count store turn.access
 
 -- ---- turns of a board that had not ended

@@ -1,15 +1,16 @@
 -- User code on a loaded board.
 use Rattle.std.specs.Prelude.{ℕ, suc, ◌≡◌, ◌+◌, ◌*◌, ◌%◌, ◌^◌, ◌<◌, Bool, true, false, List, slice_index, Some, None}
-use Rattle.v8_formats.specs.Table.{meaning}
-use Rattle.v8_meaning.specs.Operations.{operation_of}
-use Rattle.v8_meaning.specs.declared.operation.Operation.{Operation}
-use Rattle.v8_mmu.specs.Walked.{root_of}
-use Rattle.v8_mmu.specs.declared.translation.MmuRegs.{MmuRegs}
-use Rattle.v8_windows.specs.Windows.{Windows, IsFile}
-use Rattle.v8_state.specs.declared.state.Cpu.{Cpu}
+use Rattle.v8_core.specs.Table.{meaning}
+use Rattle.v8_core.specs.Operations.{operation_of}
+use Rattle.v8_core.specs.Operation.{Operation}
+use Rattle.v8_core.specs.Walked.{root_of}
+use Rattle.v8_core.specs.MmuRegs.{MmuRegs}
+use Rattle.v8_core.specs.Windows.{Windows, IsFile}
+use Rattle.v8_core.specs.Cpu.{Cpu}
 use Rattle.v8_core.specs.declared.turn.Event.TheVariants.{Trapped}
 use Rattle.v8_core.specs.Accesses.{World}
 use Rattle.v8_core.specs.Steps.{next, turn_of}
+use Rattle.v8_map.specs.declared.TheConstants.{CODE_START, TRAP_TABLE, CONTEXT_TABLE}
 use Rattle.v8_layout.specs.Layout.{Pages, AreFew, IsLoaded}
 use Rattle.v8_memory.specs.Board.{Device, board}
 use Rattle.v8_loaded.specs.Turns.{IsHandlers, turn_at}
@@ -22,14 +23,14 @@ pub record RunsUser (n : ℕ) (g : Pages) (words : List ℕ) (mmu : MmuRegs) (x 
   pub traps : x.cpu.control.et ≡ true
   pub straight : x.cpu.control.annul ≡ false
   pub sane : x.cpu.control.error ≡ None
-  pub table : x.cpu.control.base ≡ 0xF0000000
-  pub place : x.cpu.control.pc ≡ 0x00040000 + 4 * i
+  pub table : x.cpu.control.base ≡ TRAP_TABLE
+  pub place : x.cpu.control.pc ≡ CODE_START + 4 * i
   pub within : i < 1024 * g.code_count
   pub npc_word : x.cpu.control.npc < 2 ^ 32
   pub npc_whole : x.cpu.control.npc % 4 ≡ 0
   pub few : AreFew g
   pub loaded : IsLoaded n g words x.memory.ram
-  pub root : root_of mmu ≡ 0x2000
+  pub root : root_of mmu ≡ CONTEXT_TABLE
   pub running : x.memory.device.stopped ≡ None
 
 -- the code word i asks for this operation

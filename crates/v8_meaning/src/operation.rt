@@ -1,3 +1,4 @@
+//! The operations that instructions ask for.
 use v8_alu::{Division, Op, TaggedOp};
 use v8_formats::{Branch, Operand, Three, Trap, Two, Upper};
 use v8_word::{Reg, Size};

@@ -1,7 +1,7 @@
 -- A write to RAM keeps the words beside it.
 use Rattle.std.proofs.Common.{◌≡◌, ℕ, ◌<◌, Bool, true, false, List, Option, Some, None, refl, ap, ◌∙◌}
 use Rattle.std.specs.Prelude.{if◌then◌else◌}
-use Rattle.v8_word.specs.declared.Size.{Size}
+use Rattle.v8_mmu.specs.Size.{Size}
 use Rattle.v8_mmu.specs.Meaning.{bytes_in, limit_of}
 use Rattle.v8_mmu.specs.Ram.{KeepsWords, entry_of, number_at, with_number}
 use Rattle.v8_mmu.proofs.RamNumbers.{stores}

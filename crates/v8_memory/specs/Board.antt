@@ -1,11 +1,12 @@
 -- What the board's bus does: 1 MiB of RAM from physical address 0, and a device of four word registers at 100000000.
 use Rattle.std.specs.Prelude.{ℕ, ◌≡◌, ◌+◌, ◌-◌, ◌%◌, ◌^◌, ◌==◌, ◌&&◌, not, Bool, true, false, List, [], ◌∷◌, ◌++◌, length, slice_index, nat_lt, Option, Some, None, if◌then◌else◌}
-use Rattle.v8_word.specs.declared.Size.{Size}
-use Rattle.v8_word.specs.declared.Size.TheVariants as sizes
+use Rattle.v8_mmu.specs.Size.{Size}
+use Rattle.v8_mmu.specs.Size.TheVariants as sizes
 use Rattle.v8_mmu.specs.declared.bus.Stop.{Stop}
 use Rattle.v8_mmu.specs.declared.bus.Stop.TheVariants.{Exit, Trapped}
 use Rattle.v8_mmu.specs.Meaning.{Meaning, exchanged_after}
 use Rattle.v8_mmu.specs.Ram.{number_at, with_number}
+use Rattle.v8_map.specs.declared.TheConstants.{DEVICE_PLACE, RAM}
 use Rattle.v8_memory.specs.Input.{next_byte}
 
 -- The device: the input that is left, whether its end was met, the output so far, and what has stopped the machine.
@@ -20,12 +21,12 @@ seen i e o s = record { input = i; ended = e; output = o; stopped = s }
 
 -- RAM as it is made
 pub record IsBlank (ram : List ℕ) : Type 0 where
-  pub size : length ram ≡ 0x100000
+  pub size : length ram ≡ RAM
   pub zeros : (i : ℕ) → slice_index ram i ≡ 0
 
 -- addresses from here on are the device's
 abbrev pub device_base : ℕ
-device_base = 0x100000000
+device_base = DEVICE_PLACE
 
 -- ---- the register that gives input
 

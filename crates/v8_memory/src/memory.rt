@@ -1,6 +1,8 @@
+//! RAM and the device, as a bus.
 ghost use Rattle.std.specs.Prelude.{◌≡◌, ℕ, ◌+◌, ◌*◌, ◌%◌, ◌-◌, ◌^◌, ◌<◌, ◌≤◌, ◌==◌, not, [], length, IfErr, IfOk, OnOk, OnErr, None, false, Option};
 ghost use Rattle.std.specs.Borrow.{sem};
 ghost use Rattle.v8_mmu.specs.Answers.{Grows, IfPort, OnPort, OnUnanswered, Rose, call_if, calls_of};
+ghost use Rattle.v8_map.specs.declared.TheConstants.{RAM};
 ghost use Rattle.v8_memory.specs.Placing.{HasWords, HasBytesOf};
 ghost use Rattle.v8_mmu.specs.Ram.{entry_of};
 ghost use Rattle.v8_memory.specs.Board.{IsBlank, device_store, gets, seen};
@@ -8,11 +10,8 @@ ghost use Rattle.v8_memory.specs.Board.{IsBlank, device_store, gets, seen};
 use crate::port::Port;
 use crate::ram::Ram;
 use std::alloc::{AllocError, Global};
-use v8_mmu::{Bus, BusFault, PortFault, Stop};
-use v8_word::Size;
-
-/// Where the device begins.
-const DEVICE: u64 = 0x1_0000_0000;
+use v8_map::DEVICE_PLACE;
+use v8_mmu::{Bus, BusFault, PortFault, Size, Stop};
 
 /// What a load of the input register gives at the end of the input.
 const NO_BYTE: u64 = 0xFFFF_FFFF;
@@ -70,9 +69,9 @@ impl<P: Port> Memory<P> {
     /// Writes so many words to RAM from `at` on, a multiple of 4; past the end of `words` they are 0.
     pub fn set_words(&mut self, at: u64, words: &[u32], count: u64)
         requires whole { at % 4 ≡ 0 }
-        requires fits { at + 4 * count ≤ 0x100000 }
+        requires fits { at + 4 * count ≤ RAM }
         ensures ram { HasWords at words.now count self.old.ram self.new.ram }
-        ensures size { length self.new.ram ≡ 0x100000 }
+        ensures size { length self.new.ram ≡ RAM }
         ensures port { self.new.port ≡ self.old.port }
         ensures ended { self.new.ended ≡ self.old.ended }
         ensures stopped { self.new.stopped ≡ self.old.stopped }
@@ -82,9 +81,9 @@ impl<P: Port> Memory<P> {
 
     /// Writes so many bytes to RAM from `at` on; past the end of `bytes` they are 0.
     pub fn set_bytes(&mut self, at: u64, bytes: &[u8], count: u64)
-        requires { at + count ≤ 0x100000 }
+        requires { at + count ≤ RAM }
         ensures ram { HasBytesOf at bytes.now count self.old.ram self.new.ram }
-        ensures size { length self.new.ram ≡ 0x100000 }
+        ensures size { length self.new.ram ≡ RAM }
         ensures port { self.new.port ≡ self.old.port }
         ensures ended { self.new.ended ≡ self.old.ended }
         ensures stopped { self.new.stopped ≡ self.old.stopped }
@@ -196,7 +195,7 @@ impl<P: Port> Bus for Memory<P> {
     }
 
     fn read(&mut self, pa: u64, size: Size) -> Result<u64, BusFault> {
-        if pa < DEVICE {
+        if pa < DEVICE_PLACE {
             return match self.ram.read(pa, size) {
                 Some(value) => Ok(value),
                 None => Err(BusFault::Unanswered),
@@ -204,7 +203,7 @@ impl<P: Port> Bus for Memory<P> {
         }
         match size {
             Size::Word => {
-                if pa != DEVICE {
+                if pa != DEVICE_PLACE {
                     return Err(BusFault::Unanswered);
                 }
                 match self.get_word() {
@@ -217,7 +216,7 @@ impl<P: Port> Bus for Memory<P> {
     }
 
     fn write(&mut self, pa: u64, size: Size, value: u64) -> Result<(), BusFault> {
-        if pa < DEVICE {
+        if pa < DEVICE_PLACE {
             return if self.ram.write(pa, size, value) {
                 Ok(())
             } else {
@@ -225,13 +224,13 @@ impl<P: Port> Bus for Memory<P> {
             };
         }
         match size {
-            Size::Word => self.put_word(pa - DEVICE, value),
+            Size::Word => self.put_word(pa - DEVICE_PLACE, value),
             Size::Byte | Size::Half | Size::Double => Err(BusFault::Unanswered),
         }
     }
 
     fn swap(&mut self, pa: u64, size: Size, value: u64) -> Result<u64, BusFault> {
-        if pa >= DEVICE {
+        if pa >= DEVICE_PLACE {
             return Err(BusFault::Unanswered);
         }
         match self.ram.read(pa, size) {

@@ -1,3 +1,4 @@
+//! Where input comes from and output goes.
 use v8_mmu::PortFault;
 
 /// A source of input bytes and a sink of output bytes.

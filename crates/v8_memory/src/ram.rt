@@ -1,16 +1,19 @@
+//! RAM as a list of bytes.
 ghost use Rattle.std.specs.Prelude.{◌≡◌, ℕ, ◌+◌, ◌*◌, ◌%◌, ◌/◌, ◌^◌, ◌<◌, ◌≤◌, ◌==◌, ◌&&◌, ◌++◌, IfOk, IfSome, IsSome, IsTrue, ◌↔◌, List, None, true, false, length, nat_le, slice_index, slice_set, take, drop, vec_len, if◌then◌else◌};
 ghost use Rattle.std.specs.Int.{w16, w32, from_be_bytes, to_be_bytes};
 ghost use Rattle.v8_mmu.specs.Meaning.{limit_of};
 ghost use Rattle.v8_mmu.specs.Ram.{HasBytes, byte_of, double_of, entry_of, half_of, number_at, with_byte, with_double, with_entry, with_half, with_number};
+ghost use Rattle.v8_map.specs.declared.TheConstants.{RAM};
 ghost use Rattle.v8_memory.specs.Board.{IsBlank};
 ghost use Rattle.v8_memory.specs.Placing.{HasBytesOf, HasWords};
 
 use byteorder::{BigEndian, ByteOrder};
 use std::alloc::{AllocError, Global};
 use std::marker::Model;
-use v8_word::Size;
+use v8_map::RAM;
+use v8_mmu::Size;
 
-const BYTES: usize = 0x10_0000;
+const BYTES: usize = RAM as usize;
 
 /// RAM of 1 MiB, big-endian. Contracts see the list of its bytes.
 #[derive(Drop)]
@@ -23,7 +26,7 @@ impl Model for Ram {
 
     ghost view = { λ r. r.bytes.items };
 
-    ghost invariant = { λ r. length r.bytes.items ≡ 0x100000 };
+    ghost invariant = { λ r. length r.bytes.items ≡ RAM };
 }
 
 fn zeros(alloc: Global, count: usize) -> Result<Vec<u8>, AllocError>
@@ -59,14 +62,14 @@ impl Ram {
         requires some { 1 ≤ count }
         requires few { count ≤ 8 }
         ensures answer { result ≡ (pa % count == 0 && nat_le (pa + count) (length self.now)) }
-        ensures size { length self.now ≡ 0x100000 }
+        ensures size { length self.now ≡ RAM }
     {
         // That there are 1 MiB of bytes is known where they are looked at.
         let _ = &self.bytes;
-        if pa % count != 0 || pa > 0x10_0000 {
+        if pa % count != 0 || pa > u64::from(RAM) {
             return false;
         }
-        pa + count <= 0x10_0000
+        pa + count <= u64::from(RAM)
     }
 
     /// The word that begins at `pa`, a multiple of 4; None elsewhere.
@@ -88,7 +91,7 @@ impl Ram {
     pub fn set_entry(&mut self, pa: u64, word: u32)
         requires { IsSome (entry_of self.old pa) }
         ensures value { self.new ≡ with_entry self.old pa word }
-        ensures size { length self.new ≡ 0x100000 }
+        ensures size { length self.new ≡ RAM }
     {
         let at = pa as usize;
         BigEndian::write_u32(&mut self.bytes[at..at + 4], word);
@@ -231,9 +234,9 @@ impl Ram {
     /// Writes so many words from `at` on, a multiple of 4; past the end of `words` they are 0.
     pub fn set_words(&mut self, at: u64, words: &[u32], count: u64)
         requires whole { at % 4 ≡ 0 }
-        requires fits { at + 4 * count ≤ 0x100000 }
+        requires fits { at + 4 * count ≤ RAM }
         ensures placed { HasWords at words.now count self.old self.new }
-        ensures size { length self.new ≡ 0x100000 }
+        ensures size { length self.new ≡ RAM }
     {
         // That there are 1 MiB of bytes is known where they are looked at.
         let _ = &self.bytes;
@@ -244,9 +247,9 @@ impl Ram {
 
     /// Writes so many bytes from `at` on; past the end of `bytes` they are 0.
     pub fn set_bytes(&mut self, at: u64, bytes: &[u8], count: u64)
-        requires { at + count ≤ 0x100000 }
+        requires { at + count ≤ RAM }
         ensures placed { HasBytesOf at bytes.now count self.old self.new }
-        ensures size { length self.new ≡ 0x100000 }
+        ensures size { length self.new ≡ RAM }
     {
         // That there are 1 MiB of bytes is known where they are looked at.
         let _ = &self.bytes;
@@ -259,9 +262,9 @@ impl Ram {
     #[tactic(auto, using(crate::proofs::Places::word_there))]
     fn place_word(&mut self, at: u64, word: u32)
         requires whole { at % 4 ≡ 0 }
-        requires fits { at + 4 ≤ 0x100000 }
+        requires fits { at + 4 ≤ RAM }
         ensures value { self.new ≡ with_entry self.old at word }
-        ensures size { length self.new ≡ 0x100000 }
+        ensures size { length self.new ≡ RAM }
     {
         // That there are 1 MiB of bytes is known where they are looked at.
         let _ = &self.bytes;
@@ -270,9 +273,9 @@ impl Ram {
 
     /// Writes a byte at a place that is there.
     fn place_byte(&mut self, at: u64, byte: u8)
-        requires { at < 0x100000 }
+        requires { at < RAM }
         ensures value { self.new ≡ slice_set self.old at byte }
-        ensures size { length self.new ≡ 0x100000 }
+        ensures size { length self.new ≡ RAM }
     {
         let at = at as usize;
         self.bytes[at] = byte;

@@ -1,3 +1,4 @@
+//! Accesses, and what a page allows them (appendix H).
 ghost use Rattle.std.specs.Prelude.{◌≡◌, ℕ, ◌<◌};
 ghost use Rattle.v8_mmu.specs.Permissions.{allows, rights_of, access_type};
 

@@ -1,3 +1,4 @@
+//! The bus: RAM and a device at physical addresses.
 use v8_word::Size;
 
 /// What a port that failed ran out of.

@@ -1,3 +1,4 @@
+//! What a walk begins with, and how it ends.
 ghost use Rattle.std.specs.Prelude.{◌≡◌, ℕ, ◌%◌, ◌^◌, ◌<◌, ◌≤◌};
 
 /// The registers that name the context table and the context in it: a physical address, a multiple of 4 below 2^36, and a

@@ -8,7 +8,7 @@ use Rattle.std.proofs.Common.{◌≡◌, ◌≢◌, ℕ, zero, suc, ◌+◌, ◌
 use Rattle.std.specs.Prelude.{slice_index, slice_set, nat_lt, ◌==◌, if◌then◌else◌}
 use Rattle.std.proofs.lemmas.Bool.Decides.{nat_tests}
 use Rattle.std.proofs.lemmas.List.{get_or-set_same, get_or-set_other, length-set}
-use Rattle.v8_windows.specs.Windows.{AreRows}
+use Rattle.v8_core.specs.Windows.{AreRows}
 use Rattle.v8_windows.proofs.Shape.{rows_written}
 use Rattle.v8_loaded.proofs.Stages.{with_cell}
 

@@ -6,19 +6,19 @@
 --   underflow      two windows down, and back to the attempt
 use Rattle.std.proofs.Common.{◌≡◌, ◌≢◌, ℕ, suc, ◌+◌, ◌-◌, ◌*◌, ◌%◌, ◌^◌, ◌<◌, ◌≤◌, ◌⊎◌, inl, inr, false, List, [], length, get_or, Some, refl, sym, ap, ◌∙◌, subst, arith}
 use Rattle.std.specs.Prelude.{slice_index, bit_xor}
-use Rattle.v8_formats.specs.declared.instr.Operand.TheVariants.{Register}
-use Rattle.v8_meaning.specs.declared.operation.Operation.{Operation}
-use Rattle.v8_meaning.specs.Operations.{load}
-use Rattle.v8_meaning.specs.declared.operation.Loading.TheVariants as loadings
-use Rattle.v8_mmu.specs.Ram.{entry_of}
-use Rattle.v8_mmu.specs.declared.translation.MmuRegs.{MmuRegs}
-use Rattle.v8_windows.specs.Windows.{AreRows, below, above, is_masked}
-use Rattle.v8_state.specs.declared.state.Control.{Control}
-use Rattle.v8_state.specs.declared.state.Cpu.{Cpu}
+use Rattle.v8_core.specs.Operand.TheVariants.{Register}
+use Rattle.v8_core.specs.Operation.{Operation}
+use Rattle.v8_core.specs.Operations.{load}
+use Rattle.v8_core.specs.Loading.TheVariants as loadings
+use Rattle.v8_core.specs.Ram.{entry_of}
+use Rattle.v8_core.specs.MmuRegs.{MmuRegs}
+use Rattle.v8_core.specs.Windows.{AreRows, below, above, is_masked}
+use Rattle.v8_core.specs.Control.{Control}
+use Rattle.v8_core.specs.Cpu.{Cpu}
 use Rattle.v8_core.specs.Accesses.{World, world}
-use Rattle.v8_handlers.specs.Handlers.{trap_word, handler_word, page_word}
-use Rattle.v8_layout.specs.Layout.{Pages, IsLoaded}
-use Rattle.v8_memory.specs.Board.{Device}
+use Rattle.v8_loaded.specs.Handlers.{trap_word, handler_word, page_word}
+use Rattle.v8_loaded.specs.Layout.{Pages, IsLoaded}
+use Rattle.v8_loaded.specs.Board.{Device}
 use Rattle.v8_loaded.specs.Areas.{HasRoom, area_of}
 use Rattle.v8_loaded.proofs.Words.{Asks, at_stack, reads_mask, goes_underflow, shifts_mask_left, shifts_right, joins_local, writes_mask_local, nothing, restores, loads_0, loads_1, loads_2, loads_3, loads_4, loads_5, loads_6, loads_7, saves, jumps, returns}
 use Rattle.v8_loaded.proofs.Windows.{above_below, below_above, below_within, above_within, above_differs, two_above_differs, three_above_differs, not_masked}

@@ -3,18 +3,18 @@ use Rattle.std.proofs.Common.{◌≡◌, ◌≢◌, ℕ, ◌+◌, ◌*◌, ◌^�
 use Rattle.std.specs.Prelude.{◌==◌, slice_index, slice_set}
 use Rattle.std.proofs.lemmas.Bool.Decides.{nat_tests}
 use Rattle.std.proofs.lemmas.List.{get_or-set_same, get_or-set_other}
-use Rattle.v8_formats.specs.declared.instr.Three.{Three}
-use Rattle.v8_meaning.specs.declared.operation.Operation.{Operation}
-use Rattle.v8_meaning.specs.declared.operation.Operation.TheVariants.{Restore}
-use Rattle.v8_mmu.specs.Ram.{entry_of}
-use Rattle.v8_mmu.specs.declared.translation.MmuRegs.{MmuRegs}
-use Rattle.v8_windows.specs.Windows.{above, can_enter, is_masked}
-use Rattle.v8_state.specs.declared.state.Cpu.{Cpu}
-use Rattle.v8_state.specs.Traps.{applies, first_trap}
+use Rattle.v8_core.specs.Three.{Three}
+use Rattle.v8_core.specs.Operation.{Operation}
+use Rattle.v8_core.specs.Operation.TheVariants.{Restore}
+use Rattle.v8_core.specs.Ram.{entry_of}
+use Rattle.v8_core.specs.MmuRegs.{MmuRegs}
+use Rattle.v8_core.specs.Windows.{above, can_enter, is_masked}
+use Rattle.v8_core.specs.Cpu.{Cpu}
+use Rattle.v8_core.specs.Traps.{applies, first_trap}
 use Rattle.v8_core.specs.Accesses.{World, world}
-use Rattle.v8_layout.specs.Layout.{Pages}
+use Rattle.v8_loaded.specs.Layout.{Pages}
 use Rattle.v8_layout.proofs.Marks.{kept_elsewhere}
-use Rattle.v8_memory.specs.Board.{Device}
+use Rattle.v8_loaded.specs.Board.{Device}
 use Rattle.v8_loaded.specs.Areas.{HasFrame, IsFrame, area_of}
 use Rattle.v8_loaded.specs.Places.{code_entry_place, code_marked, entered_window}
 use Rattle.v8_loaded.proofs.Fetches.{code_entry_word}

@@ -7,8 +7,8 @@ use Rattle.std.proofs.Common.{◌≡◌, ℕ, ◌-◌, ◌%◌, ◌^◌, ◌<◌
 use Rattle.std.specs.Prelude.{slice_index, slice_set, bit_or, bit_xor}
 use Rattle.std.proofs.lemmas.List.{get_or-set_same, get_or-set_other, length-set}
 use Rattle.std.proofs.lemmas.Nat.{or_lt}
-use Rattle.v8_alu.specs.Results.{shifted_left, shifted_right}
-use Rattle.v8_windows.specs.Windows.{above}
+use Rattle.v8_core.specs.Results.{shifted_left, shifted_right}
+use Rattle.v8_core.specs.Windows.{above}
 use Rattle.v8_loaded.proofs.Windows.{left_bit}
 use Rattle.v8_loaded.proofs.Stages.{fit_written}
 

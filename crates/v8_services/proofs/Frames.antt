@@ -2,7 +2,7 @@
 use Rattle.std.proofs.Common.{◌≡◌, ◌≢◌, ℕ, zero, suc, ◌-◌, ◌^◌, ◌<◌, ◌≤◌, ◌⊎◌, inl, inr, Bool, true, false, [], length, get_or, refl, sym, ap, ◌∙◌, arith}
 use Rattle.std.specs.Prelude.{◌==◌, ◌&&◌, nat_lt, not, if◌then◌else◌}
 use Rattle.std.proofs.lemmas.Bool.Decides.{nat_tests}
-use Rattle.v8_windows.specs.Windows.{Windows, IsFile, above, below, can_enter, is_masked, moved, reg_of, trapped, with_reg, with_word, word_at}
+use Rattle.v8_core.specs.Windows.{Windows, IsFile, above, below, can_enter, is_masked, moved, reg_of, trapped, with_reg, with_word, word_at}
 use Rattle.v8_windows.proofs.AfterWrites.{above_below, above_less, above_other, reads_place, word_with}
 use Rattle.v8_windows.proofs.Neighbours.{below_first, below_next}
 use Rattle.v8_windows.proofs.Shape.{rows_written}

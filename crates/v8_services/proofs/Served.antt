@@ -2,26 +2,26 @@
 use Rattle.std.proofs.Common.{◌≡◌, ℕ, zero, suc, ◌+◌, ◌*◌, ◌%◌, ◌^◌, ◌<◌, Bool, true, false, List, [], ◌∷◌, ◌++◌, Some, None, refl, sym, ap, ◌∙◌, subst, arith}
 use Rattle.std.specs.Prelude.{◌==◌, if◌then◌else◌}
 use Rattle.std.proofs.lemmas.Bool.Decides.{nat_tests}
-use Rattle.v8_word.specs.declared.Size.TheVariants.{Word}
-use Rattle.v8_formats.specs.Table.{meaning}
-use Rattle.v8_formats.specs.declared.instr.Operand.TheVariants.{Register, Immediate}
-use Rattle.v8_meaning.specs.Operands.{following}
-use Rattle.v8_meaning.specs.Operations.{operation_of}
-use Rattle.v8_windows.specs.Windows.{Windows, above, can_enter, moved, reg_of, trapped, with_reg}
-use Rattle.v8_mmu.specs.declared.bus.Stop.TheVariants.{Exit}
-use Rattle.v8_mmu.specs.declared.translation.MmuRegs.{MmuRegs}
-use Rattle.v8_handlers.specs.Handlers.{trap_word}
-use Rattle.v8_state.specs.Effects.{address_of}
-use Rattle.v8_state.specs.Traps.{applies, first_trap}
-use Rattle.v8_state.specs.declared.state.Control.{Control}
-use Rattle.v8_state.specs.declared.state.Cpu.{Cpu}
+use Rattle.v8_core.specs.Size.TheVariants.{Word}
+use Rattle.v8_core.specs.Table.{meaning}
+use Rattle.v8_core.specs.Operand.TheVariants.{Register, Immediate}
+use Rattle.v8_core.specs.Operands.{following}
+use Rattle.v8_core.specs.Operations.{operation_of}
+use Rattle.v8_core.specs.Windows.{Windows, above, can_enter, moved, reg_of, trapped, with_reg}
+use Rattle.v8_core.specs.Stop.TheVariants.{Exit}
+use Rattle.v8_core.specs.MmuRegs.{MmuRegs}
+use Rattle.v8_loaded.specs.Handlers.{trap_word}
+use Rattle.v8_core.specs.Effects.{address_of}
+use Rattle.v8_core.specs.Traps.{applies, first_trap}
+use Rattle.v8_core.specs.Control.{Control}
+use Rattle.v8_core.specs.Cpu.{Cpu}
 use Rattle.v8_core.specs.declared.turn.Event.{Event}
 use Rattle.v8_core.specs.declared.turn.Event.TheVariants.{Ran, Stopped}
 use Rattle.v8_core.specs.Accesses.{World, world, moving}
 use Rattle.v8_core.specs.Steps.{next, ran_event}
-use Rattle.v8_layout.specs.Layout.{Pages, IsLoaded}
-use Rattle.v8_memory.specs.Board.{Device, board, gets, got_from}
-use Rattle.v8_memory.specs.Input.{next_byte}
+use Rattle.v8_loaded.specs.Layout.{Pages, IsLoaded}
+use Rattle.v8_loaded.specs.Board.{Device, board, gets, got_from}
+use Rattle.v8_loaded.specs.Input.{next_byte}
 use Rattle.v8_loaded.specs.Places.{code_marked, table_marked}
 use Rattle.v8_loaded.specs.Turns.{Leads, TurnsTo, after}
 use Rattle.v8_loaded.specs.Users.{RunsUser, in_vector}

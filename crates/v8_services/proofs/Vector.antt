@@ -1,34 +1,34 @@
 -- The words of the vectors: what each of them does.
 use Rattle.std.proofs.Common.{◌≡◌, ℕ, ◌+◌, ◌%◌, ◌^◌, ◌<◌, true, false, List, [], ◌∷◌, ◌++◌, Some, None, refl, ap, ◌∙◌, arith}
 use Rattle.std.specs.Prelude.{◌==◌}
-use Rattle.v8_word.specs.declared.Size.TheVariants.{Word}
-use Rattle.v8_formats.specs.declared.instr.Operand.TheVariants.{Register, Immediate}
-use Rattle.v8_formats.specs.declared.instr.Three.{Three}
-use Rattle.v8_formats.specs.declared.instr.Two.{Two}
-use Rattle.v8_meaning.specs.Operands.{following}
-use Rattle.v8_meaning.specs.Operations.{load, store}
-use Rattle.v8_meaning.specs.declared.operation.Loading.TheVariants as loadings
-use Rattle.v8_meaning.specs.declared.operation.MemoryOperand.{MemoryOperand}
-use Rattle.v8_meaning.specs.declared.operation.Operation.{Operation}
-use Rattle.v8_meaning.specs.declared.operation.Operation.TheVariants.{SetHigh, JumpAndLink, ReturnFromTrap}
-use Rattle.v8_meaning.specs.declared.operation.Space.TheVariants.{Normal}
-use Rattle.v8_meaning.specs.declared.operation.Transfer.TheVariants as transfer
-use Rattle.v8_windows.specs.Windows.{Windows, above, can_enter, moved, reg_of, trapped, with_reg}
-use Rattle.v8_mmu.specs.declared.access.AccessKind.TheVariants as kinds
-use Rattle.v8_mmu.specs.declared.bus.Stop.TheVariants.{Exit}
-use Rattle.v8_mmu.specs.declared.translation.MmuRegs.{MmuRegs}
-use Rattle.v8_mmu.specs.Walked.{root_of}
-use Rattle.v8_state.specs.Effects.{address_of, effect, taken, written, advanced, jumped, returned}
-use Rattle.v8_state.specs.Traps.{applies, first_trap, memory_applies}
-use Rattle.v8_state.specs.declared.state.Cpu.{Cpu}
+use Rattle.v8_core.specs.Size.TheVariants.{Word}
+use Rattle.v8_core.specs.Operand.TheVariants.{Register, Immediate}
+use Rattle.v8_core.specs.Three.{Three}
+use Rattle.v8_core.specs.Two.{Two}
+use Rattle.v8_core.specs.Operands.{following}
+use Rattle.v8_core.specs.Operations.{load, store}
+use Rattle.v8_core.specs.Loading.TheVariants as loadings
+use Rattle.v8_core.specs.MemoryOperand.{MemoryOperand}
+use Rattle.v8_core.specs.Operation.{Operation}
+use Rattle.v8_core.specs.Operation.TheVariants.{SetHigh, JumpAndLink, ReturnFromTrap}
+use Rattle.v8_core.specs.Space.TheVariants.{Normal}
+use Rattle.v8_core.specs.Transfer.TheVariants as transfer
+use Rattle.v8_core.specs.Windows.{Windows, above, can_enter, moved, reg_of, trapped, with_reg}
+use Rattle.v8_core.specs.AccessKind.TheVariants as kinds
+use Rattle.v8_core.specs.Stop.TheVariants.{Exit}
+use Rattle.v8_core.specs.MmuRegs.{MmuRegs}
+use Rattle.v8_core.specs.Walked.{root_of}
+use Rattle.v8_core.specs.Effects.{address_of, effect, taken, written, advanced, jumped, returned}
+use Rattle.v8_core.specs.Traps.{applies, first_trap, memory_applies}
+use Rattle.v8_core.specs.Cpu.{Cpu}
 use Rattle.v8_core.specs.declared.access.Moved.{Moved}
 use Rattle.v8_core.specs.declared.access.Moved.TheVariants.{Done}
 use Rattle.v8_core.specs.declared.turn.Outcome.{Outcome}
 use Rattle.v8_core.specs.Accesses.{World, world, moving, quiet, transfer_ends, transfers}
 use Rattle.v8_core.specs.Memory.{Memory, moves, move_through}
 use Rattle.v8_core.specs.Steps.{acts}
-use Rattle.v8_layout.specs.Layout.{Pages, AreFew, IsLoaded}
-use Rattle.v8_memory.specs.Board.{Device, board, board_load, board_store, device_load, device_store, gets}
+use Rattle.v8_loaded.specs.Layout.{Pages, AreFew, IsLoaded}
+use Rattle.v8_loaded.specs.Board.{Device, board, board_load, board_store, device_load, device_store, gets}
 use Rattle.v8_loaded.specs.Places.{device_marked}
 use Rattle.v8_loaded.specs.Users.{in_vector}
 use Rattle.v8_loaded.proofs.Fetches.{by_supervisor, reaches_device, reaches_input}

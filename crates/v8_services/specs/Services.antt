@@ -1,19 +1,20 @@
 -- What a call of a service does: the turn of the trap, and those of the words of its vector (chapter 7 and the trap table).
-use Rattle.std.specs.Prelude.{ℕ, ◌≡◌, ◌%◌, ◌^◌, Bool, true, false, List, [], ◌∷◌, ◌++◌, Some}
-use Rattle.v8_word.specs.declared.Cond.TheVariants.{Always}
-use Rattle.v8_formats.specs.declared.instr.Operand.TheVariants.{Immediate}
-use Rattle.v8_meaning.specs.Operands.{following}
-use Rattle.v8_meaning.specs.declared.operation.Operation.{Operation}
-use Rattle.v8_meaning.specs.declared.operation.Operation.TheVariants.{TrapOnCondition}
-use Rattle.v8_windows.specs.Windows.{Windows, below, can_enter, reg_of, with_reg, with_word, trapped}
-use Rattle.v8_mmu.specs.declared.bus.Stop.TheVariants.{Exit}
-use Rattle.v8_mmu.specs.declared.translation.MmuRegs.{MmuRegs}
-use Rattle.v8_state.specs.declared.state.Control.{Control}
+use Rattle.std.specs.Prelude.{ℕ, ◌≡◌, ◌+◌, ◌%◌, ◌^◌, Bool, true, false, List, [], ◌∷◌, ◌++◌, Some}
+use Rattle.v8_core.specs.Cond.TheVariants.{Always}
+use Rattle.v8_core.specs.Operand.TheVariants.{Immediate}
+use Rattle.v8_core.specs.Operands.{following}
+use Rattle.v8_core.specs.Operation.{Operation}
+use Rattle.v8_core.specs.Operation.TheVariants.{TrapOnCondition}
+use Rattle.v8_core.specs.Windows.{Windows, below, can_enter, reg_of, with_reg, with_word, trapped}
+use Rattle.v8_core.specs.Stop.TheVariants.{Exit}
+use Rattle.v8_core.specs.MmuRegs.{MmuRegs}
+use Rattle.v8_core.specs.Control.{Control}
 use Rattle.v8_core.specs.declared.turn.Event.{Event}
 use Rattle.v8_core.specs.declared.turn.Event.TheVariants.{Ran, Trapped, Stopped}
 use Rattle.v8_core.specs.Accesses.{World, world}
-use Rattle.v8_layout.specs.Layout.{Pages}
-use Rattle.v8_memory.specs.Board.{Device, gets}
+use Rattle.v8_map.specs.declared.TheConstants.{TRAP_TABLE, DEVICE}
+use Rattle.v8_loaded.specs.Layout.{Pages}
+use Rattle.v8_loaded.specs.Board.{Device, gets}
 pub use Rattle.v8_loaded.specs.Places.{code_marked, table_marked, device_marked}
 pub use Rattle.v8_loaded.specs.Turns.{ReachesDevice, Touches, TurnsTo, Leads}
 pub use Rattle.v8_loaded.specs.Users.{AsksFor, RunsUser, in_vector}
@@ -34,7 +35,7 @@ service_register = 8
 
 -- the device's first address
 abbrev pub device_address : ℕ
-device_address = 0xF0010000
+device_address = DEVICE
 
 -- %l1, %l2 and %l3 of the window below: PC, nPC and the device's address
 abbrev pub scratched : ℕ → Windows → ℕ → ℕ → Windows
@@ -57,7 +58,7 @@ vector_registers n v pc npc = with_word (trapped n v pc npc) (below n v.current)
 -- the machine has stopped with %o0 as its exit status
 abbrev pub exited : (n : ℕ) → World n Device → ℕ → World n Device
 exited n x i =
-    world n (in_vector n x.cpu 0x80 (vector_registers n x.cpu.regs x.cpu.control.pc x.cpu.control.npc) 0xF0000808 0xF000080C)
+    world n (in_vector n x.cpu 0x80 (vector_registers n x.cpu.regs x.cpu.control.pc x.cpu.control.npc) (TRAP_TABLE + 0x808) (TRAP_TABLE + 0x80C))
     (vector_marked i true x.memory.ram) (record x.memory.device { stopped = Some (Exit (reg_of n x.cpu.regs service_register)) })
 
 -- %o0 has the next byte of input, or all ones at its end

@@ -3,8 +3,8 @@ use Rattle.std.proofs.Common.{◌≡◌, ◌≢◌, ℕ, ◌^◌, ◌<◌, Bool,
 use Rattle.std.specs.Prelude.{slice_index, slice_set, ◌==◌}
 use Rattle.std.proofs.lemmas.Bool.Decides.{nat_tests}
 use Rattle.std.proofs.lemmas.List.{get_or-set_same, get_or-set_other, length-set}
-use Rattle.v8_windows.specs.Windows.{IsFile, AreGlobals, below}
-use Rattle.v8_state.specs.declared.state.Cpu.{Cpu}
+use Rattle.v8_core.specs.Windows.{IsFile, AreGlobals, below}
+use Rattle.v8_core.specs.Cpu.{Cpu}
 use Rattle.v8_loaded.proofs.Windows.{above_below, below_within, mask_within, mask_word}
 use Rattle.v8_loaded.proofs.Stages.{finished}
 use Rattle.v8_loaded.proofs.Entered.{caught, first_row, first_row_pcs, first_row_kept, first_row_fits, finished_control}

@@ -3,17 +3,17 @@ use Rattle.std.proofs.Common.{◌≡◌, ℕ, ◌+◌, ◌-◌, ◌*◌, ◌^◌
 use Rattle.std.specs.Prelude.{slice_index, nat_lt, if◌then◌else◌}
 use Rattle.std.proofs.lemmas.Bool.Decides.{nat_tests}
 use Rattle.std.proofs.lemmas.Option.{same_Some}
-use Rattle.v8_formats.specs.declared.instr.Three.{Three}
-use Rattle.v8_meaning.specs.declared.operation.Operation.{Operation}
-use Rattle.v8_meaning.specs.declared.operation.Operation.TheVariants.{Save}
-use Rattle.v8_mmu.specs.Ram.{entry_of}
-use Rattle.v8_mmu.specs.declared.translation.MmuRegs.{MmuRegs}
-use Rattle.v8_windows.specs.Windows.{below, is_masked, can_enter}
-use Rattle.v8_state.specs.declared.state.Cpu.{Cpu}
-use Rattle.v8_state.specs.Traps.{applies, first_trap}
+use Rattle.v8_core.specs.Three.{Three}
+use Rattle.v8_core.specs.Operation.{Operation}
+use Rattle.v8_core.specs.Operation.TheVariants.{Save}
+use Rattle.v8_core.specs.Ram.{entry_of}
+use Rattle.v8_core.specs.MmuRegs.{MmuRegs}
+use Rattle.v8_core.specs.Windows.{below, is_masked, can_enter}
+use Rattle.v8_core.specs.Cpu.{Cpu}
+use Rattle.v8_core.specs.Traps.{applies, first_trap}
 use Rattle.v8_core.specs.Accesses.{World, world}
-use Rattle.v8_layout.specs.Layout.{Pages}
-use Rattle.v8_memory.specs.Board.{Device}
+use Rattle.v8_loaded.specs.Layout.{Pages}
+use Rattle.v8_loaded.specs.Board.{Device}
 use Rattle.v8_loaded.specs.Areas.{HasFrame, HasRoom, IsFrame, area_of}
 use Rattle.v8_loaded.specs.Places.{code_marked, entered_window}
 use Rattle.v8_loaded.specs.Users.{RunsUser}

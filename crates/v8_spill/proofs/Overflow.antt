@@ -7,21 +7,21 @@
 use Rattle.std.proofs.Common.{◌≡◌, ◌≢◌, ℕ, suc, ◌+◌, ◌-◌, ◌*◌, ◌%◌, ◌^◌, ◌<◌, ◌≤◌, ◌⊎◌, inl, inr, Bool, true, false, List, [], length, get_or, refl, sym, ap, ◌∙◌, subst, arith}
 use Rattle.std.specs.Prelude.{slice_index, slice_set, nat_lt, if◌then◌else◌}
 use Rattle.std.proofs.lemmas.Bool.Decides.{nat_tests}
-use Rattle.v8_meaning.specs.Operands.{following}
-use Rattle.v8_meaning.specs.declared.operation.Operation.{Operation}
-use Rattle.v8_formats.specs.declared.instr.Operand.TheVariants.{Register}
-use Rattle.v8_word.specs.declared.Size.TheVariants.{Double}
-use Rattle.v8_meaning.specs.Operations.{store}
-use Rattle.v8_mmu.specs.declared.translation.MmuRegs.{MmuRegs}
-use Rattle.v8_windows.specs.Windows.{reg_of, below, above, is_masked}
-use Rattle.v8_state.specs.declared.state.Control.{Control}
-use Rattle.v8_state.specs.declared.state.Cpu.{Cpu}
-use Rattle.v8_meaning.specs.Transfers.{odd_of}
-use Rattle.v8_state.specs.Effects.{reg}
+use Rattle.v8_core.specs.Operands.{following}
+use Rattle.v8_core.specs.Operation.{Operation}
+use Rattle.v8_core.specs.Operand.TheVariants.{Register}
+use Rattle.v8_core.specs.Size.TheVariants.{Double}
+use Rattle.v8_core.specs.Operations.{store}
+use Rattle.v8_core.specs.MmuRegs.{MmuRegs}
+use Rattle.v8_core.specs.Windows.{reg_of, below, above, is_masked}
+use Rattle.v8_core.specs.Control.{Control}
+use Rattle.v8_core.specs.Cpu.{Cpu}
+use Rattle.v8_core.specs.Transfers.{odd_of}
+use Rattle.v8_core.specs.Effects.{reg}
 use Rattle.v8_core.specs.Accesses.{World, world}
-use Rattle.v8_handlers.specs.Handlers.{trap_word, handler_word, page_word}
-use Rattle.v8_layout.specs.Layout.{Pages, IsLoaded}
-use Rattle.v8_memory.specs.Board.{Device}
+use Rattle.v8_loaded.specs.Handlers.{trap_word, handler_word, page_word}
+use Rattle.v8_loaded.specs.Layout.{Pages, IsLoaded}
+use Rattle.v8_loaded.specs.Board.{Device}
 use Rattle.v8_loaded.specs.Areas.{HasRoom, area_of}
 use Rattle.v8_loaded.proofs.Windows.{below_within, above_within, below_is_not_above, not_masked}
 use Rattle.v8_loaded.proofs.Words.{Asks, at_stack, reads_mask, goes_overflow, saves_global, shifts_mask_right, shifts_left, joins, saves, writes_mask, nothing, stores_0, stores_1, stores_2, stores_3, stores_4, stores_5, stores_6, stores_7, restores, gives_global, jumps, returns}

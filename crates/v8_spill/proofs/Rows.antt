@@ -2,8 +2,8 @@
 use Rattle.std.proofs.Common.{◌≡◌, ℕ, ◌-◌, ◌%◌, ◌^◌, ◌<◌, ◌≤◌, List, length, ap, ◌∙◌, arith}
 use Rattle.std.specs.Prelude.{slice_index, slice_set, bit_or, bit_xor}
 use Rattle.std.proofs.lemmas.List.{get_or-set_same, get_or-set_other, length-set, set-set, set-get_or}
-use Rattle.v8_alu.specs.Results.{shifted_left, shifted_right}
-use Rattle.v8_windows.specs.Windows.{below}
+use Rattle.v8_core.specs.Results.{shifted_left, shifted_right}
+use Rattle.v8_core.specs.Windows.{below}
 use Rattle.v8_loaded.proofs.Windows.{right_bit}
 use Rattle.v8_loaded.proofs.Stages.{fit_written}
 

@@ -1,13 +1,13 @@
 -- What a window overflow and its handler leave.
 use Rattle.std.specs.Prelude.{ℕ, ◌≡◌, ◌^◌, ◌<◌, true, List}
-use Rattle.v8_formats.specs.declared.instr.Three.{Three}
-use Rattle.v8_meaning.specs.declared.operation.Operation.TheVariants.{Save}
-use Rattle.v8_mmu.specs.declared.translation.MmuRegs.{MmuRegs}
-use Rattle.v8_windows.specs.Windows.{IsFile, word_at, below}
-use Rattle.v8_state.specs.declared.state.Cpu.{Cpu}
+use Rattle.v8_core.specs.Three.{Three}
+use Rattle.v8_core.specs.Operation.TheVariants.{Save}
+use Rattle.v8_core.specs.MmuRegs.{MmuRegs}
+use Rattle.v8_core.specs.Windows.{IsFile, word_at, below}
+use Rattle.v8_core.specs.Cpu.{Cpu}
 use Rattle.v8_core.specs.Accesses.{World}
-use Rattle.v8_layout.specs.Layout.{Pages, IsLoaded}
-use Rattle.v8_memory.specs.Board.{Device, board}
+use Rattle.v8_loaded.specs.Layout.{Pages, IsLoaded}
+use Rattle.v8_loaded.specs.Board.{Device, board}
 use Rattle.v8_loaded.specs.Areas.{HasFrame, HasRoom, IsFrame, SameBut, area_of}
 use Rattle.v8_loaded.specs.Places.{entered_window}
 use Rattle.v8_loaded.specs.Turns.{after}

@@ -1,3 +1,4 @@
+//! The state registers as words, and booting (chapter 4).
 ghost use Rattle.std.specs.Prelude.{◌≡◌, ℕ, ◌+◌, ◌*◌, ◌/◌, ◌%◌, ◌^◌, ◌<◌, ◌≤◌, ◌↔◌, IsTrue, if◌then◌else◌, None, false};
 ghost use Rattle.v8_state.specs.Registers.{booted, cleared, flag_at, psr_codes, psr_modes, psr_of, psr_window, started_with, tbr_of, trap_base, with_psr, with_wim};
 ghost use Rattle.v8_windows.specs.Windows.{IsFile};

@@ -1,3 +1,4 @@
+//! What the processor holds.
 use v8_windows::RegFile;
 use v8_word::{Icc, TrapType};
 

@@ -100,24 +100,15 @@ pub fn immediate(range: Range, expression: Expression) -> Result<u32, SyntaxFaul
     Ok(operand_bits(&Operand::Immediate(word_in(range, expression)?)))
 }
 
-fn zero() -> Reg
-    ensures { result ≡ 0 }
-{
-    match Reg::new(0) {
-        Some(register) => register,
-        None => unreachable!(),
-    }
-}
-
 /// What an address fills: a register alone is added to %g0, and so is a number.
 pub fn sum_of(range: Range, address: &Address) -> Result<u32, SyntaxFault>
     ensures { result ≡ sum_of range address.now }
 {
     let (rs1, operand2) = match address {
-        Address::Register(rs1) => (*rs1, Operand::Register(zero())),
+        Address::Register(rs1) => (*rs1, Operand::Register(Reg::G0)),
         Address::Both(rs1, rs2) => (*rs1, Operand::Register(*rs2)),
         Address::Offset(rs1, offset) => (*rs1, Operand::Immediate(word_in(range, *offset)?)),
-        Address::Absolute(offset) => (zero(), Operand::Immediate(word_in(range, *offset)?)),
+        Address::Absolute(offset) => (Reg::G0, Operand::Immediate(word_in(range, *offset)?)),
     };
     Ok(sum_bits(rs1, &operand2))
 }
@@ -127,7 +118,7 @@ pub fn pair_of(address: &Address) -> Option<(Reg, Reg)>
     ensures { result ≡ pair_of address.now }
 {
     match address {
-        Address::Register(rs1) => Some((*rs1, zero())),
+        Address::Register(rs1) => Some((*rs1, Reg::G0)),
         Address::Both(rs1, rs2) => Some((*rs1, *rs2)),
         Address::Offset(..) | Address::Absolute(_) => None,
     }

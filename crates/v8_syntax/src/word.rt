@@ -69,9 +69,9 @@ fn two_letters(first: u8, second: u8) -> Option<Reg>
     ensures { result ≡ two_letters first second }
 {
     if first == b's' && second == b'p' {
-        Reg::new(14)
+        Some(Reg::SP)
     } else if first == b'f' && second == b'p' {
-        Reg::new(30)
+        Some(Reg::FP)
     } else if first == b'r' && is_decimal(second) {
         Reg::new(second - b'0')
     } else {

@@ -1,3 +1,4 @@
+//! The register file.
 ghost use Rattle.std.specs.Prelude.{if◌then◌else◌, ◌≡◌, ℕ, ◌+◌, ◌-◌, ◌%◌, ◌^◌, ◌<◌, ◌≤◌, ◌↔◌, IsTrue, not, replicate, [], ◌∷◌, length};
 ghost use Rattle.v8_windows.specs.Windows.{IsFile, reg_of, with_reg, below, above, can_enter, is_masked, moved, trapped};
 

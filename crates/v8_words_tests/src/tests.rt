@@ -1,3 +1,4 @@
+//! Rows of words, formats, results, windows, translation and handlers.
 mod formats;
 mod handlers;
 mod results;

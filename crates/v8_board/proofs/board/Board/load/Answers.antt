@@ -1,6 +1,6 @@
 use Rattle.std.proofs.lemmas.Grind.{common_steps}
 use Rattle.std.proofs.Common.{◌^◌, ◌<◌, arith, subst, sym}
-use Rattle.v8_mmu.specs.Ram.{AreBytes}
+use Rattle.v8_core.specs.Ram.{AreBytes}
 use Rattle.v8_board.specs.Seen.{Seen}
 use Rattle.v8_board.proofs.Placed.{placed_loaded, placed_maps}
 use Rattle.v8_board.proofs.Contained.{boots_state, loads_contained}

@@ -1,5 +1,5 @@
 use Rattle.std.proofs.Common.{◌≡◌, length, lit<, refl, rules, arith}
-use Rattle.v8_mmu.specs.Ram.{AreBytes}
+use Rattle.v8_core.specs.Ram.{AreBytes}
 use Rattle.v8_board.proofs.Contained.{blank_bytes, boots_state}
 use Rattle.std.proofs.lemmas.Grind.{common_steps}
 use Rattle.v8_board.proofs.board.Board.new.Goals as goal

@@ -13,7 +13,7 @@ use Rattle.v8_alu.specs.declared.Division.{Division}
 use Rattle.v8_alu.specs.declared.Division.TheVariants.{Udiv, UdivCc, Sdiv, SdivCc}
 use Rattle.v8_alu.specs.declared.TaggedOp.{TaggedOp}
 use Rattle.v8_alu.specs.declared.TaggedOp.TheVariants.{TaggedAdd, TaggedSub}
-use Rattle.sbx_flat.proofs.Signed.{product_word, shift_word}
+use Rattle.v8_alu.proofs.Signed.{product_word, shift_word}
 
 and_word : (a b : ℕ) → a < 2 ^ 32 → bit_and a b < 2 ^ 32
 and_word a b p = let e = and_le_l a b in omega arith
