@@ -1,4 +1,5 @@
 pub mod Packing
+pub mod Products
 pub mod Examples
 pub mod Tables
 pub mod Moves

@@ -7,7 +7,7 @@ use crate::lin::Lin;
 use sbx_image::{Cell, Range};
 
 /// A range, and perhaps a form over the numbers that the block's cells start with.
-#[derive(Clone, Copy, Debug)]
+#[derive(Clone, Copy)]
 pub struct Entry {
     pub range: Range,
     pub form: Option<Lin>,

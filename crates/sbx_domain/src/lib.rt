@@ -21,6 +21,3 @@ pub use lowest::least;
 pub use memory::{frame_word_of, offset_from_sp};
 pub use relation::{Related, Relation};
 pub use state::{LOCATIONS, State};
-
-#[cfg(test)]
-mod tests;

@@ -12,7 +12,7 @@ use sbx_form::{FormTerm, add_terms};
 use std::marker::Model;
 
 /// A term as it is kept: its coefficient is small.
-#[derive(Clone, Copy, Debug)]
+#[derive(Clone, Copy)]
 struct KeptTerm {
     location: u16,
     coefficient: i64,
@@ -20,7 +20,7 @@ struct KeptTerm {
 
 /// A constant plus at most eight terms, by location, over the numbers that a block's cells start with. No coefficient is
 /// above 2^32 in magnitude, and the constant isn't above 2^40.
-#[derive(Clone, Copy, Debug)]
+#[derive(Clone, Copy)]
 pub struct Lin {
     constant: i64,
     // those from `count` on are blank

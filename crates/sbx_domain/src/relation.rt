@@ -3,7 +3,7 @@ ghost use Rattle.std.specs.Prelude.{◌≡◌};
 ghost use Rattle.sbx_domain.specs.Known.{is_at, names, without_location};
 
 /// An operand of a comparison.
-#[derive(Clone, Copy, PartialEq, Eq, Debug)]
+#[derive(Clone, Copy)]
 pub enum Related {
     Location(u16),
     /// A known word: that of %g0, or an immediate.
@@ -11,7 +11,7 @@ pub enum Related {
 }
 
 /// What the codes say of words.
-#[derive(Clone, Copy, PartialEq, Eq, Debug)]
+#[derive(Clone, Copy)]
 pub enum Relation {
     /// They are those of the first less the second.
     Compared(Related, Related),

@@ -18,7 +18,7 @@ pub const LOCATIONS: usize = 1_040;
 
 /// What is known of each location, of Y and of the condition codes. Contracts see it as a table, of which `known` says
 /// what it knows.
-#[derive(Debug, Drop)]
+#[derive(Drop)]
 pub struct State {
     entries: Vec<Option<Entry>>,
     y: Option<Range>,
