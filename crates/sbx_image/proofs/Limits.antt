@@ -151,6 +151,10 @@ words_within p e = is_between 1 65536 (length p.words) (parts_kept p e).word_cou
 pub bytes_within : (p : Parts) → parts_keep p ≡ Ok tt → length p.bytes ≤ 262144
 bytes_within p e = leb-true (length p.bytes) 262144 (both_true _ _ (parts_kept p e).byte_count).0
 
+-- 1 to 16 pages of stack
+pub stack_within : (p : Parts) → parts_keep p ≡ Ok tt → (1 ≤ p.stack_pages) × (p.stack_pages ≤ 16)
+stack_within p e = is_between 1 16 p.stack_pages (parts_kept p e).stack_pages
+
 -- 1 to 256 functions
 pub functions_within : (p : Parts) → parts_keep p ≡ Ok tt → (1 ≤ length p.functions) × (length p.functions ≤ 256)
 functions_within p e = is_between 1 256 (length p.functions) (parts_kept p e).function_count

@@ -60,10 +60,11 @@ impl Image {
         self.parts.words.len() as u32
     }
 
-    /// How many bytes of data there are.
+    /// How many bytes of data there are, up to 262,144.
     #[tactic(auto, using(crate::proofs::Limits::bytes_within))]
     pub fn byte_count(&self) -> u32
-        ensures { result ≡ length self.now.bytes }
+        ensures count { result ≡ length self.now.bytes }
+        ensures few { result ≤ 262144 }
     {
         self.parts.bytes.len() as u32
     }
@@ -83,9 +84,12 @@ impl Image {
         self.parts.bytes.as_slice()
     }
 
-    /// Pages of stack.
+    /// Pages of stack, 1 to 16.
+    #[tactic(auto, using(crate::proofs::Limits::stack_within))]
     pub fn stack_pages(&self) -> u16
-        ensures { result ≡ self.now.stack_pages }
+        ensures count { result ≡ self.now.stack_pages }
+        ensures some { 1 ≤ result }
+        ensures few { result ≤ 16 }
     {
         self.parts.stack_pages
     }

@@ -1,7 +1,6 @@
 pub mod Bare
 pub mod Turns
 pub mod Pages
-pub mod Shows
 pub mod Answer
 pub use Rattle.v8_board.specs.declared.outcome.Outcome
 pub use Rattle.sbx_raw.specs.Traces

@@ -31,7 +31,7 @@ boot_control : (n : ℕ) (old : Cpu n) → (booted n old).control ≡ started_wi
 unfolding booted
 boot_control n old = refl
 
-control_is : (n : ℕ) (old new : Cpu n) → new ≡ booted n old → new.control ≡ started_with old.control.y
+pub control_is : (n : ℕ) (old new : Cpu n) → new ≡ booted n old → new.control ≡ started_with old.control.y
 control_is n old new boot = ap (λ (c : Cpu n). c.control) boot ∙ boot_control n old
 
 boots : (n : ℕ) (old new : Cpu n) → new ≡ booted n old → IsFile n new.regs → IsUser n new

@@ -89,19 +89,21 @@ impl<const N: usize, P: Port> Board<N, P> {
 
     /// Loads an image and boots: trap table, handlers and page tables, the image's code and data, and 0 in the rest of their last
     /// pages. The device's stop and the end of its input are taken back, and the counts begin at 0. Registers that booting leaves,
-    /// Y and the stack's bytes stay as they were. From then on the image is contained, whatever its words are: the law
-    /// `laws::loading_contains`.
+    /// Y and the stack's bytes stay as they were. Whatever ran before, the board's state is one, and from then on the image is
+    /// contained, whatever its words are: the law `laws::loading_contains`.
     pub fn load(&mut self, image: &Image)
         ensures start { IsStart N image.now self.old.state self.new.state }
         ensures loaded { IsLoaded N (pages_of image.now) image.now.words self.new.state.world.memory.ram }
         ensures map { IsMapped (pages_of image.now) self.new.state.world.memory.ram }
-        ensures state { IsState N self.old.state.mmu self.old.state.world → IsState N self.new.state.mmu self.new.state.world }
+        ensures state { IsState N self.new.state.mmu self.new.state.world }
         ensures contained { Contains N image.now self.new.state }
         ensures failed { self.new.failed ≡ self.old.failed }
         ensures calls { self.new.calls ≡ self.old.calls }
     {
         place::<N, P>(self.machine.bus_mut(), image);
         self.machine.boot();
+        // What Y holds is a word, as is known of what is read.
+        let _word = self.machine.y();
         self.counts = Counts::NONE;
     }
 

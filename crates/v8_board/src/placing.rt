@@ -1,5 +1,6 @@
 //! What loading an image places in RAM.
 ghost use Rattle.std.specs.Prelude.{◌≡◌, ℕ, ◌+◌, ◌-◌, ◌*◌, ◌/◌, ◌^◌, ◌<◌, ◌≤◌, length, false, None};
+ghost use Rattle.v8_mmu.specs.Ram.{AreBytes};
 ghost use Rattle.v8_board.specs.Start.{IsPlaced, at_most, pages_of};
 
 use sbx_image::Image;
@@ -61,6 +62,7 @@ pub(crate) fn place<const N: usize, P: Port>(memory: &mut Memory<P>, image: &Ima
     requires at_least { 4 ≤ N }
     requires at_most { N ≤ 32 }
     ensures ram { IsPlaced N image.now memory.old.ram memory.new.ram }
+    ensures bytes { AreBytes memory.new.ram }
     ensures port { memory.new.port ≡ memory.old.port }
     ensures ended { memory.new.ended ≡ false }
     ensures stopped { memory.new.stopped ≡ None }

@@ -4,7 +4,7 @@ ghost use Rattle.std.specs.Borrow.{sem};
 ghost use Rattle.v8_mmu.specs.Answers.{Grows, IfPort, OnPort, OnUnanswered, Rose, call_if, calls_of};
 ghost use Rattle.v8_map.specs.declared.TheConstants.{RAM};
 ghost use Rattle.v8_memory.specs.Placing.{HasWords, HasBytesOf};
-ghost use Rattle.v8_mmu.specs.Ram.{entry_of};
+ghost use Rattle.v8_mmu.specs.Ram.{AreBytes, entry_of};
 ghost use Rattle.v8_memory.specs.Board.{IsBlank, device_store, gets, seen};
 
 use crate::port::Port;
@@ -48,13 +48,15 @@ impl<P: Port> Memory<P> {
         }
     }
 
-    /// Takes back the device's stop and the end of its input.
+    /// Takes back the device's stop and the end of its input. RAM, which holds bytes, stays.
     pub fn restart(&mut self)
         ensures ram { self.new.ram ≡ self.old.ram }
+        ensures bytes { AreBytes self.new.ram }
         ensures port { self.new.port ≡ self.old.port }
         ensures ended { self.new.ended ≡ false }
         ensures stopped { self.new.stopped ≡ None }
     {
+        self.ram.tells_bytes();
         self.ended = false;
         self.stopped = None;
     }

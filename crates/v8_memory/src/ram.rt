@@ -2,7 +2,7 @@
 ghost use Rattle.std.specs.Prelude.{◌≡◌, ℕ, ◌+◌, ◌*◌, ◌%◌, ◌/◌, ◌^◌, ◌<◌, ◌≤◌, ◌==◌, ◌&&◌, ◌++◌, IfOk, IfSome, IsSome, IsTrue, ◌↔◌, List, None, true, false, length, nat_le, slice_index, slice_set, take, drop, vec_len, if◌then◌else◌};
 ghost use Rattle.std.specs.Int.{w16, w32, from_be_bytes, to_be_bytes};
 ghost use Rattle.v8_mmu.specs.Meaning.{limit_of};
-ghost use Rattle.v8_mmu.specs.Ram.{HasBytes, byte_of, double_of, entry_of, half_of, number_at, with_byte, with_double, with_entry, with_half, with_number};
+ghost use Rattle.v8_mmu.specs.Ram.{AreBytes, HasBytes, byte_of, double_of, entry_of, half_of, number_at, with_byte, with_double, with_entry, with_half, with_number};
 ghost use Rattle.v8_map.specs.declared.TheConstants.{RAM};
 ghost use Rattle.v8_memory.specs.Board.{IsBlank};
 ghost use Rattle.v8_memory.specs.Placing.{HasBytesOf, HasWords};
@@ -47,6 +47,13 @@ fn four_bytes(bytes: &[u8], at: usize)
     let _fourth = bytes[at + 3];
 }
 
+/// Tells that the elements are bytes, which is known of each one that is read.
+fn all_bytes(bytes: &[u8])
+    ensures { AreBytes bytes.now }
+{
+    let _ = bytes;
+}
+
 impl Ram {
     /// RAM of zeros.
     pub fn new(alloc: Global) -> Result<Self, AllocError>
@@ -84,6 +91,13 @@ impl Ram {
         let at = pa as usize;
         four_bytes(&self.bytes, at);
         Some(BigEndian::read_u32(&self.bytes[at..at + 4]))
+    }
+
+    /// Tells that RAM holds bytes.
+    pub fn tells_bytes(&self)
+        ensures { AreBytes self.now }
+    {
+        all_bytes(&self.bytes);
     }
 
     /// Writes a word.

@@ -10,6 +10,6 @@ returns c = record {
   made = c.in_ok-board.board.state;
   new = subst (λ (h : Held). IsNew 8 h.input h.output c.in_ok-board.board.state) c.new.ensures c.in_ok-board.ensures.made;
   loaded = c.load.ensures.start;
-  state = c.load.ensures.state c.in_ok-board.ensures.state;
+  state = c.load.ensures.state;
   contained = stays_contained 8 c.args.image.now c.load.new.self.state c.load.ensures.contained;
 }

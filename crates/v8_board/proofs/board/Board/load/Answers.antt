@@ -1,9 +1,8 @@
 use Rattle.std.proofs.lemmas.Grind.{common_steps}
-use Rattle.std.proofs.Common.{◌^◌, ◌<◌, arith, subst, sym}
-use Rattle.v8_core.specs.Ram.{AreBytes}
-use Rattle.v8_board.specs.Seen.{Seen}
+use Rattle.std.proofs.Common.{◌≡◌, ◌^◌, ◌<◌, ap, arith}
+use Rattle.v8_state.specs.declared.state.Control.{Control}
 use Rattle.v8_board.proofs.Placed.{placed_loaded, placed_maps}
-use Rattle.v8_board.proofs.Contained.{boots_state, loads_contained}
+use Rattle.v8_board.proofs.Contained.{boots_state, control_is, loads_contained}
 use Rattle.v8_board.proofs.board.Board.load.Goals as goal
 
 pub returns-clause-map : goal.returns-clause-map
@@ -26,10 +25,11 @@ returns-clause-contained g c =
     (rw c.boot.ensures.bus loaded) (rw c.boot.ensures.mmu c.self.invariant.2) (rw c.boot.ensures.bus c.place.ensures.stopped)
 
 pub returns-clause-state : goal.returns-clause-state
-returns-clause-state g c = λ old.
-    let bytes : AreBytes c.self.inside.machine.bus.ram = subst (λ (v : Seen g.row.N). AreBytes v.state.world.memory.ram) (sym c.self.view_is) old.bytes in
-    let y : c.self.inside.machine.cpu.control.y < 2 ^ 32 = subst (λ (v : Seen g.row.N). v.state.world.cpu.control.y < 2 ^ 32) (sym c.self.view_is) old.cpu.y_word in
-    let lent : AreBytes c.bus_mut.result.now.ram = rw c.bus_mut.ensures.value bytes in
-    let placed = c.place.ensures.ram in
-    boots_state g.row.N c.self.inside.machine.cpu c.boot.new.self.cpu c.boot.new.self.bus.ram c.boot.new.self.mmu _ c.boot.ensures.cpu y c.boot.ensures.file
-    (rw c.boot.ensures.bus placed.size) (rw c.boot.ensures.bus (placed.fit lent)) (rw c.boot.ensures.mmu c.self.invariant.2)
+returns-clause-state g c =
+    let old = c.self.inside.machine.cpu in
+    let new = c.boot.new.self.cpu in
+    let kept : new.control.y ≡ old.control.y = ap (λ (k : Control). k.y) (control_is g.row.N old new c.boot.ensures.cpu) in
+    let read : c.y-word.result ≡ new.control.y = c.y-word.ensures in
+    let y : old.control.y < 2 ^ 32 = omega (arith, kept, read) in
+    boots_state g.row.N old new c.boot.new.self.bus.ram c.boot.new.self.mmu _ c.boot.ensures.cpu y c.boot.ensures.file
+    (rw c.boot.ensures.bus c.place.ensures.ram.size) (rw c.boot.ensures.bus c.place.ensures.bytes) (rw c.boot.ensures.mmu c.self.invariant.2)

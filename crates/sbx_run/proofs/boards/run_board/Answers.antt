@@ -1,0 +1,80 @@
+use Rattle.std.proofs.Common.{◌≡◌, ◌∙◌, ap, inl, inr, subst, sym}
+use Rattle.v8_mmu.specs.Answers.{Rose}
+use Rattle.v8_memory.specs.Board.{Device}
+use Rattle.v8_board.specs.Contains.{Contains}
+use Rattle.v8_board.specs.Runs.{IsCutShort, IsRun}
+use Rattle.v8_board.specs.Start.{IsStart}
+use Rattle.v8_board.specs.declared.outcome.Ending.{Ending}
+use Rattle.v8_board.specs.declared.outcome.Ending.TheVariants.{ErrorMode, Limit, Trapped}
+use Rattle.sbx_image.specs.declared.parts.Parts.{Parts}
+use Rattle.sbx_flat.specs.Runs.{AreBytes, budget}
+use Rattle.sbx_windows.specs.Runs.{IsImage}
+use Rattle.sbx_run.proofs.Answered.{board_ends, board_exits, stands_on, turns_stay}
+use Rattle.sbx_run.proofs.boards.run_board.Goals as goal
+
+pub returns-in-Err-clause-stands : goal.returns-in-Err-clause-stands
+returns-in-Err-clause-stands g c =
+    let same = c.image-image.ensures.image in
+    stands_on g.row.N c.image-image.result.now c.args.accepted.now c.budget.result c.args.board.now.state c.load.new.self.state c.run.new.self.state same (c.budget.ensures ∙ ap budget same) c.load.ensures.start c.in-Err.ensures.stands c.in-Err.ensures.goes_on
+
+pub returns-in-Err-clause-state : goal.returns-in-Err-clause-state
+returns-in-Err-clause-state g c =
+    let bytes : AreBytes c.load.new.self.state.world.memory.device.input = subst (λ (d : Device). AreBytes d.input) (sym c.load.ensures.start.device) c.requires in
+    let cut : IsCutShort g.row.N c.budget.result c.load.new.self.state c.run.new.self.state = c.in-Err.ensures.stands in
+    (turns_stay g.row.N c.load.new.self.state c.run.new.self.state cut.turns (c.load.ensures.state, bytes)).0
+
+pub returns-in-Err-clause-bytes : goal.returns-in-Err-clause-bytes
+returns-in-Err-clause-bytes g c =
+    let bytes : AreBytes c.load.new.self.state.world.memory.device.input = subst (λ (d : Device). AreBytes d.input) (sym c.load.ensures.start.device) c.requires in
+    let cut : IsCutShort g.row.N c.budget.result c.load.new.self.state c.run.new.self.state = c.in-Err.ensures.stands in
+    (turns_stay g.row.N c.load.new.self.state c.run.new.self.state cut.turns (c.load.ensures.state, bytes)).1
+
+pub returns-in-Err-clause-contained : goal.returns-in-Err-clause-contained
+returns-in-Err-clause-contained g c =
+    c.in-Err.ensures.contained c.args.accepted.now (subst (λ (p : Parts). Contains g.row.N p c.load.new.self.state) c.image-image.ensures.image c.load.ensures.contained)
+
+pub returns-in-Err-clause-cause : goal.returns-in-Err-clause-cause
+returns-in-Err-clause-cause g c = subst (λ k. Rose k c.run.new.self.failed) c.load.ensures.failed c.in-Err.ensures.cause
+
+pub unreachable-requires : goal.unreachable-requires
+unreachable-requires g c =
+    let parts = c.args.accepted.now in
+    let same = c.image-image.ensures.image in
+    let start = c.load.new.self.state in
+    let end = c.run.new.self.state in
+    let loaded : IsStart g.row.N parts c.args.board.now.state start = subst (λ (p : Parts). IsStart g.row.N p c.args.board.now.state start) same c.load.ensures.start in
+    let limits : IsImage parts = subst IsImage same c.tells_limits.ensures in
+    let run : IsRun g.row.N (budget parts) start end = subst (λ k. IsRun g.row.N k start end) (c.budget.ensures ∙ ap budget same) c.in-Ok.ensures.run in
+    let no = board_exits g.row.N parts c.args.board.now.state start end limits c.image-image.ensures.safe c.requires loaded c.load.ensures.state run c.in-Ok.outcome in
+    elim c.in-Trapped.is [
+      | inl trapped ↦ no (Trapped trapped.0) c.in-Ok.ensures.told trapped.1 (λ status e. cc)
+      | inr rest ↦ elim rest [ inl error ↦ no (ErrorMode error.0) c.in-Ok.ensures.told error.1 (λ status e. cc) | inr limit ↦ no Limit c.in-Ok.ensures.told limit (λ status e. cc) ]
+    ]
+
+pub returns-clause-ended : goal.returns-clause-ended
+returns-clause-ended g c =
+    let parts = c.args.accepted.now in
+    let same = c.image-image.ensures.image in
+    let start = c.load.new.self.state in
+    let end = c.run.new.self.state in
+    let loaded : IsStart g.row.N parts c.args.board.now.state start = subst (λ (p : Parts). IsStart g.row.N p c.args.board.now.state start) same c.load.ensures.start in
+    let limits : IsImage parts = subst IsImage same c.tells_limits.ensures in
+    let run : IsRun g.row.N (budget parts) start end = subst (λ k. IsRun g.row.N k start end) (c.budget.ensures ∙ ap budget same) c.in-Ok.ensures.run in
+    board_ends g.row.N parts c.args.board.now.state start end limits c.image-image.ensures.safe c.requires loaded c.load.ensures.state run _
+    (ap (λ (e : Ending). record c.in-Ok.outcome { ending = e }) (sym c.in-Exit.is) ∙ c.in-Ok.ensures.told) c.page_use.ensures
+
+pub returns-clause-state : goal.returns-clause-state
+returns-clause-state g c =
+    let bytes : AreBytes c.load.new.self.state.world.memory.device.input = subst (λ (d : Device). AreBytes d.input) (sym c.load.ensures.start.device) c.requires in
+    let run : IsRun g.row.N c.budget.result c.load.new.self.state c.run.new.self.state = c.in-Ok.ensures.run in
+    (turns_stay g.row.N c.load.new.self.state c.run.new.self.state run.turns (c.load.ensures.state, bytes)).0
+
+pub returns-clause-bytes : goal.returns-clause-bytes
+returns-clause-bytes g c =
+    let bytes : AreBytes c.load.new.self.state.world.memory.device.input = subst (λ (d : Device). AreBytes d.input) (sym c.load.ensures.start.device) c.requires in
+    let run : IsRun g.row.N c.budget.result c.load.new.self.state c.run.new.self.state = c.in-Ok.ensures.run in
+    (turns_stay g.row.N c.load.new.self.state c.run.new.self.state run.turns (c.load.ensures.state, bytes)).1
+
+pub returns-clause-contained : goal.returns-clause-contained
+returns-clause-contained g c =
+    c.in-Ok.ensures.contained c.args.accepted.now (subst (λ (p : Parts). Contains g.row.N p c.load.new.self.state) c.image-image.ensures.image c.load.ensures.contained)

@@ -1,0 +1,61 @@
+//! Runs of accepted images on a board of the caller's.
+ghost use Rattle.std.specs.Prelude.{◌≡◌, ◌≤◌, IfErr, IfOk, OnErr};
+ghost use Rattle.v8_mmu.specs.Answers.{Rose};
+ghost use Rattle.v8_loaded.specs.States.{IsState};
+ghost use Rattle.v8_board.specs.Contains.{Contains};
+ghost use Rattle.sbx_flat.specs.Runs.{AreBytes};
+ghost use Rattle.sbx_run.specs.Answer.{EndsOn, StandsOn};
+
+use crate::limits::tells_limits;
+use sbx_raw::{Ending, PageUse};
+use sbx_verify::{Accepted, budget};
+use v8_board::{Board, Port};
+use v8_mmu::PortFault;
+
+/// What a run on a board gave: the exit word, the turns, how often there was no window to save to or to restore from, and which pages
+/// were referenced and modified. The port has what the program put out.
+#[derive(Clone, Copy)]
+pub struct Ended {
+    pub status: u32,
+    pub turns: u64,
+    pub overflows: u64,
+    pub underflows: u64,
+    pub pages: PageUse,
+}
+
+/// Loads an accepted image into a board and runs it to its end, on the input that the board's port has to give: whatever the board's
+/// registers, its stack and the image before left. The image exits within its budget, as every run on the flat machine does, and the
+/// board stands where the last turn left it. On a fault of the port it stands after the last whole turn, and `Board::run` goes on with
+/// the turns that are left of the budget.
+pub fn run_board<const N: usize, P: Port>(
+    board: &mut Board<N, P>,
+    accepted: &Accepted,
+) -> Result<Ended, PortFault>
+    requires { AreBytes board.old.state.world.memory.device.input }
+    ensures ended { IfOk result (λ ended. EndsOn N accepted.now board.old.state board.new.state ended) }
+    ensures stands { OnErr result (StandsOn N accepted.now board.old.state board.new.state) }
+    ensures state { IsState N board.new.state.mmu board.new.state.world }
+    ensures bytes { AreBytes board.new.state.world.memory.device.input }
+    ensures contained { Contains N accepted.now board.new.state }
+    ensures count { board.old.failed ≤ board.new.failed }
+    ensures cause { OnErr result (Rose board.old.failed board.new.failed) }
+    ensures own { IfErr result (λ fault. board.new.fault ≡ fault) }
+{
+    let image = accepted.image();
+    tells_limits(image);
+    board.load(image);
+    let outcome = match board.run(budget(image)) {
+        Ok(outcome) => outcome,
+        Err(fault) => return Err(fault),
+    };
+    match outcome.ending {
+        Ending::Exit(status) => Ok(Ended {
+            status,
+            turns: outcome.turns,
+            overflows: outcome.overflows,
+            underflows: outcome.underflows,
+            pages: board.page_use(),
+        }),
+        Ending::Trapped(_) | Ending::ErrorMode(_) | Ending::Limit => unreachable!(),
+    }
+}
