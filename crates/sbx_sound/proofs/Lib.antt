@@ -19,7 +19,9 @@ pub mod Dispatch
 pub mod Positive
 pub mod Start
 pub mod Written
+pub mod Writing
 pub mod Plain
+pub mod Moves
 pub mod FrameWords
 pub mod DataWords
 pub mod LowFields
