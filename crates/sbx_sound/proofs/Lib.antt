@@ -22,6 +22,7 @@ pub mod Written
 pub mod Writing
 pub mod Plain
 pub mod Moves
+pub mod Addresses
 pub mod FrameWords
 pub mod DataWords
 pub mod LowFields
