@@ -32,7 +32,7 @@ use Rattle.sbx_sound.proofs.Steps.{Does, linked_at, op_of}
 use Rattle.sbx_sound.proofs.Stored.{bytes_after_first, stored_after_store}
 use Rattle.v8_meaning.specs.declared.operation.Loading.TheVariants as loadings
 
-number_same : (a b : Bytes) → ((x : ℕ) → a x ≡ b x) → (place count : ℕ) → number_at a place count ≡ number_at b place count
+pub number_same : (a b : Bytes) → ((x : ℕ) → a x ≡ b x) → (place count : ℕ) → number_at a place count ≡ number_at b place count
 number_same a b same place zero = refl
 number_same a b same place (suc count) = ap (λ n. followed_by n (a (place + count))) (number_same a b same place count) ∙ ap (λ x. followed_by (number_at b place count) x) (same (place + count))
 
@@ -41,7 +41,7 @@ no_slot (transfer.Load loadings.Word) s a h = h
 no_slot (transfer.Store sizes.Word) s a h = h
 no_slot _ s a h = refl
 
-is_aligned : (size a : ℕ) (t : Turn) → a % size ≡ 0 → aligned size a t ≡ t
+pub is_aligned : (size a : ℕ) (t : Turn) → a % size ≡ 0 → aligned size a t ≡ t
 is_aligned size a t e = let f : (a % size == 0) ≡ true = grind (arith, nat_tests) in ap (λ (b : Bool). if b then t else Fails Misaligned) f
 
 no_link : (n v : ℕ) (words : Words) → 15 ≢ n → with_location n v words 15 ≡ words 15

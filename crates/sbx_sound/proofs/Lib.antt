@@ -23,6 +23,7 @@ pub mod Writing
 pub mod Plain
 pub mod Moves
 pub mod Addresses
+pub mod DataSteps
 pub mod FrameWords
 pub mod DataWords
 pub mod LowFields

@@ -95,6 +95,10 @@ module _ (function : Function) (o : Operation) (d : Known) (known : reads_undefi
   read_known n r is some =
       known_of (r == 0) (is_reserved r) (is_defined d r) (none_of (λ x. not (x == 0) && not (is_reserved x) && not (is_defined d x)) (reads_of function o) n r is parts_known.0) (some_number r some) (none_of is_reserved (reads_of function o) n r is parts_kept.0)
 
+  -- nor is it one of the reserved ones
+  pub read_free : (n r : ℕ) → slice_get (reads_of function o) n ≡ Some r → is_reserved r ≡ false
+  read_free n r is = none_of is_reserved (reads_of function o) n r is parts_kept.0
+
   pub write_allowed : (n r : ℕ) → slice_get (writes_of o) n ≡ Some r → may_write function o r ≡ true
   write_allowed n r is = undone (may_write function o r) (none_of (λ x. not (may_write function o x)) (writes_of o) n r is parts_kept.1)
 

@@ -99,3 +99,15 @@ module _ (parts : Parts) (w : ℕ) (p : Spot parts w) where
 
     pub keeps_y : (s : State) → ShowsSpot parts w p s → is_some (then_knows o).y ≡ true → s.y ≡ p.k.y
     keeps_y s h r = h.y (sym (ap (λ (k : Known). is_some k.y) same ∙ ap (λ (x : Option Range). is_some x) (entry_y rd e d)) ∙ r)
+
+    pub is_fewer : IsFewer before (after o) rd
+    is_fewer = record {
+      none = refl;
+      location = λ l r apart. more_tests l (is_defined (then_knows o) l) (is_defined d l) (linked_at parts w p) (entry_defined l apart) r;
+      codes = λ r. sym (ap (λ (k : Known). k.icc) same ∙ entry_codes rd e d) ∙ r;
+      y = λ r. sym (ap (λ (k : Known). is_some k.y) same ∙ ap (λ (x : Option Range). is_some x) (entry_y rd e d)) ∙ r;
+    }
+
+  -- where nothing changes
+  pub unchanged_is_fewer : (o : Operation) → then_knows o ≡ d → IsFewer before (after o) 0
+  unchanged_is_fewer o same = subst (λ k. IsFewer before (tests parts k (linked_at parts w p)) 0) (sym same) (record { none = refl; location = λ l r apart. r; codes = λ r. r; y = λ r. r })
