@@ -24,6 +24,7 @@ pub mod Plain
 pub mod Moves
 pub mod Addresses
 pub mod DataSteps
+pub mod FrameSteps
 pub mod FrameWords
 pub mod DataWords
 pub mod LowFields
