@@ -69,7 +69,7 @@ pub record Refines (c : Cond) (d : Known) (start : Cells) (words : Words) (icc :
   pub codes : known.icc ≡ true → d.icc ≡ true
   pub y_defined : is_some known.y ≡ true → is_some d.y ≡ true
 
-not_always : (c : Cond) (icc : Icc) → holds c icc ≡ false → is_always c ≡ false
+pub not_always : (c : Cond) (icc : Icc) → holds c icc ≡ false → is_always c ≡ false
 not_always conds.Always icc h = absurd (cc)
 not_always _ icc h = refl
 
@@ -103,7 +103,7 @@ module _ (parts : Parts) where
   abbrev pub untaken : Branch → ℕ → ℕ → ℕ → Known → Visit
   untaken c f b i d = record { known = d; way = falls parts f b (suc i); annulled = c.annul }
 
-  taken_is : (c : Branch) (f b i : ℕ) (d : Known) → op_at parts f b i ≡ BranchOnCondition c → refined c.cond (state_at parts f b i) ≡ Some d → IsVisit parts f b (suc i) (taken c f b i d)
+  pub taken_is : (c : Branch) (f b i : ℕ) (d : Known) → op_at parts f b i ≡ BranchOnCondition c → refined c.cond (state_at parts f b i) ≡ Some d → IsVisit parts f b (suc i) (taken c f b i d)
   unfolding visits_at
   taken_is c f b i d op e = (
     0,
@@ -111,7 +111,7 @@ module _ (parts : Parts) where
         ∙ visit_first (refined c.cond (state_at parts f b i)) d (branch_way parts f b i c.displacement) (c.annul && is_always c.cond) (untaken_visit c (falls parts f b (suc i)) (state_at parts f b i)) e,
   )
 
-  untaken_is : (c : Branch) (f b i : ℕ) (d : Known) → op_at parts f b i ≡ BranchOnCondition c → is_always c.cond ≡ false → refined (opposite c.cond) (state_at parts f b i) ≡ Some d → IsVisit parts f b (suc i) (untaken c f b i d)
+  pub untaken_is : (c : Branch) (f b i : ℕ) (d : Known) → op_at parts f b i ≡ BranchOnCondition c → is_always c.cond ≡ false → refined (opposite c.cond) (state_at parts f b i) ≡ Some d → IsVisit parts f b (suc i) (untaken c f b i d)
   unfolding visits_at
   untaken_is c f b i d op some e =
       let xs = taken_visit c (branch_way parts f b i c.displacement) (state_at parts f b i) in

@@ -29,7 +29,7 @@ pub record FallsTo (blocks b : ℕ) (way : Way) : Type 0 where
   pub way_is : way ≡ To (b + 1)
   pub within : b + 1 < blocks
 
-falls_by : (end : Bool) (words blocks b i : ℕ) → end ≡ false → FallsNext words i (falls_to end words blocks b i) ⊎ (FallsTo blocks b (falls_to end words blocks b i) ⊎ (falls_to end words blocks b i ≡ Past))
+pub falls_by : (end : Bool) (words blocks b i : ℕ) → end ≡ false → FallsNext words i (falls_to end words blocks b i) ⊎ (FallsTo blocks b (falls_to end words blocks b i) ⊎ (falls_to end words blocks b i ≡ Past))
 falls_by true words blocks b i e = absurd (cc)
 falls_by false words blocks b i e = by_words (nat_lt (i + 1) words) refl
   where

@@ -15,6 +15,7 @@ pub mod OtherSteps
 pub mod FromChecked
 pub mod Visits
 pub mod Dispatch
+pub mod NearWords
 pub mod Positive
 pub mod Start
 pub mod Written
@@ -29,3 +30,4 @@ pub mod Goes
 pub mod Wells
 pub mod Straight
 pub mod Refined
+pub mod Onward

@@ -22,7 +22,6 @@ use Rattle.sbx_form.specs.Forms.{Cells}
 use Rattle.sbx_sound.specs.Shared.{Lent, Shared, Shows, ShowsCalls, stack_start}
 use Rattle.sbx_sound.proofs.Arrivals.{entry_bytes, is_straight_visit}
 use Rattle.sbx_sound.proofs.CallSteps.{entry_window}
-use Rattle.sbx_sound.proofs.Positive.{Point, left_of}
 use Rattle.sbx_sound.proofs.Safe.{Pair, ShowsSpot, Spot, Steps, flat_safe}
 
 abbrev clear : Icc
@@ -156,16 +155,12 @@ module _ (parts : Parts) where
 
   -- ---- the whole
 
-  point_of : (w : ℕ) → Spot parts w → Point parts
-  point_of w p = record { f = p.f; b = p.b; i = p.i; v = p.v; start = p.start; words = p.k.words; icc = p.k.icc; y = p.k.y; is_visit = p.at.is_visit; begun = p.at.begun; near = p.at.fits.near }
-
   some_left : (z : ℤ) → pos 1 ≤ℤ z → pos 0 ≤ℤ z
   some_left z h = omega (arith, ints)
 
-  stays : ((p : Point parts) → pos 1 ≤ℤ left_of parts p) → (w : ℕ) (p : Spot parts w) → pos 0 ≤ℤ left_at parts p.f p.b p.i p.start
-  unfolding point_of
-  stays positive w p = some_left (left_at parts p.f p.b p.i p.start) (positive (point_of w p))
+  stays : ((w : ℕ) (p : Spot parts w) → pos 1 ≤ℤ left_at parts p.f p.b p.i p.start) → (w : ℕ) (p : Spot parts w) → pos 0 ≤ℤ left_at parts p.f p.b p.i p.start
+  stays positive w p = some_left (left_at parts p.f p.b p.i p.start) (positive w p)
 
   -- From each place a step, fuel positive at each point, and a good start: then the image is safe.
-  pub is_safe : ((w : ℕ) (p : Spot parts w) → Steps parts w p) → ((p : Point parts) → pos 1 ≤ℤ left_of parts p) → StartsWell parts → FlatSafe parts
+  pub is_safe : ((w : ℕ) (p : Spot parts w) → Steps parts w p) → ((w : ℕ) (p : Spot parts w) → pos 1 ≤ℤ left_at parts p.f p.b p.i p.start) → StartsWell parts → FlatSafe parts
   is_safe steps positive rules = flat_safe parts steps (stays positive) calm_start (λ input s bytes start. begins input s rules start)
