@@ -1,6 +1,6 @@
 -- Where a run comes to after a word: the next word, another block, a callee, or back to a caller.
 use Rattle.sbx_domain.specs.declared.entry.Entry.{Entry}
-use Rattle.std.proofs.Common.{◌≡◌, ◌≢◌, ℕ, zero, suc, ◌+◌, ◌-◌, ◌%◌, Bool, true, false, List, Option, Some, None, refl, sym, ap, ◌∙◌, subst, arith}
+use Rattle.std.proofs.Common.{◌≡◌, ◌≢◌, ℕ, zero, suc, ◌+◌, ◌-◌, ◌%◌, Bool, true, false, List, length, Option, Some, None, refl, sym, ap, ◌∙◌, subst, arith}
 use Rattle.std.specs.Prelude.{pos, ◌+ℤ◌, ◌-ℤ◌, ◌≤ℤ◌, ◌&&◌, not, if◌then◌else◌, slice_get}
 use Rattle.std.proofs.lemmas.Bool.Decides.{nat_tests}
 use Rattle.v8_word.specs.declared.Icc.{Icc}
@@ -8,7 +8,6 @@ use Rattle.v8_meaning.specs.declared.operation.Operation.{Operation}
 use Rattle.v8_meaning.specs.declared.operation.Operation.TheVariants.{Call, BranchOnCondition, JumpAndLink}
 use Rattle.v8_meaning.specs.Operands.{following}
 use Rattle.sbx_image.specs.declared.parts.Parts.{Parts}
-use Rattle.sbx_image.specs.declared.parts.Range.{Range}
 use Rattle.sbx_flat.specs.Memory.{Bytes}
 use Rattle.sbx_image.specs.declared.parts.Function.{Function}
 use Rattle.sbx_flat.specs.Registers.{Words}
@@ -18,12 +17,12 @@ use Rattle.sbx_rules.specs.Rules.{has_cells}
 use Rattle.sbx_rules.specs.Operations.{is_call, is_framed, is_return}
 use Rattle.sbx_domain.specs.Fits.{Fits, HasAlignment, HasForm, HasInterval}
 use Rattle.sbx_domain.specs.Known.{Known, range_of_entry, form_of_entry}
-use Rattle.sbx_domain.specs.Forms.{Form, form_value}
+use Rattle.sbx_domain.specs.Forms.{form_value}
 use Rattle.sbx_rules.specs.Ways.{Next, To, Visit, Way, after_call, after_word, budget_of_callee, cells_at, falls, fuel_at, state_at, visits_after, visits_at, weight_of_place, weight_to}
 use Rattle.sbx_rules.specs.Places.{address_of, callee_at, callee_before, callee_of, function_at, op_at, op_before}
 use Rattle.sbx_sound.specs.Running.{After, At, Follows, GoesTo, IsVisit, bytes_of, left_to_all, straight_visit}
 use Rattle.sbx_form.specs.Forms.{Cells}
-use Rattle.sbx_sound.specs.Shared.{Open, Shared}
+use Rattle.sbx_sound.specs.Shared.{AreStored, Open, Shared}
 use Rattle.sbx_domain.specs.Transfer.{is_in, saved, transferred}
 use Rattle.sbx_sound.proofs.Frames.{moved_in}
 use Rattle.sbx_sound.proofs.Ledger.{edge_pays, fits_begin, near_in_cells, numbers, one_edge, one_word}
@@ -104,6 +103,7 @@ module _ (parts : Parts) where
     base = a.base;
     eight = a.eight;
     room = a.room;
+    stored = a.stored;
     ledger = a.ledger;
   }
 
@@ -134,6 +134,7 @@ module _ (parts : Parts) where
         base = ap (λ x. k.base + x) (sym (same_bytes (function_at parts f) b i t some)) ∙ a.base;
         eight = a.eight;
         room = a.room;
+        stored = a.stored;
         ledger = one_edge w (weight_to parts f b (suc i)) (budget parts) (form_value start (fuel_at parts f b)) (form_value (numbers k.words) (fuel_at parts f t)) (left_to_all parts k.calls) a.ledger
             (edge_pays (state_at parts f b 0) d (fuel_at parts f b) (fuel_at parts f t) (weight_to parts f b (suc i)) start k.words k.icc k.y paid a.begun near);
       }
@@ -156,9 +157,9 @@ module _ (parts : Parts) where
   pub after_plain : (w : ℕ) (k : Shared) (f b i : ℕ) (v : Visit) (start : Cells) (l : Left)
       → is_call (op_before parts f b i) ≡ false → is_return (op_before parts f b i) ≡ false → v.annulled ≡ false
       → bytes_of (function_at parts f) b i ≡ bytes_of (function_at parts f) b (suc i)
-      → Fits start (transferred (function_at parts f).frame (op_at parts f b i) v.known) l.words l.icc l.y
+      → Fits start (transferred (function_at parts f).frame (op_at parts f b i) v.known) l.words l.icc l.y → AreStored (length parts.bytes) l.memory l.input
       → At parts w k f b i v start → After parts (w + weight_of (op_at parts f b i)) (left_by l k) f b i (transferred (function_at parts f).frame (op_at parts f b i) v.known) v.way start
-  after_plain w k f b i v start l no_call no_return runs same fits a = record {
+  after_plain w k f b i v start l no_call no_return runs same fits stored a = record {
     pc = follows_plainly _ _ f b i v.way k.calls k.npc no_call no_return a.npc;
     npc = refl;
     annulled = a.annulled ∙ runs;
@@ -169,6 +170,7 @@ module _ (parts : Parts) where
     base = ap (λ x. k.base + x) (sym same) ∙ a.base;
     eight = a.eight;
     room = a.room;
+    stored = stored;
     ledger = subst (λ t. (pos (w + weight_of (op_at parts f b i)) +ℤ ((form_value start (fuel_at parts f b) -ℤ pos t) +ℤ left_to_all parts k.calls)) ≤ℤ pos (budget parts)) (sym (weight_next f b i no_call))
         (one_word w (weight_of (op_at parts f b i)) (weight_to parts f b i) (budget parts) (form_value start (fuel_at parts f b)) (left_to_all parts k.calls) a.ledger);
   }
@@ -189,6 +191,7 @@ module _ (parts : Parts) where
     base = ap (λ x. k.base + x) (sym same) ∙ a.base;
     eight = a.eight;
     room = a.room;
+    stored = a.stored;
     ledger = subst (λ t. (pos (w + 1) +ℤ ((form_value start (fuel_at parts f b) -ℤ pos t) +ℤ left_to_all parts k.calls)) ≤ℤ pos (budget parts)) (sym (weight_next f b i no_call ∙ ap (λ x. weight_to parts f b i + x) light))
         (one_word w 1 (weight_to parts f b i) (budget parts) (form_value start (fuel_at parts f b)) (left_to_all parts k.calls) a.ledger);
   }
@@ -248,6 +251,7 @@ module _ (parts : Parts) where
         omega (arith, e, z, h, below);
     eight = eight;
     room = a.room;
+    stored = a.stored;
     ledger = subst (λ t. (pos (w + weight_of (op_at parts f 0 0)) +ℤ ((form_value start (fuel_at parts f 0) -ℤ pos t) +ℤ left_to_all parts k.calls)) ≤ℤ pos (budget parts)) (sym (weight_next f 0 0 refl))
         (one_word w (weight_of (op_at parts f 0 0)) (weight_to parts f 0 0) (budget parts) (form_value start (fuel_at parts f 0)) (left_to_all parts k.calls) a.ledger);
   }

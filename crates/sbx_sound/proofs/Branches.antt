@@ -139,6 +139,7 @@ module _ (parts : Parts) where
     base = ap (λ x. k.base + x) (sym comes.same) ∙ a.base;
     eight = a.eight;
     room = a.room;
+    stored = a.stored;
     ledger = light_ledger parts f b i w k (straight_visit parts f b i) start comes.no_call (ap weight_of op) a;
   }
 
@@ -161,5 +162,6 @@ module _ (parts : Parts) where
     base = ap (λ x. k.base + x) (sym comes.same) ∙ a.base;
     eight = a.eight;
     room = a.room;
+    stored = a.stored;
     ledger = light_ledger parts f b i w k (straight_visit parts f b i) start comes.no_call (ap weight_of op) a;
   }

@@ -1,6 +1,6 @@
 -- A call into a function, and the return to its caller.
 use Rattle.sbx_sound.proofs.Entries.{called_kept}
-use Rattle.std.proofs.Common.{◌≡◌, ℕ, suc, ◌+◌, ◌<◌, ◌≤◌, Bool, true, false, List, ◌∷◌, Option, Some, None, refl, sym, ap, ◌∙◌, subst, arith}
+use Rattle.std.proofs.Common.{◌≡◌, ℕ, suc, ◌+◌, ◌<◌, ◌≤◌, Bool, true, false, List, ◌∷◌, length, Option, Some, None, refl, sym, ap, ◌∙◌, subst, arith}
 use Rattle.std.specs.Prelude.{pos, ◌+ℤ◌, ◌-ℤ◌, ◌≤ℤ◌, nat_le, if◌then◌else◌}
 use Rattle.v8_meaning.specs.Operands.{following}
 use Rattle.sbx_image.specs.declared.parts.Parts.{Parts}
@@ -18,7 +18,7 @@ use Rattle.sbx_rules.specs.Ways.{Way, after_call, budget_of_callee, cells_at, fa
 use Rattle.sbx_rules.specs.Places.{address_of, callee_at, callee_before, function_at, op_at, words_in}
 use Rattle.sbx_sound.specs.Running.{At, Follows, GoesTo, IsOpen, entry_of, left_at, left_to_all, straight_visit}
 use Rattle.sbx_form.specs.Forms.{Cells}
-use Rattle.sbx_sound.specs.Shared.{Open, Shared}
+use Rattle.sbx_sound.specs.Shared.{AreStored, Open, Shared}
 use Rattle.sbx_domain.specs.Transfer.{called, transferred}
 use Rattle.sbx_sound.proofs.Arrivals.{Left, entry_bytes, framed_bytes, is_straight_visit, left_by}
 use Rattle.sbx_sound.proofs.Ledger.{fits_begin, near_in_cells, numbers, one_call}
@@ -103,11 +103,11 @@ module _ (parts : Parts) (f b j g : ℕ) where
   comes_to false r calls way address p q h = absurd (cc)
 
   -- CALL and its slot: the callee begins, and the caller waits
-  pub enters : (w : ℕ) (k : Shared) (start : Cells) (left : Left) → (rules : CallsWell) → Fits start in_slot left.words left.icc left.y → pos 0 ≤ℤ left_at parts f b (suc (suc j)) start
+  pub enters : (w : ℕ) (k : Shared) (start : Cells) (left : Left) → (rules : CallsWell) → Fits start in_slot left.words left.icc left.y → AreStored (length parts.bytes) left.memory left.input → pos 0 ≤ℤ left_at parts f b (suc (suc j)) start
       → At parts w k f b (suc j) (straight_visit parts f b (suc j)) start
       → At parts (w + weight_of (op_at parts f b (suc j))) (record (left_by left k) { calls = opened k start left.words ∷ k.calls }) g 0 0 (straight_visit parts g 0 0) (numbers left.words)
   unfolding state_at weight_to
-  enters w k start left rules fits stays a =
+  enters w k start left rules fits stored stays a =
       let begin = fits_begin start in_slot (cells_at parts g 0) left.words left.icc left.y rules.params fits in
       let begun = near_in_cells (numbers left.words) (state_at parts g 0 0) left.words left.icc left.y begin.near in
       let pc = comes_to _ _ k.calls (falls parts f b (suc j)) k.npc rules.calls rules.callee_is a.npc in
@@ -127,6 +127,7 @@ module _ (parts : Parts) (f b j g : ℕ) where
             let e = framed_bytes parts caller b j rules.framed in
             let h = a.base in let r = a.room in let s = rules.room in
             omega (arith, e, h, r, s);
+        stored = stored;
         ledger = subst (λ t. (pos (w + weight_of (op_at parts f b (suc j))) +ℤ ((form_value (numbers left.words) (fuel_at parts g 0) -ℤ pos 0) +ℤ ((form_value start (fuel_at parts f b) -ℤ pos t) +ℤ left_to_all parts k.calls))) ≤ℤ pos (budget parts)) (sym (weight_then rules))
             (one_call w (weight_of (op_at parts f b (suc j))) (weight_to parts f b (suc j)) callee.budget (budget parts) (form_value start (fuel_at parts f b)) (form_value (numbers left.words) (fuel_at parts g 0)) (left_to_all parts k.calls) a.ledger (rules.within_budget (numbers left.words) begun));
       }

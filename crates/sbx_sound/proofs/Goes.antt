@@ -1,17 +1,15 @@
 -- Where control goes on from a word that comes straight: the next word of the block, or the next block, along an edge that is paid.
-use Rattle.std.proofs.Common.{◌≡◌, ◌≢◌, ℕ, zero, suc, ◌+◌, ◌<◌, ◌≤◌, Bool, true, false, length, Option, Some, None, refl, sym, ap, ◌∙◌, subst, inl, inr, arith}
+use Rattle.std.proofs.Common.{◌≡◌, ℕ, suc, ◌+◌, ◌<◌, Bool, true, false, length, refl, ap, inl, inr, arith}
 use Rattle.std.specs.Prelude.{◌⊎◌, nat_lt, if◌then◌else◌}
 use Rattle.std.proofs.lemmas.Bool.Decides.{nat_tests}
-use Rattle.v8_meaning.specs.Operands.{following}
 use Rattle.sbx_image.specs.declared.parts.Parts.{Parts}
-use Rattle.sbx_domain.specs.Known.{Known}
 use Rattle.sbx_rules.specs.Operations.{is_call}
-use Rattle.sbx_rules.specs.Places.{IsPlace, address_of, ends_run, function_at, op_at, op_before, words_in}
+use Rattle.sbx_rules.specs.Places.{IsPlace, ends_run, function_at, op_at, op_before, words_in}
 use Rattle.sbx_rules.specs.Rules.{is_past}
 use Rattle.sbx_rules.specs.Verdicts.{Checked}
 use Rattle.sbx_rules.specs.Ways.{Next, Past, To, Way, falls, falls_to, state_at}
 use Rattle.sbx_sound.specs.Order.{IsOrdered}
-use Rattle.sbx_sound.specs.Running.{Follows, IsVisit, straight_visit}
+use Rattle.sbx_sound.specs.Running.{IsVisit, straight_visit}
 use Rattle.sbx_sound.proofs.Arrivals.{goes_straight, is_straight_visit}
 use Rattle.sbx_sound.proofs.FromChecked.{edge_has_cells, edge_is_paid, goes_somewhere}
 use Rattle.sbx_sound.proofs.Ordered.{follows}

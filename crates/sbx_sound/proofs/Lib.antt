@@ -3,6 +3,7 @@ pub mod Frames
 pub mod Ledger
 pub mod Effects
 pub mod Safe
+pub mod Stored
 pub mod Arrivals
 pub mod Calls
 pub mod Returns

@@ -228,7 +228,7 @@ module _ (parts : Parts) where
       let brought : Left = record { words = left_by_leaf c d.left.words; icc = d.left.icc; y = d.left.y; memory = d.left.memory; input = d.left.input; output = d.left.output } in
       let brings : Brings parts c now brought.words = leaf_brings f c cs now d.left.words call d.fits.near.are_words d.fits.near.zero (λ l. (d.fits.near.intervals l, d.fits.multiples l)) in
       let next_k = record (left_by brought k) { base = c.base; calls = cs } in
-      let after = comes parts w k f b j (return_visit parts f b (suc j)) start c cs brought now is rules refl d.fits.near.y_word brings follows at in
+      let after = comes parts w k f b j (return_visit parts f b (suc j)) start c cs brought now is rules refl d.fits.near.y_word brings d.stored follows at in
       let arrived = arrives n next_k c.function c.block (suc c.place) (known_after parts c) (falls parts c.function c.block (suc c.place)) c.start call.framed goes after in
       let shown : (s : State) → Shows (window_of (function_at parts f) b (suc j)) (tests parts now (is_call (op_at parts f b j))) (left_by d.left k) s → Shows (Own (function_at parts c.function).frame) (tests parts (known_after parts c) false) next_k s =
       λ s h. (let h1 = subst (λ x. Shows x (tests parts now (is_call (op_at parts f b j))) (left_by d.left k) s) lent h in
@@ -343,7 +343,7 @@ module _ (parts : Parts) where
         kept = λ l h. high_kept t.rd v c k.words l low h;
       } in
       let next_k = record (left_by brought k) { base = c.base; calls = cs } in
-      let after = comes parts w k f b j (return_visit parts f b (suc j)) start c cs brought after_op is rules refl fits.near.y_word brings follows at in
+      let after = comes parts w k f b j (return_visit parts f b (suc j)) start c cs brought after_op is rules refl fits.near.y_word brings at.stored follows at in
       let arrived = arrives n next_k c.function c.block (suc c.place) (known_after parts c) (falls parts c.function c.block (suc c.place)) c.start call.framed goes after in
       let now = tests parts (known_after parts c) false in
       let shown : (s : State) → Shows (Own c.frame) now next_k s → ShowsSpot parts n arrived.spot s = λ s h. arrived.shows s (subst (λ x. Shows (Own x) now next_k s) call.is_frame h) in

@@ -7,7 +7,7 @@ use Rattle.v8_word.specs.declared.Icc.{Icc}
 use Rattle.sbx_image.specs.Rules.{code_start}
 use Rattle.sbx_image.specs.declared.parts.Parts.{Parts}
 use Rattle.sbx_flat.specs.Registers.{Frame, Words}
-use Rattle.sbx_flat.specs.Runs.{FlatSafe, IsStart, budget, data_at}
+use Rattle.sbx_flat.specs.Runs.{AreBytes, FlatSafe, IsStart, budget, data_at}
 use Rattle.sbx_flat.specs.States.{State}
 use Rattle.sbx_rules.specs.Fuel.{InCells, IsWithinBudget}
 use Rattle.sbx_domain.specs.Fits.{Fits, HasAlignment, HasForm, HasInterval}
@@ -22,6 +22,7 @@ use Rattle.sbx_form.specs.Forms.{Cells}
 use Rattle.sbx_sound.specs.Shared.{Lent, Shared, Shows, ShowsCalls, stack_start}
 use Rattle.sbx_sound.proofs.Arrivals.{entry_bytes, is_straight_visit}
 use Rattle.sbx_sound.proofs.CallSteps.{entry_window}
+use Rattle.sbx_sound.proofs.Stored.{stored_at_start}
 use Rattle.sbx_sound.proofs.Safe.{Pair, ShowsSpot, Spot, Steps, flat_safe}
 
 abbrev clear : Icc
@@ -41,6 +42,7 @@ pub record StartsWell (parts : Parts) : Type 0 where
   pub room : (function_at parts 0).stack_room + 64 ≤ 4096 * parts.stack_pages
   pub pages : parts.stack_pages ≤ 16
   pub within_budget : IsWithinBudget (state_at parts 0 0 0) (fuel_at parts 0 0) (budget parts)
+  pub bytes : AreBytes parts.bytes
 
 module _ (parts : Parts) where
   -- what all starts on an input share
@@ -77,9 +79,9 @@ module _ (parts : Parts) where
   first_ledger : (fuel : ℤ) (budget : ℕ) → fuel ≤ℤ pos budget → (pos 0 +ℤ ((fuel -ℤ pos 0) +ℤ pos 0)) ≤ℤ pos budget
   first_ledger fuel budget h = omega (arith, ints)
 
-  at_start : (input : List ℕ) → StartsWell parts → At parts 0 (shared_start input) 0 0 0 (straight_visit parts 0 0 0) no_numbers
+  at_start : (input : List ℕ) → AreBytes input → StartsWell parts → At parts 0 (shared_start input) 0 0 0 (straight_visit parts 0 0 0) no_numbers
   unfolding state_at weight_to
-  at_start input rules =
+  at_start input are rules =
       let same : started (cells_at parts 0 0) ≡ started [] = ap started rules.no_params in
       let begun = subst (λ d. InCells d no_numbers) (sym same) nothing_begun in
       record {
@@ -95,11 +97,12 @@ module _ (parts : Parts) where
         base = ap (λ x. stack_start + x) (entry_bytes parts (function_at parts 0));
         eight = refl;
         room = let h = rules.room in let p = rules.pages in omega (arith, h, p);
+        stored = stored_at_start parts.bytes input rules.bytes are;
         ledger = first_ledger (form_value no_numbers (fuel_at parts 0 0)) (budget parts) (rules.within_budget no_numbers begun);
       }
 
-  first_spot : (input : List ℕ) → StartsWell parts → Spot parts 0
-  first_spot input rules = record { k = shared_start input; f = 0; b = 0; i = 0; v = straight_visit parts 0 0 0; start = no_numbers; at = at_start input rules }
+  first_spot : (input : List ℕ) → AreBytes input → StartsWell parts → Spot parts 0
+  first_spot input are rules = record { k = shared_start input; f = 0; b = 0; i = 0; v = straight_visit parts 0 0 0; start = no_numbers; at = at_start input are rules }
 
   -- a start shows it
   one_frame : (older : List Frame) (newest : Frame) (oldest : Words) → older ≡ [] → newest.outs 14 ≡ stack_start → ShowsCalls [] (newest ∷ older) oldest
@@ -111,9 +114,9 @@ module _ (parts : Parts) where
       let x : is_defined d l ≡ false = ap (λ (y : Known). is_defined y l) e ∙ nowhere (λ x. is_some x ≡ false) refl l in
       grind (arith, nat_tests)
 
-  shows_start : (input : List ℕ) (s : State) → (rules : StartsWell parts) → IsStart parts input s → ShowsSpot parts 0 (first_spot input rules) s
+  shows_start : (input : List ℕ) (are : AreBytes input) (s : State) → (rules : StartsWell parts) → IsStart parts input s → ShowsSpot parts 0 (first_spot input are rules) s
   unfolding state_at first_spot started
-  shows_start input s rules start =
+  shows_start input are s rules start =
       let same : started (cells_at parts 0 0) ≡ started [] = ap started rules.no_params in
       let shown : Shows Lent (tests parts (started (cells_at parts 0 0)) false) (shared_start input) s = record {
         rest = record { pc = start.pc; npc = start.npc; annulled = start.annulled; memory = start.memory; input = start.input; output = start.output; exit = start.exit };
@@ -150,8 +153,8 @@ module _ (parts : Parts) where
   calm_is_start : (input : List ℕ) → IsStart parts input (calm_start input)
   calm_is_start input = record { pc = refl; npc = refl; annulled = refl; icc = refl; y = omega arith; one_frame = refl; base = refl; slots = λ a. refl; globals = λ n. omega arith; locals = λ n. omega arith; outs = out_word; ins = λ n. omega arith; memory = λ a. refl; input = refl; output = refl; exit = refl }
 
-  pub begins : (input : List ℕ) (s : State) → StartsWell parts → IsStart parts input s → Pair parts 0 s (calm_start input)
-  begins input s rules start = (inl (first_spot input rules), shows_start input s rules start, shows_start input (calm_start input) rules (calm_is_start input))
+  pub begins : (input : List ℕ) (s : State) → AreBytes input → StartsWell parts → IsStart parts input s → Pair parts 0 s (calm_start input)
+  begins input s are rules start = (inl (first_spot input are rules), shows_start input are s rules start, shows_start input are (calm_start input) rules (calm_is_start input))
 
   -- ---- the whole
 
@@ -162,5 +165,10 @@ module _ (parts : Parts) where
   stays positive w p = some_left (left_at parts p.f p.b p.i p.start) (positive w p)
 
   -- From each place a step, fuel positive at each point, and a good start: then the image is safe.
+<<<<<<< HEAD
   pub is_safe : ((w : ℕ) (p : Spot parts w) → Steps parts w p) → ((w : ℕ) (p : Spot parts w) → pos 1 ≤ℤ left_at parts p.f p.b p.i p.start) → StartsWell parts → FlatSafe parts
   is_safe steps positive rules = flat_safe parts steps (stays positive) calm_start (λ input s bytes start. begins input s rules start)
+=======
+  pub is_safe : ((w : ℕ) (p : Spot parts w) → Steps parts w p) → ((p : Point parts) → pos 1 ≤ℤ left_of parts p) → StartsWell parts → FlatSafe parts
+  is_safe steps positive rules = flat_safe parts steps (stays positive) calm_start (λ input s are start. begins input s are rules start)
+>>>>>>> sound1

@@ -1,5 +1,5 @@
 -- The invariant of a run of a checked image: where it stands, what fits there, who called, and what fuel is left.
-use Rattle.std.specs.Prelude.{◌≡◌, ℕ, suc, ◌+◌, ◌-◌, ◌*◌, ◌%◌, ◌^◌, ◌<◌, ◌≤◌, ◌&&◌, ◌||◌, not, Bool, true, false, ◌==◌, nat_le, if◌then◌else◌, List, [], ◌∷◌, Option, Some, None, ℤ, pos, ◌+ℤ◌, ◌-ℤ◌, ◌≤ℤ◌, slice_get}
+use Rattle.std.specs.Prelude.{◌≡◌, ℕ, suc, ◌+◌, ◌-◌, ◌*◌, ◌%◌, ◌^◌, ◌<◌, ◌≤◌, ◌&&◌, ◌||◌, not, Bool, true, false, ◌==◌, nat_le, if◌then◌else◌, List, [], ◌∷◌, Option, Some, None, ℤ, pos, ◌+ℤ◌, ◌-ℤ◌, ◌≤ℤ◌, length, slice_get}
 use Rattle.v8_meaning.specs.Operands.{following}
 use Rattle.sbx_image.specs.declared.parts.Function.{Function}
 use Rattle.sbx_image.specs.declared.parts.Parts.{Parts}
@@ -14,7 +14,7 @@ use Rattle.sbx_domain.specs.Forms.{form_value}
 use Rattle.sbx_rules.specs.Ways.{Next, To, Visit, Way, falls, fuel_at, state_at, visits_at, weight_to}
 use Rattle.sbx_rules.specs.Places.{address_of, callee_at, callee_before, function_at, op_before, words_in}
 use Rattle.sbx_form.specs.Forms.{Cells}
-use Rattle.sbx_sound.specs.Shared.{KnownParts, Lent, Open, Own, Shared, Shows, Window, base_below}
+use Rattle.sbx_sound.specs.Shared.{AreStored, KnownParts, Lent, Open, Own, Shared, Shows, Window, base_below}
 
 -- what a function has in its window: before its SAVE, and in a leaf, its caller's
 abbrev pub window_of : Function → ℕ → ℕ → Window
@@ -121,6 +121,7 @@ module _ (parts : Parts) where
     pub base : k.base + bytes_of (function_at parts f) b i ≡ base_below k.calls
     pub eight : k.base % 8 ≡ 0
     pub room : stack_bottom parts + (function_at parts f).stack_room ≤ base_below k.calls
+    pub stored : AreStored (length parts.bytes) k.memory k.input
     -- the ledger: what was used, what is left here, and what is left to each caller
     pub ledger : (pos w +ℤ (left_at f b i start +ℤ left_to_all k.calls)) ≤ℤ pos (budget parts)
 
@@ -136,6 +137,7 @@ module _ (parts : Parts) where
     pub base : k.base + bytes_of (function_at parts f) b (suc i) ≡ base_below k.calls
     pub eight : k.base % 8 ≡ 0
     pub room : stack_bottom parts + (function_at parts f).stack_room ≤ base_below k.calls
+    pub stored : AreStored (length parts.bytes) k.memory k.input
     pub ledger : (pos w +ℤ (left_at f b (suc i) start +ℤ left_to_all k.calls)) ≤ℤ pos (budget parts)
 
   -- the invariant of a state and the calm one beside it
