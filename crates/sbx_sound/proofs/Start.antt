@@ -15,7 +15,7 @@ use Rattle.sbx_domain.specs.Known.{Known, cell_entry, form_of_entry, is_location
 use Rattle.sbx_domain.specs.declared.entry.Entry.{Entry}
 use Rattle.sbx_rules.specs.Rules.{is_defined, is_some}
 use Rattle.sbx_domain.specs.Forms.{form_value}
-use Rattle.sbx_rules.specs.Places.{address_of, function_at}
+use Rattle.sbx_rules.specs.Places.{IsPlace, address_of, function_at}
 use Rattle.sbx_rules.specs.Ways.{cells_at, falls, fuel_at, state_at, weight_to}
 use Rattle.sbx_sound.specs.Running.{At, Follows, left_at, straight_visit, tests}
 use Rattle.sbx_form.specs.Forms.{Cells}
@@ -36,6 +36,7 @@ no_numbers = λ _. pos 0
 
 -- What the rules and the image's order say of the entry function's first word.
 pub record StartsWell (parts : Parts) : Type 0 where
+  pub place : IsPlace parts 0 0 0
   pub entry : address_of parts 0 0 0 ≡ code_start
   pub no_params : cells_at parts 0 0 ≡ []
   pub follows : Follows parts 0 0 0 (falls parts 0 0 0) (code_start + 4)
@@ -85,6 +86,7 @@ module _ (parts : Parts) where
       let same : started (cells_at parts 0 0) ≡ started [] = ap started rules.no_params in
       let begun = subst (λ d. InCells d no_numbers) (sym same) nothing_begun in
       record {
+        place = rules.place;
         is_visit = is_straight_visit parts 0 0 0 refl;
         pc = sym rules.entry;
         npc = rules.follows;
@@ -165,10 +167,5 @@ module _ (parts : Parts) where
   stays positive w p = some_left (left_at parts p.f p.b p.i p.start) (positive w p)
 
   -- From each place a step, fuel positive at each point, and a good start: then the image is safe.
-<<<<<<< HEAD
   pub is_safe : ((w : ℕ) (p : Spot parts w) → Steps parts w p) → ((w : ℕ) (p : Spot parts w) → pos 1 ≤ℤ left_at parts p.f p.b p.i p.start) → StartsWell parts → FlatSafe parts
-  is_safe steps positive rules = flat_safe parts steps (stays positive) calm_start (λ input s bytes start. begins input s rules start)
-=======
-  pub is_safe : ((w : ℕ) (p : Spot parts w) → Steps parts w p) → ((p : Point parts) → pos 1 ≤ℤ left_of parts p) → StartsWell parts → FlatSafe parts
   is_safe steps positive rules = flat_safe parts steps (stays positive) calm_start (λ input s are start. begins input s are rules start)
->>>>>>> sound1
