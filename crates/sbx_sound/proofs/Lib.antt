@@ -32,3 +32,4 @@ pub mod Wells
 pub mod Straight
 pub mod Refined
 pub mod Onward
+pub mod Limits
