@@ -33,3 +33,5 @@ pub mod Straight
 pub mod Refined
 pub mod Onward
 pub mod Limits
+pub mod Bounded
+pub mod Begun

@@ -17,6 +17,7 @@ use Rattle.sbx_rules.specs.Rules.{is_defined, is_some}
 use Rattle.sbx_domain.specs.Forms.{form_value}
 use Rattle.sbx_rules.specs.Places.{IsPlace, address_of, function_at}
 use Rattle.sbx_rules.specs.Ways.{cells_at, falls, fuel_at, state_at, weight_to}
+use Rattle.sbx_sound.specs.Positive.{IsPositive}
 use Rattle.sbx_sound.specs.Running.{At, Follows, left_at, straight_visit, tests}
 use Rattle.sbx_form.specs.Forms.{Cells}
 use Rattle.sbx_sound.specs.Shared.{Lent, Shared, Shows, ShowsCalls, stack_start}
@@ -163,9 +164,9 @@ module _ (parts : Parts) where
   some_left : (z : ℤ) → pos 1 ≤ℤ z → pos 0 ≤ℤ z
   some_left z h = omega (arith, ints)
 
-  stays : ((w : ℕ) (p : Spot parts w) → pos 1 ≤ℤ left_at parts p.f p.b p.i p.start) → (w : ℕ) (p : Spot parts w) → pos 0 ≤ℤ left_at parts p.f p.b p.i p.start
-  stays positive w p = some_left (left_at parts p.f p.b p.i p.start) (positive w p)
+  stays : IsPositive parts → (w : ℕ) (p : Spot parts w) → pos 0 ≤ℤ left_at parts p.f p.b p.i p.start
+  stays positive w p = some_left (left_at parts p.f p.b p.i p.start) (positive p.f p.b p.i p.start p.at.place p.at.begun)
 
-  -- From each place a step, fuel positive at each point, and a good start: then the image is safe.
-  pub is_safe : ((w : ℕ) (p : Spot parts w) → Steps parts w p) → ((w : ℕ) (p : Spot parts w) → pos 1 ≤ℤ left_at parts p.f p.b p.i p.start) → StartsWell parts → FlatSafe parts
+  -- From each place a step, fuel that is positive, and a good start: then the image is safe.
+  pub is_safe : ((w : ℕ) (p : Spot parts w) → Steps parts w p) → IsPositive parts → StartsWell parts → FlatSafe parts
   is_safe steps positive rules = flat_safe parts steps (stays positive) calm_start (λ input s are start. begins input s are rules start)
