@@ -20,7 +20,10 @@ pub mod NearWords
 pub mod Positive
 pub mod Start
 pub mod Written
+pub mod Writing
 pub mod Plain
+pub mod Moves
+pub mod Addresses
 pub mod FrameWords
 pub mod DataWords
 pub mod LowFields
