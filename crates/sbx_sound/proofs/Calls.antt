@@ -15,8 +15,8 @@ use Rattle.sbx_domain.specs.Fits.{Fits, HasAlignment, HasForm, HasInterval}
 use Rattle.sbx_domain.specs.Known.{Known, range_at, form_at, range_of_entry, form_of_entry}
 use Rattle.sbx_domain.specs.Forms.{Form, form_value}
 use Rattle.sbx_rules.specs.Ways.{Way, after_call, budget_of_callee, cells_at, falls, fuel_at, state_at, weight_to}
-use Rattle.sbx_rules.specs.Places.{address_of, callee_at, callee_before, function_at, op_at, words_in}
-use Rattle.sbx_sound.specs.Running.{At, Follows, GoesTo, IsOpen, entry_of, left_at, left_to_all, straight_visit}
+use Rattle.sbx_rules.specs.Places.{address_of, callee_at, callee_before, function_at, op_at}
+use Rattle.sbx_sound.specs.Running.{At, Follows, GoesTo, IsOpen, IsThere, entry_of, left_at, left_to_all, straight_visit}
 use Rattle.sbx_form.specs.Forms.{Cells}
 use Rattle.sbx_sound.specs.Shared.{AreStored, Open, Shared}
 use Rattle.sbx_domain.specs.Transfer.{called, transferred}
@@ -52,14 +52,13 @@ module _ (parts : Parts) (f b j g : ℕ) where
   pub record CallsWell : Type 0 where
     pub calls : is_call (op_at parts f b j) ≡ true
     pub callee_is : callee_at parts f b j ≡ Some g
-    pub slot : suc j < words_in parts f b
     pub framed : is_framed caller.kind ≡ true
     pub params : has_cells in_slot (cells_at parts g 0) ≡ true
     pub room : caller.frame + callee.stack_room ≤ caller.stack_room
     pub within_budget : IsWithinBudget (state_at parts g 0 0) (fuel_at parts g 0) callee.budget
-    -- the image's order: a function's first block is at its entry, and the words of a block follow each other
+    -- the image's order: a function's first block is at its entry
     pub entry : callee.entry ≡ address_of parts g 0 0
-    pub follows : Follows parts g 0 0 (falls parts g 0 0) (following (address_of parts g 0 0))
+    pub there : IsThere parts g 0 0
 
   known_then : CallsWell → state_at parts f b (suc (suc j)) ≡ called callee.results in_slot
   unfolding state_at
@@ -82,7 +81,7 @@ module _ (parts : Parts) (f b j g : ℕ) where
       → At parts w k f b (suc j) (straight_visit parts f b (suc j)) start → IsOpen parts g (opened k start left.words) k.calls
   is_opened w k start left rules fits stays a = record {
     calls = rules.callee_is;
-    within = rules.slot;
+    slot = a.place;
     framed = rules.framed;
     is_frame = refl;
     back = refl;
@@ -112,9 +111,10 @@ module _ (parts : Parts) (f b j g : ℕ) where
       let begun = near_in_cells (numbers left.words) (state_at parts g 0 0) left.words left.icc left.y begin.near in
       let pc = comes_to _ _ k.calls (falls parts f b (suc j)) k.npc rules.calls rules.callee_is a.npc in
       record {
+        place = rules.there.place;
         is_visit = is_straight_visit parts g 0 0 refl;
         pc = pc ∙ rules.entry;
-        npc = subst (Follows parts g 0 0 (falls parts g 0 0)) (ap following (sym (pc ∙ rules.entry))) rules.follows;
+        npc = subst (Follows parts g 0 0 (falls parts g 0 0)) (ap following (sym (pc ∙ rules.entry))) rules.there.follows;
         annulled = a.annulled;
         exit = a.exit;
         begun = begun;

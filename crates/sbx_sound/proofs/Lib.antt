@@ -16,6 +16,7 @@ pub mod OtherSteps
 pub mod FromChecked
 pub mod Visits
 pub mod Dispatch
+pub mod NearWords
 pub mod Positive
 pub mod Start
 pub mod Written
@@ -35,3 +36,7 @@ pub mod Goes
 pub mod Wells
 pub mod Straight
 pub mod Refined
+pub mod Onward
+pub mod Limits
+pub mod Bounded
+pub mod Begun

@@ -24,7 +24,7 @@ use Rattle.sbx_domain.specs.Fits.{Fits, HasAlignment, HasInterval}
 use Rattle.sbx_domain.specs.Known.{Known, range_at, range_of_entry}
 use Rattle.sbx_rules.specs.Ways.{Next, To, Way, cells_at, falls, fuel_at, state_at, weight_to}
 use Rattle.sbx_rules.specs.Places.{address_of, function_at, op_at, op_before}
-use Rattle.sbx_sound.specs.Running.{After, AreOpen, At, Follows, IsOpen, known_after, straight_visit, tests, window_of}
+use Rattle.sbx_sound.specs.Running.{After, AreOpen, At, Follows, IsOpen, IsThere, known_after, straight_visit, tests, window_of}
 use Rattle.sbx_form.specs.Forms.{Cells}
 use Rattle.sbx_sound.specs.Shared.{KnownParts, Lent, Open, Own, Shared, Shows, ShowsFile, Window, with_location}
 use Rattle.sbx_domain.specs.Transfer.{is_out, transferred, called, restored}
@@ -76,7 +76,7 @@ module _ (parts : Parts) where
     pub known : d ≡ state_at parts f b (suc i)
     pub straight : goes_straight (op_at parts f b i) ≡ true
     pub no_call : is_call (op_at parts f b i) ≡ false
-    pub follows : Follows parts f b (suc i) (falls parts f b (suc i)) (following (address_of parts f b (suc i)))
+    pub follows : IsThere parts f b (suc i)
 
   -- control goes to a block
   pub record GoesToBlock (f b i : ℕ) (d : Known) (way : Way) : Type 0 where
@@ -85,7 +85,7 @@ module _ (parts : Parts) where
     pub some : t ≢ 0
     pub cells : has_cells d (cells_at parts f t) ≡ true
     pub paid : IsPaid (state_at parts f b 0) (fuel_at parts f b) (weight_to parts f b (suc i)) d (fuel_at parts f t)
-    pub follows : Follows parts f t 0 (falls parts f t 0) (following (address_of parts f t 0))
+    pub follows : IsThere parts f t 0
 
   -- where it arrives, and that a state which shows what is known shows that
   pub record Arrives (n : ℕ) (k : Shared) (d : Known) (window : Window) : Type 0 where

@@ -15,14 +15,14 @@ use Rattle.sbx_domain.specs.Known.{Known, cell_entry, form_of_entry, is_location
 use Rattle.sbx_domain.specs.declared.entry.Entry.{Entry}
 use Rattle.sbx_rules.specs.Rules.{is_defined, is_some}
 use Rattle.sbx_domain.specs.Forms.{form_value}
-use Rattle.sbx_rules.specs.Places.{address_of, function_at}
+use Rattle.sbx_rules.specs.Places.{IsPlace, address_of, function_at}
 use Rattle.sbx_rules.specs.Ways.{cells_at, falls, fuel_at, state_at, weight_to}
+use Rattle.sbx_sound.specs.Positive.{IsPositive}
 use Rattle.sbx_sound.specs.Running.{At, Follows, left_at, straight_visit, tests}
 use Rattle.sbx_form.specs.Forms.{Cells}
 use Rattle.sbx_sound.specs.Shared.{Lent, Shared, Shows, ShowsCalls, stack_start}
 use Rattle.sbx_sound.proofs.Arrivals.{entry_bytes, is_straight_visit}
 use Rattle.sbx_sound.proofs.CallSteps.{entry_window}
-use Rattle.sbx_sound.proofs.Positive.{Point, left_of}
 use Rattle.sbx_sound.proofs.Stored.{stored_at_start}
 use Rattle.sbx_sound.proofs.Safe.{Pair, ShowsSpot, Spot, Steps, flat_safe}
 
@@ -37,6 +37,7 @@ no_numbers = λ _. pos 0
 
 -- What the rules and the image's order say of the entry function's first word.
 pub record StartsWell (parts : Parts) : Type 0 where
+  pub place : IsPlace parts 0 0 0
   pub entry : address_of parts 0 0 0 ≡ code_start
   pub no_params : cells_at parts 0 0 ≡ []
   pub follows : Follows parts 0 0 0 (falls parts 0 0 0) (code_start + 4)
@@ -86,6 +87,7 @@ module _ (parts : Parts) where
       let same : started (cells_at parts 0 0) ≡ started [] = ap started rules.no_params in
       let begun = subst (λ d. InCells d no_numbers) (sym same) nothing_begun in
       record {
+        place = rules.place;
         is_visit = is_straight_visit parts 0 0 0 refl;
         pc = sym rules.entry;
         npc = rules.follows;
@@ -159,16 +161,12 @@ module _ (parts : Parts) where
 
   -- ---- the whole
 
-  point_of : (w : ℕ) → Spot parts w → Point parts
-  point_of w p = record { f = p.f; b = p.b; i = p.i; v = p.v; start = p.start; words = p.k.words; icc = p.k.icc; y = p.k.y; is_visit = p.at.is_visit; begun = p.at.begun; near = p.at.fits.near }
-
   some_left : (z : ℤ) → pos 1 ≤ℤ z → pos 0 ≤ℤ z
   some_left z h = omega (arith, ints)
 
-  stays : ((p : Point parts) → pos 1 ≤ℤ left_of parts p) → (w : ℕ) (p : Spot parts w) → pos 0 ≤ℤ left_at parts p.f p.b p.i p.start
-  unfolding point_of
-  stays positive w p = some_left (left_at parts p.f p.b p.i p.start) (positive (point_of w p))
+  stays : IsPositive parts → (w : ℕ) (p : Spot parts w) → pos 0 ≤ℤ left_at parts p.f p.b p.i p.start
+  stays positive w p = some_left (left_at parts p.f p.b p.i p.start) (positive p.f p.b p.i p.start p.at.place p.at.begun)
 
-  -- From each place a step, fuel positive at each point, and a good start: then the image is safe.
-  pub is_safe : ((w : ℕ) (p : Spot parts w) → Steps parts w p) → ((p : Point parts) → pos 1 ≤ℤ left_of parts p) → StartsWell parts → FlatSafe parts
+  -- From each place a step, fuel that is positive, and a good start: then the image is safe.
+  pub is_safe : ((w : ℕ) (p : Spot parts w) → Steps parts w p) → IsPositive parts → StartsWell parts → FlatSafe parts
   is_safe steps positive rules = flat_safe parts steps (stays positive) calm_start (λ input s are start. begins input s are rules start)

@@ -23,7 +23,7 @@ use Rattle.sbx_domain.specs.Fits.{Fits}
 use Rattle.sbx_domain.specs.Known.{Known, started, range_of_entry}
 use Rattle.sbx_rules.specs.Ways.{Next, To, cells_at, falls, fuel_at, state_at, weight_to}
 use Rattle.sbx_rules.specs.Places.{address_of, function_at, op_at, op_before, word_of_place}
-use Rattle.sbx_sound.specs.Running.{After, Follows, straight_visit, tests, window_of, bytes_of}
+use Rattle.sbx_sound.specs.Running.{After, IsThere, straight_visit, tests, window_of, bytes_of}
 use Rattle.sbx_sound.specs.Shared.{AreStored, KnownParts, Shared, Shows, Window}
 use Rattle.sbx_domain.specs.Transfer.{transferred}
 use Rattle.sbx_sound.proofs.Arrivals.{Left, after_edge, after_next, after_no_call, after_plain, goes_straight, left_by}
@@ -148,7 +148,7 @@ module _ (parts : Parts) where
       → linked_at w p ≡ false → is_return (op_before parts p.f p.b p.i) ≡ false → goes_straight (op_of w p) ≡ true → is_call (op_of w p) ≡ false
       → bytes_of (function_at parts p.f) p.b p.i ≡ bytes_of (function_at parts p.f) p.b (suc p.i)
       → window_of (function_at parts p.f) p.b p.i ≡ window_of (function_at parts p.f) p.b (suc p.i)
-      → Follows parts p.f p.b (suc p.i) (falls parts p.f p.b (suc p.i)) (following (address_of parts p.f p.b (suc p.i)))
+      → IsThere parts p.f p.b (suc p.i)
       → Does w p → Steps parts w p
   plain_next w p word runs way known no_link no_return straight no_call same_bytes same_window follows d =
       let n = w + weight_of (op_of w p) in
@@ -172,7 +172,7 @@ module _ (parts : Parts) where
       → window_of (function_at parts p.f) p.b p.i ≡ window_of (function_at parts p.f) t 0
       → has_cells (known_then w p) (cells_at parts p.f t) ≡ true
       → IsPaid (state_at parts p.f p.b 0) (fuel_at parts p.f p.b) (weight_to parts p.f p.b (suc p.i)) (known_then w p) (fuel_at parts p.f t)
-      → Follows parts p.f t 0 (falls parts p.f t 0) (following (address_of parts p.f t 0))
+      → IsThere parts p.f t 0
       → Does w p → Steps parts w p
   unfolding state_at
   plain_edge w p t word runs way some no_link no_return same_bytes same_window cells paid follows d =

@@ -21,7 +21,7 @@ use Rattle.sbx_sound.specs.Running.{At, Follows, GoesTo, back_of, bytes_of, entr
 use Rattle.sbx_form.specs.Forms.{Cells}
 use Rattle.sbx_sound.specs.Shared.{Open, Shared, with_location}
 use Rattle.sbx_domain.specs.Transfer.{transferred}
-use Rattle.sbx_sound.proofs.Arrivals.{after_no_call, follows_plainly, goes_straight, is_straight_visit, weight_next}
+use Rattle.sbx_sound.proofs.Arrivals.{after_no_call, follows_plainly, goes_straight, is_straight_visit, next_there, weight_next}
 use Rattle.sbx_sound.proofs.Effects.{linked, moved_to}
 use Rattle.sbx_sound.proofs.Ledger.{one_word}
 
@@ -129,6 +129,7 @@ module _ (parts : Parts) where
       let pc = a.pc in
       let small = comes.small in
       record {
+        place = next_there parts f b i comes.next a.place;
         is_visit = is_straight_visit parts f b (suc i) (ap goes_straight op);
         pc = npc;
         npc = goes_in (is_call (op_at parts f b i)) (is_return (op_at parts f b i)) f b (suc i) (falls parts f b (suc i)) k.calls (target k.pc displacement) (ap is_call op) (ap (λ x. target x displacement) a.pc ∙ target_is f b i displacement g op callee);
@@ -155,6 +156,7 @@ module _ (parts : Parts) where
       → At parts w k f b i (straight_visit parts f b i) start → At parts (w + 1) (moved_to ((c.back + 8) % 2 ^ 32) k) f b (suc i) (return_visit f b (suc i)) start
   unfolding state_at transferred visits_at
   return_at w k f b i t c cs start op is comes a = record {
+    place = next_there parts f b i comes.next a.place;
     is_visit = (0, ap (λ o. slice_get (visits_after parts f b i o (state_at parts f b i) (state_at parts f b (suc i))) 0) op);
     pc = slot_at f b i w k start comes a;
     npc = goes_back (is_call (op_at parts f b i)) (is_return (op_at parts f b i)) f b (suc i) Back k.calls ((c.back + 8) % 2 ^ 32) (ap is_call op) (ap is_return op) (sym (ap (back_of parts) is));

@@ -120,6 +120,7 @@ module _ (parts : Parts) (checked : Checked parts) (ordered : IsOrdered parts) (
   starts_well bytes some =
       let place = begin_place parts checked ordered 0 0 some (ordered.entries 0 some).0 in
       record {
+        place = place;
         entry = ordered.first;
         no_params = ap (out_cells 8) (no_ranges (function_at parts 0).params (no_params parts checked 0 0 0 place refl refl));
         follows = subst (λ a. Follows parts 0 0 0 (falls parts 0 0 0) a) (ap following ordered.first) (follows parts ordered 0 0 0 place);
@@ -161,11 +162,10 @@ module _ (parts : Parts) (checked : Checked parts) (ordered : IsOrdered parts) (
       record {
         calls = calls;
         callee_is = callee;
-        slot = within;
         framed = framed_of (function_at parts f).kind (op_at parts f b j) calls (suits_kind parts checked f b j place);
         params = subst (λ o. has_cells (in_slot parts f b j g) (params_of parts f b (suc j) o) ≡ true) callee (has_params parts checked f b (suc j) slot (straight_visit parts f b (suc j)) visit);
         room = subst (λ o. (function_at parts f).frame + room_of_callee parts f b j o ≤ (function_at parts f).stack_room) callee (room_for_callee parts checked f b j place calls);
         within_budget = within_budget parts checked g 0 0 entry refl;
         entry = (ordered.entries g in_g).1;
-        follows = follows parts ordered g 0 0 entry;
+        there = record { place = entry; follows = follows parts ordered g 0 0 entry };
       }

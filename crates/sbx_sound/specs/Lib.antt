@@ -2,3 +2,4 @@ pub mod Shared
 pub mod Running
 pub mod Order
 pub mod LowFields
+pub mod Positive

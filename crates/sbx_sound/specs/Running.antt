@@ -12,7 +12,7 @@ use Rattle.sbx_domain.specs.Known.{Known, form_at, range_at}
 use Rattle.sbx_rules.specs.Rules.{is_defined, is_some}
 use Rattle.sbx_domain.specs.Forms.{form_value}
 use Rattle.sbx_rules.specs.Ways.{Next, To, Visit, Way, falls, fuel_at, state_at, visits_at, weight_to}
-use Rattle.sbx_rules.specs.Places.{address_of, callee_at, callee_before, function_at, op_before, words_in}
+use Rattle.sbx_rules.specs.Places.{IsPlace, address_of, callee_at, callee_before, function_at, op_before}
 use Rattle.sbx_form.specs.Forms.{Cells}
 use Rattle.sbx_sound.specs.Shared.{AreStored, KnownParts, Lent, Open, Own, Shared, Shows, Window, base_below}
 
@@ -47,7 +47,7 @@ module _ (parts : Parts) where
   -- An open call of function f, with the calls below it.
   pub record IsOpen (f : ℕ) (c : Open) (cs : List Open) : Type 0 where
     pub calls : callee_at parts c.function c.block c.place ≡ Some f
-    pub within : suc c.place < words_in parts c.function c.block
+    pub slot : IsPlace parts c.function c.block (suc c.place)
     pub framed : is_framed (function_at parts c.function).kind ≡ true
     pub is_frame : c.frame ≡ (function_at parts c.function).frame
     pub back : c.back ≡ address_of parts c.function c.block c.place
@@ -85,6 +85,11 @@ module _ (parts : Parts) where
   Follows f b i (To t) address = address ≡ address_of parts f t 0
   Follows f b i _ address = Unit {0}
 
+  -- a word is there, and its way on leads to the address after it
+  pub record IsThere (f b i : ℕ) : Type 0 where
+    pub place : IsPlace parts f b i
+    pub follows : Follows f b i (falls parts f b i) (following (address_of parts f b i))
+
   -- where control goes after this word: a CALL before it goes to the callee, a return to the caller
   abbrev pub GoesTo : Bool → Bool → ℕ → ℕ → ℕ → Way → List Open → ℕ → Type 0
   GoesTo true returns f b i way calls address = address ≡ entry_of (callee_before parts f b i)
@@ -108,6 +113,7 @@ module _ (parts : Parts) where
 
   -- Before word i of block b of function f, in a visit v.
   pub record At (w : ℕ) (k : Shared) (f b i : ℕ) (v : Visit) (start : Cells) : Type 0 where
+    pub place : IsPlace parts f b i
     pub is_visit : IsVisit f b i v
     pub pc : k.pc ≡ address_of parts f b i
     pub npc : GoesTo (is_call (op_before parts f b i)) (is_return (op_before parts f b i)) f b i v.way k.calls k.npc
