@@ -40,3 +40,4 @@ pub mod Onward
 pub mod Limits
 pub mod Bounded
 pub mod Begun
+pub mod Returning

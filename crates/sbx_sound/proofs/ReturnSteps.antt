@@ -158,14 +158,13 @@ module _ (parts : Parts) where
       steps_by parts w p word refl None (λ s h. ap (λ x. reached_by x s) op) (inl next)
       (λ fresh is_fresh s h. reaches_on _ _ _ shown (reaches_by _ (does parts fresh (JumpAndLink t) s) _ (ap (λ x. does parts fresh x s) op) (does_it fresh s (subst (λ x. Shows (window_of (function_at parts f) b i) (tests parts d x) k s) comes_straight.no_call h))))
 
-  pub ret_word : (w : ℕ) (k : Shared) (f b i : ℕ) (c : Open) (cs : List Open) (start : Cells) (at : At parts w k f b (suc i) (straight_visit parts f b (suc i)) start)
-      → IsWord parts f b (suc i) → op_at parts f b (suc i) ≡ JumpAndLink (record { rd = 0; rs1 = 31; operand2 = Immediate 8 }) → k.calls ≡ c ∷ cs → ComesStraight parts f b (suc i) → is_framed (function_at parts f).kind ≡ true → (c.back + 8) % 2 ^ 32 % 4 ≡ 0
-      → let p : Spot parts w = record { k = k; f = f; b = b; i = suc i; v = straight_visit parts f b (suc i); start = start; at = at } in
+  pub ret_word : (w : ℕ) (k : Shared) (f b i : ℕ) (c : Open) (cs : List Open) (start : Cells) (at : At parts w k f b i (straight_visit parts f b i) start)
+      → IsWord parts f b i → op_at parts f b i ≡ JumpAndLink (record { rd = 0; rs1 = 31; operand2 = Immediate 8 }) → k.calls ≡ c ∷ cs → ComesStraight parts f b i → window_of (function_at parts f) b i ≡ Own (function_at parts f).frame → is_framed (function_at parts f).kind ≡ true → (c.back + 8) % 2 ^ 32 % 4 ≡ 0
+      → let p : Spot parts w = record { k = k; f = f; b = b; i = i; v = straight_visit parts f b i; start = start; at = at } in
       Steps parts w p
-  ret_word w k f b i c cs start at word op is comes_straight framed four =
-      let own = own_window (function_at parts f) b i framed in
-      let d = state_at parts f b (suc i) in
-      return_word w k f b (suc i) (record { rd = 0; rs1 = 31; operand2 = Immediate 8 }) c cs start at word op is comes_straight (own ∙ sym (own_window (function_at parts f) b (suc i) framed))
+  ret_word w k f b i c cs start at word op is comes_straight own framed four =
+      let d = state_at parts f b i in
+      return_word w k f b i (record { rd = 0; rs1 = 31; operand2 = Immediate 8 }) c cs start at word op is comes_straight (own ∙ sym (own_window (function_at parts f) b i framed))
       (λ fresh s h. subst (λ x. Reaches (does parts fresh (JumpAndLink (record { rd = 0; rs1 = 31; operand2 = Immediate 8 })) s) (Shows x (tests parts d false) (moved_to ((c.back + 8) % 2 ^ 32) k))) (sym own)
       (ret_reaches parts fresh (function_at parts f).frame (tests parts d false) c cs k s is four (subst (λ x. Shows x (tests parts d false) k s) own h)))
 
