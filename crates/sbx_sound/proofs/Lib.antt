@@ -26,6 +26,7 @@ pub mod Moves
 pub mod Addresses
 pub mod DataSteps
 pub mod FrameSteps
+pub mod Served
 pub mod FrameWords
 pub mod DataWords
 pub mod LowFields
@@ -35,6 +36,7 @@ pub mod Read
 pub mod Goes
 pub mod Wells
 pub mod Straight
+pub mod Obeys
 pub mod Refined
 pub mod Onward
 pub mod Limits

@@ -70,7 +70,7 @@ same_window function b i c j h g = by_kind (is_framed function.kind) ((b == 0) &
     by_kind true true s h = absurd (cc)
     by_kind true false s h = sym (ap (λ (x : Bool). if true && not x then Own function.frame else Lent) s)
 
-lent_leaf : (function : Function) (b i : ℕ) → (is_framed function.kind && is_entry b i) ≡ false → window_of function b i ≡ Lent → is_framed function.kind ≡ false
+pub lent_leaf : (function : Function) (b i : ℕ) → (is_framed function.kind && is_entry b i) ≡ false → window_of function b i ≡ Lent → is_framed function.kind ≡ false
 lent_leaf function b i h = by_kind (is_framed function.kind) ((b == 0) && (i == 0)) h
   where
     by_kind : (t e : Bool) → (t && e) ≡ false → (if t && not e then Own function.frame else Lent) ≡ Lent → t ≡ false
@@ -78,7 +78,7 @@ lent_leaf function b i h = by_kind (is_framed function.kind) ((b == 0) && (i == 
     by_kind true true h l = absurd (cc)
     by_kind true false h l = absurd (cc)
 
-own_inside : (function : Function) (b i : ℕ) → (is_framed function.kind && is_entry b i) ≡ false → is_framed function.kind ≡ true → window_of function b i ≡ Own function.frame
+pub own_inside : (function : Function) (b i : ℕ) → (is_framed function.kind && is_entry b i) ≡ false → is_framed function.kind ≡ true → window_of function b i ≡ Own function.frame
 own_inside function b i h = by_kind (is_framed function.kind) ((b == 0) && (i == 0)) h
   where
     by_kind : (t e : Bool) → (t && e) ≡ false → t ≡ true → (if t && not e then Own function.frame else Lent) ≡ Own function.frame
