@@ -129,4 +129,4 @@ module _ (parts : Parts) (kept : parts_keep parts ≡ Ok tt) (typed : IsTyped pa
       positive parts (lowest parts kept typed) bounded (on parts checked (ordered parts kept typed) (have_results parts kept typed)) (some_point f b i start place begun (comes_to f b i start place begun))
 
 pub fuel_stays_positive : FuelStaysPositive
-fuel_stays_positive parts kept typed checked = is_positive parts kept typed checked
+fuel_stays_positive parts formed checked = is_positive parts formed.kept formed.typed checked

@@ -43,3 +43,5 @@ pub mod Limits
 pub mod Bounded
 pub mod Begun
 pub mod Returning
+pub mod Calling
+pub mod Branching

@@ -72,7 +72,7 @@ inside n i h = grind (arith, nat_tests)
 not_last : (n i : ℕ) → nat_lt (i + 1) n ≡ true → nat_le n (i + 1) ≡ false
 not_last n i h = grind (arith, nat_tests)
 
-no_more : (n i : ℕ) → nat_lt (i + 1) n ≡ false → suc i < n → ⊥
+pub no_more : (n i : ℕ) → nat_lt (i + 1) n ≡ false → suc i < n → ⊥
 no_more n i h less = let e : nat_lt (i + 1) n ≡ true = grind (arith, nat_tests) in cc
 
 left_false : (a b : Bool) → (a && not b) ≡ false → b ≡ false → a ≡ false
@@ -80,7 +80,7 @@ left_false false b h e = refl
 left_false true false h e = absurd (cc)
 left_false true true h e = absurd (cc)
 
-past_no : (way : Way) → way ≡ Past → is_past way ≡ false → ⊥
+pub past_no : (way : Way) → way ≡ Past → is_past way ≡ false → ⊥
 past_no way e h = let g : is_past way ≡ true = ap is_past e in cc
 
 -- the results that functions promise are ranges with words
@@ -99,7 +99,7 @@ module _ (parts : Parts) (checked : Checked parts) (ordered : IsOrdered parts) (
   near_word : (start : Cells) (f b i : ℕ) (d : Known) → HasNear start d → HasNear start (after_word parts f b i d)
   near_word start f b i d n = near_call start (callee_before parts f b i) _ (near_after start (function_at parts f).frame d n (op_at parts f b i) (low_fields (word_of_place parts f b i)))
 
-  near_state : (start : Cells) (f b i : ℕ) → HasNear start (state_at parts f b i) → HasNear start (state_at parts f b (suc i))
+  pub near_state : (start : Cells) (f b i : ℕ) → HasNear start (state_at parts f b i) → HasNear start (state_at parts f b (suc i))
   unfolding state_at
   near_state start f b i n = near_word start f b i (state_at parts f b i) n
 
@@ -167,7 +167,7 @@ module _ (parts : Parts) (checked : Checked parts) (ordered : IsOrdered parts) (
       by_test true = n
       by_test false = near_word start f b i v.known n
 
-  begins : (start : Cells) (d : Known) (f t : ℕ) (n : HasNear start d) → has_cells d (cells_at parts f t) ≡ true → Near (numbers n.held.words) (state_at parts f t 0) n.held.words n.held.icc n.held.y
+  pub begins : (start : Cells) (d : Known) (f t : ℕ) (n : HasNear start d) → has_cells d (cells_at parts f t) ≡ true → Near (numbers n.held.words) (state_at parts f t 0) n.held.words n.held.icc n.held.y
   unfolding state_at
   begins start d f t n h =
       let words = n.held.words in
@@ -215,7 +215,7 @@ module _ (parts : Parts) (checked : Checked parts) (ordered : IsOrdered parts) (
   abbrev WayOn : (f b i : ℕ) → Visit → Type 0
   WayOn f b i v = (v.way ≡ falls parts f b i) ⊎ ((is_back v.way ≡ true) ⊎ LeadsTo (length (function_at parts f).blocks) v.way)
 
-  branch_leads : (f b j : ℕ) (c : Branch) → IsPlace parts f b j → op_at parts f b j ≡ BranchOnCondition c → LeadsTo (length (function_at parts f).blocks) (branch_way parts f b j c.displacement)
+  pub branch_leads : (f b j : ℕ) (c : Branch) → IsPlace parts f b j → op_at parts f b j ≡ BranchOnCondition c → LeadsTo (length (function_at parts f).blocks) (branch_way parts f b j c.displacement)
   unfolding branch_way
   branch_leads f b j c place e =
       let at = target (address_of parts f b j) c.displacement in

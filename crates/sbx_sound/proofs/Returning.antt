@@ -67,6 +67,7 @@ and_parts true false h = absurd (cc)
 
 -- what is no transfer and no trap goes straight on, is no CALL, and doesn't end the run
 pub record IsPlainWord (op : Operation) : Type 0 where
+  pub no_transfer : is_transfer op ≡ false
   pub straight : goes_straight op ≡ true
   pub no_call : is_call op ≡ false
   pub no_return : is_return op ≡ false
@@ -77,14 +78,18 @@ plain_word (Call d) h g = absurd (cc)
 plain_word (JumpAndLink t) h g = absurd (cc)
 plain_word (BranchOnCondition b) h g = absurd (cc)
 plain_word (TrapOnCondition t) h g = absurd (cc)
-plain_word _ h g = record { straight = refl; no_call = refl; no_return = refl; runs_on = refl }
+plain_word _ h g = record { no_transfer = refl; straight = refl; no_call = refl; no_return = refl; runs_on = refl }
 
 -- the slot of a transfer, by the rule of shape
+pub slot_keeps_on : (parts : Parts) (checked : Checked parts) (f b j : ℕ) → IsPlace parts f b (suc j) → is_transfer (op_at parts f b j) ≡ true → (is_transfer (op_at parts f b (suc j)) ≡ false) × (is_trap (op_at parts f b (suc j)) ≡ false)
+slot_keeps_on parts checked f b j place transfers =
+    let op = op_at parts f b (suc j) in
+    or_parts (is_transfer op) (is_trap op) (and_false (is_transfer (op_at parts f b j)) (is_transfer op || is_trap op) (has_shape parts checked f b (suc j) place).slot transfers)
+
 pub slot_is_plain : (parts : Parts) (checked : Checked parts) (f b j : ℕ) → IsPlace parts f b (suc j) → is_transfer (op_at parts f b j) ≡ true → IsPlainWord (op_at parts f b (suc j))
 slot_is_plain parts checked f b j place transfers =
-    let op = op_at parts f b (suc j) in
-    let e = or_parts (is_transfer op) (is_trap op) (and_false (is_transfer (op_at parts f b j)) (is_transfer op || is_trap op) (has_shape parts checked f b (suc j) place).slot transfers) in
-    plain_word op e.0 e.1
+    let e = slot_keeps_on parts checked f b j place transfers in
+    plain_word (op_at parts f b (suc j)) e.0 e.1
 
 pub slot_is_no_save : (parts : Parts) (checked : Checked parts) (f b j : ℕ) → IsPlace parts f b (suc j) → is_save (op_at parts f b (suc j)) ≡ false
 slot_is_no_save parts checked f b j place =
