@@ -1,14 +1,13 @@
 -- Where a run comes to after a word: the next word, another block, a callee, or back to a caller.
 use Rattle.sbx_domain.specs.declared.entry.Entry.{Entry}
-use Rattle.std.proofs.Common.{◌≡◌, ◌≢◌, ℕ, zero, suc, ◌+◌, ◌-◌, ◌%◌, Bool, true, false, List, Option, Some, None, refl, sym, ap, ◌∙◌, subst, arith}
-use Rattle.std.specs.Prelude.{pos, ◌+ℤ◌, ◌-ℤ◌, ◌≤ℤ◌, ◌&&◌, not, if◌then◌else◌, slice_get}
+use Rattle.std.proofs.Common.{◌≡◌, ◌≢◌, ℕ, zero, suc, ◌+◌, ◌-◌, ◌%◌, ◌<◌, Bool, true, false, List, length, Option, Some, None, refl, sym, ap, ◌∙◌, subst, arith}
+use Rattle.std.specs.Prelude.{pos, ◌+ℤ◌, ◌-ℤ◌, ◌≤ℤ◌, ◌&&◌, not, nat_lt, if◌then◌else◌, slice_get}
 use Rattle.std.proofs.lemmas.Bool.Decides.{nat_tests}
 use Rattle.v8_word.specs.declared.Icc.{Icc}
 use Rattle.v8_meaning.specs.declared.operation.Operation.{Operation}
 use Rattle.v8_meaning.specs.declared.operation.Operation.TheVariants.{Call, BranchOnCondition, JumpAndLink}
 use Rattle.v8_meaning.specs.Operands.{following}
 use Rattle.sbx_image.specs.declared.parts.Parts.{Parts}
-use Rattle.sbx_image.specs.declared.parts.Range.{Range}
 use Rattle.sbx_flat.specs.Memory.{Bytes}
 use Rattle.sbx_image.specs.declared.parts.Function.{Function}
 use Rattle.sbx_flat.specs.Registers.{Words}
@@ -18,12 +17,12 @@ use Rattle.sbx_rules.specs.Rules.{has_cells}
 use Rattle.sbx_rules.specs.Operations.{is_call, is_framed, is_return}
 use Rattle.sbx_domain.specs.Fits.{Fits, HasAlignment, HasForm, HasInterval}
 use Rattle.sbx_domain.specs.Known.{Known, range_of_entry, form_of_entry}
-use Rattle.sbx_domain.specs.Forms.{Form, form_value}
-use Rattle.sbx_rules.specs.Ways.{Next, To, Visit, Way, after_call, after_word, budget_of_callee, cells_at, falls, fuel_at, state_at, visits_after, visits_at, weight_of_place, weight_to}
-use Rattle.sbx_rules.specs.Places.{address_of, callee_at, callee_before, callee_of, function_at, op_at, op_before}
-use Rattle.sbx_sound.specs.Running.{After, At, Follows, GoesTo, IsVisit, bytes_of, left_to_all, straight_visit}
+use Rattle.sbx_domain.specs.Forms.{form_value}
+use Rattle.sbx_rules.specs.Ways.{Next, Past, To, Visit, Way, after_call, after_word, budget_of_callee, cells_at, falls, falls_to, fuel_at, state_at, visits_after, visits_at, weight_of_place, weight_to}
+use Rattle.sbx_rules.specs.Places.{IsPlace, address_of, callee_at, callee_before, callee_of, ends_run, function_at, op_at, op_before, words_in}
+use Rattle.sbx_sound.specs.Running.{After, At, Follows, GoesTo, IsThere, IsVisit, bytes_of, left_to_all, straight_visit}
 use Rattle.sbx_form.specs.Forms.{Cells}
-use Rattle.sbx_sound.specs.Shared.{Open, Shared}
+use Rattle.sbx_sound.specs.Shared.{AreStored, Open, Shared}
 use Rattle.sbx_domain.specs.Transfer.{is_in, saved, transferred}
 use Rattle.sbx_sound.proofs.Frames.{moved_in}
 use Rattle.sbx_sound.proofs.Ledger.{edge_pays, fits_begin, near_in_cells, numbers, one_edge, one_word}
@@ -33,6 +32,23 @@ abbrev pub goes_straight : Operation → Bool
 goes_straight (BranchOnCondition c) = false
 goes_straight (JumpAndLink j) = false
 goes_straight _ = true
+
+-- the next word of a block is there, where control goes on to it
+falls_within : (end : Bool) (words blocks b i : ℕ) → falls_to end words blocks b i ≡ Next → suc i < words
+falls_within true words blocks b i e = absurd (cc)
+falls_within false words blocks b i e = by_words (nat_lt (i + 1) words) refl e
+  where
+    by_blocks : (t : Bool) → (if t then To (b + 1) else Past) ≡ Next → suc i < words
+    by_blocks true e = absurd (cc)
+    by_blocks false e = absurd (cc)
+
+    by_words : (t : Bool) → nat_lt (i + 1) words ≡ t → (if t then Next else (if nat_lt (b + 1) blocks then To (b + 1) else Past)) ≡ Next → suc i < words
+    by_words true h e = grind (arith, nat_tests)
+    by_words false h e = by_blocks (nat_lt (b + 1) blocks) e
+
+pub next_there : (parts : Parts) (f b i : ℕ) → falls parts f b i ≡ Next → IsPlace parts f b i → IsPlace parts f b (suc i)
+unfolding falls
+next_there parts f b i e place = record { function = place.function; block = place.block; word = falls_within (ends_run (op_at parts f b i)) (words_in parts f b) (length (function_at parts f).blocks) b i e }
 
 -- nor a call
 abbrev pub is_plain : Operation → Bool
@@ -88,13 +104,14 @@ module _ (parts : Parts) where
 
   pub after_next : (w : ℕ) (k : Shared) (f b i : ℕ) (start : Cells)
       → goes_straight (op_at parts f b i) ≡ true → is_call (op_at parts f b i) ≡ false
-      → Follows parts f b (suc i) (falls parts f b (suc i)) (following (address_of parts f b (suc i)))
+      → IsThere parts f b (suc i)
       → After parts w k f b i (state_at parts f b (suc i)) Next start → At parts w k f b (suc i) (straight_visit parts f b (suc i)) start
-  after_next w k f b i start straight no_call follows a = record {
+  after_next w k f b i start straight no_call there a = record {
+    place = there.place;
     is_visit = is_straight_visit f b (suc i) straight;
     pc = a.pc;
     npc = goes_plainly (is_call (op_at parts f b i)) (is_return (op_at parts f b i)) f b (suc i) (falls parts f b (suc i)) k.calls k.npc no_call (not_return (op_at parts f b i) straight)
-        (subst (Follows parts f b (suc i) (falls parts f b (suc i))) (sym (a.npc ∙ ap following a.pc)) follows);
+        (subst (Follows parts f b (suc i) (falls parts f b (suc i))) (sym (a.npc ∙ ap following a.pc)) there.follows);
     annulled = a.annulled;
     exit = a.exit;
     begun = a.begun;
@@ -104,6 +121,7 @@ module _ (parts : Parts) where
     base = a.base;
     eight = a.eight;
     room = a.room;
+    stored = a.stored;
     ledger = a.ledger;
   }
 
@@ -115,16 +133,17 @@ module _ (parts : Parts) where
   pub after_edge : (w : ℕ) (k : Shared) (f b i t : ℕ) (d : Known) (start : Cells) → t ≢ 0
       → has_cells d (cells_at parts f t) ≡ true
       → IsPaid (state_at parts f b 0) (fuel_at parts f b) (weight_to parts f b (suc i)) d (fuel_at parts f t)
-      → Follows parts f t 0 (falls parts f t 0) (following (address_of parts f t 0))
+      → IsThere parts f t 0
       → After parts w k f b i d (To t) start → At parts w k f t 0 (straight_visit parts f t 0) (numbers k.words)
   unfolding state_at weight_to
-  after_edge w k f b i t d start some cells paid follows a =
+  after_edge w k f b i t d start some cells paid there a =
       let near = a.fits.near in
       let fits = fits_begin start d (cells_at parts f t) k.words k.icc k.y cells a.fits in
       record {
+        place = there.place;
         is_visit = is_straight_visit f t 0 refl;
         pc = a.pc;
-        npc = subst (Follows parts f t 0 (falls parts f t 0)) (sym (a.npc ∙ ap following a.pc)) follows;
+        npc = subst (Follows parts f t 0 (falls parts f t 0)) (sym (a.npc ∙ ap following a.pc)) there.follows;
         annulled = a.annulled;
         exit = a.exit;
         begun = near_in_cells (numbers k.words) (state_at parts f t 0) k.words k.icc k.y fits.near;
@@ -134,6 +153,7 @@ module _ (parts : Parts) where
         base = ap (λ x. k.base + x) (sym (same_bytes (function_at parts f) b i t some)) ∙ a.base;
         eight = a.eight;
         room = a.room;
+        stored = a.stored;
         ledger = one_edge w (weight_to parts f b (suc i)) (budget parts) (form_value start (fuel_at parts f b)) (form_value (numbers k.words) (fuel_at parts f t)) (left_to_all parts k.calls) a.ledger
             (edge_pays (state_at parts f b 0) d (fuel_at parts f b) (fuel_at parts f t) (weight_to parts f b (suc i)) start k.words k.icc k.y paid a.begun near);
       }
@@ -156,9 +176,9 @@ module _ (parts : Parts) where
   pub after_plain : (w : ℕ) (k : Shared) (f b i : ℕ) (v : Visit) (start : Cells) (l : Left)
       → is_call (op_before parts f b i) ≡ false → is_return (op_before parts f b i) ≡ false → v.annulled ≡ false
       → bytes_of (function_at parts f) b i ≡ bytes_of (function_at parts f) b (suc i)
-      → Fits start (transferred (function_at parts f).frame (op_at parts f b i) v.known) l.words l.icc l.y
+      → Fits start (transferred (function_at parts f).frame (op_at parts f b i) v.known) l.words l.icc l.y → AreStored (length parts.bytes) l.memory l.input
       → At parts w k f b i v start → After parts (w + weight_of (op_at parts f b i)) (left_by l k) f b i (transferred (function_at parts f).frame (op_at parts f b i) v.known) v.way start
-  after_plain w k f b i v start l no_call no_return runs same fits a = record {
+  after_plain w k f b i v start l no_call no_return runs same fits stored a = record {
     pc = follows_plainly _ _ f b i v.way k.calls k.npc no_call no_return a.npc;
     npc = refl;
     annulled = a.annulled ∙ runs;
@@ -169,6 +189,7 @@ module _ (parts : Parts) where
     base = ap (λ x. k.base + x) (sym same) ∙ a.base;
     eight = a.eight;
     room = a.room;
+    stored = stored;
     ledger = subst (λ t. (pos (w + weight_of (op_at parts f b i)) +ℤ ((form_value start (fuel_at parts f b) -ℤ pos t) +ℤ left_to_all parts k.calls)) ≤ℤ pos (budget parts)) (sym (weight_next f b i no_call))
         (one_word w (weight_of (op_at parts f b i)) (weight_to parts f b i) (budget parts) (form_value start (fuel_at parts f b)) (left_to_all parts k.calls) a.ledger);
   }
@@ -189,6 +210,7 @@ module _ (parts : Parts) where
     base = ap (λ x. k.base + x) (sym same) ∙ a.base;
     eight = a.eight;
     room = a.room;
+    stored = a.stored;
     ledger = subst (λ t. (pos (w + 1) +ℤ ((form_value start (fuel_at parts f b) -ℤ pos t) +ℤ left_to_all parts k.calls)) ≤ℤ pos (budget parts)) (sym (weight_next f b i no_call ∙ ap (λ x. weight_to parts f b i + x) light))
         (one_word w 1 (weight_to parts f b i) (budget parts) (form_value start (fuel_at parts f b)) (left_to_all parts k.calls) a.ledger);
   }
@@ -248,6 +270,7 @@ module _ (parts : Parts) where
         omega (arith, e, z, h, below);
     eight = eight;
     room = a.room;
+    stored = a.stored;
     ledger = subst (λ t. (pos (w + weight_of (op_at parts f 0 0)) +ℤ ((form_value start (fuel_at parts f 0) -ℤ pos t) +ℤ left_to_all parts k.calls)) ≤ℤ pos (budget parts)) (sym (weight_next f 0 0 refl))
         (one_word w (weight_of (op_at parts f 0 0)) (weight_to parts f 0 0) (budget parts) (form_value start (fuel_at parts f 0)) (left_to_all parts k.calls) a.ledger);
   }

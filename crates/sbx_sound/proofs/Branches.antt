@@ -23,7 +23,7 @@ use Rattle.sbx_sound.specs.Running.{At, Follows, IsVisit, straight_visit}
 use Rattle.sbx_form.specs.Forms.{Cells}
 use Rattle.sbx_sound.specs.Shared.{Shared}
 use Rattle.sbx_domain.specs.Refining.{refined}
-use Rattle.sbx_sound.proofs.Arrivals.{goes_plainly}
+use Rattle.sbx_sound.proofs.Arrivals.{goes_plainly, next_there}
 use Rattle.sbx_sound.proofs.Effects.{branched_shared}
 use Rattle.sbx_sound.proofs.Transfers.{ComesStraight, light_ledger, slot_at}
 use Rattle.v8_word.specs.declared.Cond.TheVariants as conds
@@ -69,7 +69,7 @@ pub record Refines (c : Cond) (d : Known) (start : Cells) (words : Words) (icc :
   pub codes : known.icc ≡ true → d.icc ≡ true
   pub y_defined : is_some known.y ≡ true → is_some d.y ≡ true
 
-not_always : (c : Cond) (icc : Icc) → holds c icc ≡ false → is_always c ≡ false
+pub not_always : (c : Cond) (icc : Icc) → holds c icc ≡ false → is_always c ≡ false
 not_always conds.Always icc h = absurd (cc)
 not_always _ icc h = refl
 
@@ -103,7 +103,7 @@ module _ (parts : Parts) where
   abbrev pub untaken : Branch → ℕ → ℕ → ℕ → Known → Visit
   untaken c f b i d = record { known = d; way = falls parts f b (suc i); annulled = c.annul }
 
-  taken_is : (c : Branch) (f b i : ℕ) (d : Known) → op_at parts f b i ≡ BranchOnCondition c → refined c.cond (state_at parts f b i) ≡ Some d → IsVisit parts f b (suc i) (taken c f b i d)
+  pub taken_is : (c : Branch) (f b i : ℕ) (d : Known) → op_at parts f b i ≡ BranchOnCondition c → refined c.cond (state_at parts f b i) ≡ Some d → IsVisit parts f b (suc i) (taken c f b i d)
   unfolding visits_at
   taken_is c f b i d op e = (
     0,
@@ -111,7 +111,7 @@ module _ (parts : Parts) where
         ∙ visit_first (refined c.cond (state_at parts f b i)) d (branch_way parts f b i c.displacement) (c.annul && is_always c.cond) (untaken_visit c (falls parts f b (suc i)) (state_at parts f b i)) e,
   )
 
-  untaken_is : (c : Branch) (f b i : ℕ) (d : Known) → op_at parts f b i ≡ BranchOnCondition c → is_always c.cond ≡ false → refined (opposite c.cond) (state_at parts f b i) ≡ Some d → IsVisit parts f b (suc i) (untaken c f b i d)
+  pub untaken_is : (c : Branch) (f b i : ℕ) (d : Known) → op_at parts f b i ≡ BranchOnCondition c → is_always c.cond ≡ false → refined (opposite c.cond) (state_at parts f b i) ≡ Some d → IsVisit parts f b (suc i) (untaken c f b i d)
   unfolding visits_at
   untaken_is c f b i d op some e =
       let xs = taken_visit c (branch_way parts f b i c.displacement) (state_at parts f b i) in
@@ -126,6 +126,7 @@ module _ (parts : Parts) where
       → (r : Refines c.cond (state_at parts f b i) start k.words k.icc k.y)
       → At parts w k f b i (straight_visit parts f b i) start → At parts (w + 1) (branched_shared c k) f b (suc i) (taken c f b i r.known) start
   branch_taken w k f b i c start op comes held r a = record {
+    place = next_there parts f b i comes.next a.place;
     is_visit = taken_is c f b i r.known op r.is;
     pc = slot_at parts f b i w k start comes a;
     npc = goes_plainly parts (is_call (op_at parts f b i)) (is_return (op_at parts f b i)) f b (suc i) (branch_way parts f b i c.displacement) k.calls (branched_shared c k).npc (ap is_call op) (ap is_return op)
@@ -139,6 +140,7 @@ module _ (parts : Parts) where
     base = ap (λ x. k.base + x) (sym comes.same) ∙ a.base;
     eight = a.eight;
     room = a.room;
+    stored = a.stored;
     ledger = light_ledger parts f b i w k (straight_visit parts f b i) start comes.no_call (ap weight_of op) a;
   }
 
@@ -148,6 +150,7 @@ module _ (parts : Parts) where
       → Follows parts f b (suc i) (falls parts f b (suc i)) (following (address_of parts f b (suc i)))
       → At parts w k f b i (straight_visit parts f b i) start → At parts (w + 1) (branched_shared c k) f b (suc i) (untaken c f b i r.known) start
   branch_untaken w k f b i c start op comes held r follows a = record {
+    place = next_there parts f b i comes.next a.place;
     is_visit = untaken_is c f b i r.known op (not_always c.cond k.icc held) r.is;
     pc = slot_at parts f b i w k start comes a;
     npc = goes_plainly parts (is_call (op_at parts f b i)) (is_return (op_at parts f b i)) f b (suc i) (falls parts f b (suc i)) k.calls (branched_shared c k).npc (ap is_call op) (ap is_return op)
@@ -161,5 +164,6 @@ module _ (parts : Parts) where
     base = ap (λ x. k.base + x) (sym comes.same) ∙ a.base;
     eight = a.eight;
     room = a.room;
+    stored = a.stored;
     ledger = light_ledger parts f b i w k (straight_visit parts f b i) start comes.no_call (ap weight_of op) a;
   }

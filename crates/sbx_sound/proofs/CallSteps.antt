@@ -100,7 +100,7 @@ module _ (parts : Parts) (f b j g : ℕ) where
       let p : Spot parts w = record { k = k; f = f; b = b; i = suc j; v = straight_visit parts f b (suc j); start = start; at = at } in
       let n = w + weight_of (op_at parts f b (suc j)) in
       let next_k = record (left_by d.left k) { calls = opened parts f b j g k start d.left.words ∷ k.calls } in
-      let next : Spot parts n = record { k = next_k; f = g; b = 0; i = 0; v = straight_visit parts g 0 0; start = numbers d.left.words; at = enters parts f b j g w k start d.left rules d.fits stays at } in
+      let next : Spot parts n = record { k = next_k; f = g; b = 0; i = 0; v = straight_visit parts g 0 0; start = numbers d.left.words; at = enters parts f b j g w k start d.left rules d.fits d.stored stays at } in
       let link = linked_back w k (straight_visit parts f b (suc j)) start (d.left.words 15) rules.calls d.link at in
       let shown : (s : State) → Shows (window_of caller b (suc j)) (tests parts (in_slot parts f b j g) (is_call (op_at parts f b j))) (left_by d.left k) s → ShowsSpot parts n next s =
       λ s h. (let h1 = subst (λ x. Shows x (tests parts (in_slot parts f b j g) (is_call (op_at parts f b j))) (left_by d.left k) s) (own_window caller b j rules.framed) h in

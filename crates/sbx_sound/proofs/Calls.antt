@@ -1,6 +1,6 @@
 -- A call into a function, and the return to its caller.
 use Rattle.sbx_sound.proofs.Entries.{called_kept}
-use Rattle.std.proofs.Common.{◌≡◌, ℕ, suc, ◌+◌, ◌<◌, ◌≤◌, Bool, true, false, List, ◌∷◌, Option, Some, None, refl, sym, ap, ◌∙◌, subst, arith}
+use Rattle.std.proofs.Common.{◌≡◌, ℕ, suc, ◌+◌, ◌<◌, ◌≤◌, Bool, true, false, List, ◌∷◌, length, Option, Some, None, refl, sym, ap, ◌∙◌, subst, arith}
 use Rattle.std.specs.Prelude.{pos, ◌+ℤ◌, ◌-ℤ◌, ◌≤ℤ◌, nat_le, if◌then◌else◌}
 use Rattle.v8_meaning.specs.Operands.{following}
 use Rattle.sbx_image.specs.declared.parts.Parts.{Parts}
@@ -15,10 +15,10 @@ use Rattle.sbx_domain.specs.Fits.{Fits, HasAlignment, HasForm, HasInterval}
 use Rattle.sbx_domain.specs.Known.{Known, range_at, form_at, range_of_entry, form_of_entry}
 use Rattle.sbx_domain.specs.Forms.{Form, form_value}
 use Rattle.sbx_rules.specs.Ways.{Way, after_call, budget_of_callee, cells_at, falls, fuel_at, state_at, weight_to}
-use Rattle.sbx_rules.specs.Places.{address_of, callee_at, callee_before, function_at, op_at, words_in}
-use Rattle.sbx_sound.specs.Running.{At, Follows, GoesTo, IsOpen, entry_of, left_at, left_to_all, straight_visit}
+use Rattle.sbx_rules.specs.Places.{address_of, callee_at, callee_before, function_at, op_at}
+use Rattle.sbx_sound.specs.Running.{At, Follows, GoesTo, IsOpen, IsThere, entry_of, left_at, left_to_all, straight_visit}
 use Rattle.sbx_form.specs.Forms.{Cells}
-use Rattle.sbx_sound.specs.Shared.{Open, Shared}
+use Rattle.sbx_sound.specs.Shared.{AreStored, Open, Shared}
 use Rattle.sbx_domain.specs.Transfer.{called, transferred}
 use Rattle.sbx_sound.proofs.Arrivals.{Left, entry_bytes, framed_bytes, is_straight_visit, left_by}
 use Rattle.sbx_sound.proofs.Ledger.{fits_begin, near_in_cells, numbers, one_call}
@@ -52,14 +52,13 @@ module _ (parts : Parts) (f b j g : ℕ) where
   pub record CallsWell : Type 0 where
     pub calls : is_call (op_at parts f b j) ≡ true
     pub callee_is : callee_at parts f b j ≡ Some g
-    pub slot : suc j < words_in parts f b
     pub framed : is_framed caller.kind ≡ true
     pub params : has_cells in_slot (cells_at parts g 0) ≡ true
     pub room : caller.frame + callee.stack_room ≤ caller.stack_room
     pub within_budget : IsWithinBudget (state_at parts g 0 0) (fuel_at parts g 0) callee.budget
-    -- the image's order: a function's first block is at its entry, and the words of a block follow each other
+    -- the image's order: a function's first block is at its entry
     pub entry : callee.entry ≡ address_of parts g 0 0
-    pub follows : Follows parts g 0 0 (falls parts g 0 0) (following (address_of parts g 0 0))
+    pub there : IsThere parts g 0 0
 
   known_then : CallsWell → state_at parts f b (suc (suc j)) ≡ called callee.results in_slot
   unfolding state_at
@@ -82,7 +81,7 @@ module _ (parts : Parts) (f b j g : ℕ) where
       → At parts w k f b (suc j) (straight_visit parts f b (suc j)) start → IsOpen parts g (opened k start left.words) k.calls
   is_opened w k start left rules fits stays a = record {
     calls = rules.callee_is;
-    within = rules.slot;
+    slot = a.place;
     framed = rules.framed;
     is_frame = refl;
     back = refl;
@@ -103,18 +102,19 @@ module _ (parts : Parts) (f b j g : ℕ) where
   comes_to false r calls way address p q h = absurd (cc)
 
   -- CALL and its slot: the callee begins, and the caller waits
-  pub enters : (w : ℕ) (k : Shared) (start : Cells) (left : Left) → (rules : CallsWell) → Fits start in_slot left.words left.icc left.y → pos 0 ≤ℤ left_at parts f b (suc (suc j)) start
+  pub enters : (w : ℕ) (k : Shared) (start : Cells) (left : Left) → (rules : CallsWell) → Fits start in_slot left.words left.icc left.y → AreStored (length parts.bytes) left.memory left.input → pos 0 ≤ℤ left_at parts f b (suc (suc j)) start
       → At parts w k f b (suc j) (straight_visit parts f b (suc j)) start
       → At parts (w + weight_of (op_at parts f b (suc j))) (record (left_by left k) { calls = opened k start left.words ∷ k.calls }) g 0 0 (straight_visit parts g 0 0) (numbers left.words)
   unfolding state_at weight_to
-  enters w k start left rules fits stays a =
+  enters w k start left rules fits stored stays a =
       let begin = fits_begin start in_slot (cells_at parts g 0) left.words left.icc left.y rules.params fits in
       let begun = near_in_cells (numbers left.words) (state_at parts g 0 0) left.words left.icc left.y begin.near in
       let pc = comes_to _ _ k.calls (falls parts f b (suc j)) k.npc rules.calls rules.callee_is a.npc in
       record {
+        place = rules.there.place;
         is_visit = is_straight_visit parts g 0 0 refl;
         pc = pc ∙ rules.entry;
-        npc = subst (Follows parts g 0 0 (falls parts g 0 0)) (ap following (sym (pc ∙ rules.entry))) rules.follows;
+        npc = subst (Follows parts g 0 0 (falls parts g 0 0)) (ap following (sym (pc ∙ rules.entry))) rules.there.follows;
         annulled = a.annulled;
         exit = a.exit;
         begun = begun;
@@ -127,6 +127,7 @@ module _ (parts : Parts) (f b j g : ℕ) where
             let e = framed_bytes parts caller b j rules.framed in
             let h = a.base in let r = a.room in let s = rules.room in
             omega (arith, e, h, r, s);
+        stored = stored;
         ledger = subst (λ t. (pos (w + weight_of (op_at parts f b (suc j))) +ℤ ((form_value (numbers left.words) (fuel_at parts g 0) -ℤ pos 0) +ℤ ((form_value start (fuel_at parts f b) -ℤ pos t) +ℤ left_to_all parts k.calls))) ≤ℤ pos (budget parts)) (sym (weight_then rules))
             (one_call w (weight_of (op_at parts f b (suc j))) (weight_to parts f b (suc j)) callee.budget (budget parts) (form_value start (fuel_at parts f b)) (form_value (numbers left.words) (fuel_at parts g 0)) (left_to_all parts k.calls) a.ledger (rules.within_budget (numbers left.words) begun));
       }

@@ -1,5 +1,5 @@
 -- Loads and stores of data, and the services get and put.
-use Rattle.std.proofs.Common.{◌≡◌, ◌≢◌, ℕ, zero, suc, ◌+◌, ◌-◌, ◌%◌, ◌^◌, ◌<◌, Bool, true, false, List, [], ◌∷◌, ◌++◌, Option, Some, None, refl, sym, ap, ◌∙◌, subst, arith}
+use Rattle.std.proofs.Common.{◌≡◌, ◌≢◌, ℕ, zero, suc, ◌+◌, ◌-◌, ◌%◌, ◌^◌, ◌<◌, Bool, true, false, List, [], ◌∷◌, ◌++◌, length, Option, Some, None, refl, sym, ap, ◌∙◌, subst, arith}
 use Rattle.std.specs.Prelude.{◌==◌, ◌&&◌, nat_lt, nat_le, if◌then◌else◌}
 use Rattle.std.proofs.lemmas.Bool.Decides.{nat_tests}
 use Rattle.v8_formats.specs.declared.instr.Trap.{Trap}
@@ -17,7 +17,7 @@ use Rattle.sbx_image.specs.declared.parts.Parts.{Parts}
 use Rattle.sbx_flat.specs.Effects.{address_in, aligned, declares, does, gets, puts, served, serves, service_of, slot_of, takes, transfers, transfers_data, transfers_in, writes}
 use Rattle.sbx_flat.specs.Memory.{Bytes, byte_of, followed_by, number_at, with_number}
 use Rattle.sbx_flat.specs.Registers.{Words, written}
-use Rattle.sbx_flat.specs.Runs.{reached_by}
+use Rattle.sbx_flat.specs.Runs.{AreBytes, reached_by}
 use Rattle.sbx_flat.specs.declared.path.Wrong.TheVariants.{Misaligned, NoService}
 use Rattle.sbx_flat.specs.States.{State, Turn, Goes, Fails, advanced, reg}
 use Rattle.sbx_domain.specs.Fits.{Fits}
@@ -29,9 +29,10 @@ use Rattle.sbx_sound.proofs.Effects.{IsFewer, Reaches, moved_on, reaches_by, tak
 use Rattle.sbx_sound.proofs.Frames.{IsFree, write_shows}
 use Rattle.sbx_sound.proofs.Safe.{ShowsSpot, Spot}
 use Rattle.sbx_sound.proofs.Steps.{Does, linked_at, op_of}
+use Rattle.sbx_sound.proofs.Stored.{bytes_after_first, stored_after_store}
 use Rattle.v8_meaning.specs.declared.operation.Loading.TheVariants as loadings
 
-number_same : (a b : Bytes) → ((x : ℕ) → a x ≡ b x) → (place count : ℕ) → number_at a place count ≡ number_at b place count
+pub number_same : (a b : Bytes) → ((x : ℕ) → a x ≡ b x) → (place count : ℕ) → number_at a place count ≡ number_at b place count
 number_same a b same place zero = refl
 number_same a b same place (suc count) = ap (λ n. followed_by n (a (place + count))) (number_same a b same place count) ∙ ap (λ x. followed_by (number_at b place count) x) (same (place + count))
 
@@ -40,7 +41,7 @@ no_slot (transfer.Load loadings.Word) s a h = h
 no_slot (transfer.Store sizes.Word) s a h = h
 no_slot _ s a h = refl
 
-is_aligned : (size a : ℕ) (t : Turn) → a % size ≡ 0 → aligned size a t ≡ t
+pub is_aligned : (size a : ℕ) (t : Turn) → a % size ≡ 0 → aligned size a t ≡ t
 is_aligned size a t e = let f : (a % size == 0) ≡ true = grind (arith, nat_tests) in ap (λ (b : Bool). if b then t else Fails Misaligned) f
 
 no_link : (n v : ℕ) (words : Words) → 15 ≢ n → with_location n v words 15 ≡ words 15
@@ -93,6 +94,7 @@ module _ (parts : Parts) (w : ℕ) (p : Spot parts w) where
         left = record { words = with_location m.rd v p.k.words; icc = p.k.icc; y = p.k.y; memory = p.k.memory; input = p.k.input; output = p.k.output };
         fits = subst (λ o. Fits p.start (transferred frame o p.v.known) (with_location m.rd v p.k.words) p.k.icc p.k.y) (sym is) fits;
         link = no_link m.rd v p.k.words apart;
+        stored = p.at.stored;
         reached = Some a;
         reaches = λ s h. ap (λ o. reached_by o s) is ∙ ap Some (access.address s h);
         goes = λ fresh s h.
@@ -116,6 +118,7 @@ module _ (parts : Parts) (w : ℕ) (p : Spot parts w) where
         left = record { words = p.k.words; icc = p.k.icc; y = p.k.y; memory = memory; input = p.k.input; output = p.k.output };
         fits = subst (λ o. Fits p.start (transferred frame o p.v.known) p.k.words p.k.icc p.k.y) (sym is) fits;
         link = refl;
+        stored = stored_after_store (length parts.bytes) a size v p.k.memory p.k.input p.at.stored;
         reached = Some a;
         reaches = λ s h. ap (λ o. reached_by o s) is ∙ ap Some (access.address s h);
         goes = λ fresh s h.
@@ -147,6 +150,10 @@ module _ (parts : Parts) (w : ℕ) (p : Spot parts w) where
   abbrev pub got_shared : Shared → Shared
   got_shared k = record (moved_on (with_word_known 8 (got k.input) k)) { input = rest_of k.input }
 
+  bytes_of_rest : (input : List ℕ) → AreBytes input → AreBytes (rest_of input)
+  bytes_of_rest [] are = are
+  bytes_of_rest (byte ∷ rest) are = bytes_after_first byte rest are
+
   got_state : (input : List ℕ) (s : State) → s.input ≡ input → gets s.input s ≡ record s { registers = written 8 (got input) s.registers; input = rest_of input }
   got_state [] s e = ap (λ i. gets i s) e ∙ ap (λ (i : List ℕ). record s { registers = written 8 (got []) s.registers; input = i }) e
   got_state (b ∷ rest) s e = ap (λ i. gets i s) e
@@ -157,6 +164,7 @@ module _ (parts : Parts) (w : ℕ) (p : Spot parts w) where
     left = record { words = with_location 8 (got p.k.input) p.k.words; icc = p.k.icc; y = p.k.y; memory = p.k.memory; input = rest_of p.k.input; output = p.k.output };
     fits = subst (λ o. Fits p.start (transferred frame o p.v.known) (with_location 8 (got p.k.input) p.k.words) p.k.icc p.k.y) (sym is) fits;
     link = refl;
+    stored = record { of_data = p.at.stored.of_data; of_input = bytes_of_rest p.k.input p.at.stored.of_input };
     reached = None;
     reaches = λ s h. ap (λ o. reached_by o s) is;
     goes = λ fresh s h.
@@ -186,6 +194,7 @@ module _ (parts : Parts) (w : ℕ) (p : Spot parts w) where
         left = record { words = p.k.words; icc = p.k.icc; y = p.k.y; memory = p.k.memory; input = p.k.input; output = output };
         fits = subst (λ o. Fits p.start (transferred frame o p.v.known) p.k.words p.k.icc p.k.y) (sym is) fits;
         link = refl;
+        stored = p.at.stored;
         reached = None;
         reaches = λ s h. ap (λ o. reached_by o s) is;
         goes = λ fresh s h.

@@ -1,11 +1,9 @@
 -- What is known by location where a call has come back, and words with one location set.
-use Rattle.std.proofs.Common.{◌≡◌, ℕ, ◌+◌, ◌<◌, ◌≤◌, Bool, true, false, List, Option, Some, None, refl, sym, ap, ◌∙◌, subst, arith}
-use Rattle.std.specs.Prelude.{◌==◌, ◌&&◌, ◌-◌, nat_lt, nat_le, if◌then◌else◌, slice_get}
+use Rattle.std.proofs.Common.{◌≡◌, ℕ, ◌+◌, ◌<◌, ◌≤◌, Bool, true, false, List, Option, Some, None, refl, ap, ◌∙◌, arith}
+use Rattle.std.specs.Prelude.{◌==◌, ◌-◌, nat_le, if◌then◌else◌, slice_get}
 use Rattle.std.proofs.lemmas.Bool.Decides.{nat_tests}
-use Rattle.v8_word.specs.declared.Icc.{Icc}
 use Rattle.sbx_image.specs.declared.parts.Range.{Range}
 use Rattle.sbx_domain.specs.declared.entry.Entry.{Entry}
-use Rattle.sbx_domain.specs.Forms.{Form}
 use Rattle.sbx_domain.specs.Known.{Known, form_at, form_of_entry, is_location, plain_entry_of, range_at, range_of_entry, with_entry, without_location}
 use Rattle.sbx_domain.specs.Transfer.{called, is_global, is_out, restored, result_entry}
 use Rattle.sbx_rules.specs.Rules.{is_some}

@@ -77,6 +77,7 @@ module _ (parts : Parts) (w : ℕ) (p : Spot parts w) where
         left = record { words = with_location (32 + j) v p.k.words; icc = p.k.icc; y = p.k.y; memory = p.k.memory; input = p.k.input; output = p.k.output };
         fits = subst (λ o. Fits p.start (transferred frame o p.v.known) (with_location (32 + j) v p.k.words) p.k.icc p.k.y) (sym is) fits;
         link = no_link j v p.k.words;
+        stored = p.at.stored;
         reached = Some (p.k.base + 64 + 4 * j);
         reaches = λ s h. ap (λ o. reached_by o s) is ∙ ap Some (names.address s h);
         goes = λ fresh s h.
@@ -100,6 +101,7 @@ module _ (parts : Parts) (w : ℕ) (p : Spot parts w) where
         left = record { words = with_location m.rd v p.k.words; icc = p.k.icc; y = p.k.y; memory = p.k.memory; input = p.k.input; output = p.k.output };
         fits = subst (λ o. Fits p.start (transferred frame o p.v.known) (with_location m.rd v p.k.words) p.k.icc p.k.y) (sym is) fits;
         link = no_link m.rd v p.k.words apart;
+        stored = p.at.stored;
         reached = Some (p.k.base + 64 + 4 * j);
         reaches = λ s h. ap (λ o. reached_by o s) is ∙ ap Some (names.address s h);
         goes = λ fresh s h.

@@ -1,17 +1,15 @@
 -- Where control goes on from a word that comes straight: the next word of the block, or the next block, along an edge that is paid.
-use Rattle.std.proofs.Common.{◌≡◌, ◌≢◌, ℕ, zero, suc, ◌+◌, ◌<◌, ◌≤◌, Bool, true, false, length, Option, Some, None, refl, sym, ap, ◌∙◌, subst, inl, inr, arith}
+use Rattle.std.proofs.Common.{◌≡◌, ℕ, suc, ◌+◌, ◌<◌, Bool, true, false, length, refl, ap, inl, inr, arith}
 use Rattle.std.specs.Prelude.{◌⊎◌, nat_lt, if◌then◌else◌}
 use Rattle.std.proofs.lemmas.Bool.Decides.{nat_tests}
-use Rattle.v8_meaning.specs.Operands.{following}
 use Rattle.sbx_image.specs.declared.parts.Parts.{Parts}
-use Rattle.sbx_domain.specs.Known.{Known}
 use Rattle.sbx_rules.specs.Operations.{is_call}
-use Rattle.sbx_rules.specs.Places.{IsPlace, address_of, ends_run, function_at, op_at, op_before, words_in}
+use Rattle.sbx_rules.specs.Places.{IsPlace, ends_run, function_at, op_at, op_before, words_in}
 use Rattle.sbx_rules.specs.Rules.{is_past}
 use Rattle.sbx_rules.specs.Verdicts.{Checked}
 use Rattle.sbx_rules.specs.Ways.{Next, Past, To, Way, falls, falls_to, state_at}
 use Rattle.sbx_sound.specs.Order.{IsOrdered}
-use Rattle.sbx_sound.specs.Running.{Follows, IsVisit, straight_visit}
+use Rattle.sbx_sound.specs.Running.{IsThere, IsVisit, straight_visit}
 use Rattle.sbx_sound.proofs.Arrivals.{goes_straight, is_straight_visit}
 use Rattle.sbx_sound.proofs.FromChecked.{edge_has_cells, edge_is_paid, goes_somewhere}
 use Rattle.sbx_sound.proofs.Ordered.{follows}
@@ -29,7 +27,7 @@ pub record FallsTo (blocks b : ℕ) (way : Way) : Type 0 where
   pub way_is : way ≡ To (b + 1)
   pub within : b + 1 < blocks
 
-falls_by : (end : Bool) (words blocks b i : ℕ) → end ≡ false → FallsNext words i (falls_to end words blocks b i) ⊎ (FallsTo blocks b (falls_to end words blocks b i) ⊎ (falls_to end words blocks b i ≡ Past))
+pub falls_by : (end : Bool) (words blocks b i : ℕ) → end ≡ false → FallsNext words i (falls_to end words blocks b i) ⊎ (FallsTo blocks b (falls_to end words blocks b i) ⊎ (falls_to end words blocks b i ≡ Past))
 falls_by true words blocks b i e = absurd (cc)
 falls_by false words blocks b i e = by_words (nat_lt (i + 1) words) refl
   where
@@ -47,6 +45,9 @@ module _ (parts : Parts) (checked : Checked parts) (ordered : IsOrdered parts) w
   pub begin_place : (f b : ℕ) → f < length parts.functions → b < length (function_at parts f).blocks → IsPlace parts f b 0
   begin_place f b in_f in_b = let some = (ordered.blocks f b in_f in_b).some in record { function = in_f; block = in_b; word = omega (arith, some) }
 
+  pub there : (f b i : ℕ) → IsPlace parts f b i → IsThere parts f b i
+  there f b i place = record { place = place; follows = follows parts ordered f b i place }
+
   module _ (f b i : ℕ) (place : IsPlace parts f b i) (straight : goes_straight (op_before parts f b i) ≡ true) where
     visit : IsVisit parts f b i (straight_visit parts f b i)
     visit = is_straight_visit parts f b i straight
@@ -63,7 +64,7 @@ module _ (parts : Parts) (checked : Checked parts) (ordered : IsOrdered parts) w
       known = refl;
       straight = on;
       no_call = no_call;
-      follows = follows parts ordered f b (suc i) (record { function = place.function; block = place.block; word = n.within });
+      follows = there f b (suc i) (record { function = place.function; block = place.block; word = n.within });
     }
 
     to_block : FallsTo (length (function_at parts f).blocks) b (falls parts f b i) → GoesToBlock parts f b i (state_at parts f b (suc i)) (falls parts f b i)
@@ -74,7 +75,7 @@ module _ (parts : Parts) (checked : Checked parts) (ordered : IsOrdered parts) w
       some = λ e. (let x : b + 1 ≡ 0 = e in omega arith);
       cells = edge_has_cells parts checked f b i place.function place.block place.word (straight_visit parts f b i) (b + 1) visit n.way_is;
       paid = edge_is_paid parts checked f b i place.function place.block place.word (straight_visit parts f b i) (b + 1) visit n.way_is;
-      follows = follows parts ordered f (b + 1) 0 (begin_place f (b + 1) place.function n.within);
+      follows = there f (b + 1) 0 (begin_place f (b + 1) place.function n.within);
     }
 
     -- a word that neither transfers control nor ends the run goes on

@@ -1,5 +1,5 @@
 -- What the order of functions and blocks gives at a word: the code's word, and the word after it.
-use Rattle.std.proofs.Common.{◌≡◌, ℕ, suc, ◌+◌, ◌-◌, ◌*◌, ◌/◌, ◌%◌, ◌^◌, ◌<◌, ◌≤◌, Bool, true, false, List, length, Option, Some, None, refl, sym, ap, ◌∙◌, subst, arith}
+use Rattle.std.proofs.Common.{◌≡◌, ℕ, suc, ◌+◌, ◌-◌, ◌*◌, ◌/◌, ◌%◌, ◌^◌, ◌<◌, Bool, true, false, List, length, Some, refl, sym, ap, ◌∙◌, arith}
 use Rattle.std.specs.Prelude.{nat_lt, if◌then◌else◌, slice_get, slice_index}
 use Rattle.std.proofs.lemmas.Bool.Decides.{nat_tests}
 use Rattle.std.proofs.lemmas.Option.{slice_get-get_or}
@@ -9,7 +9,7 @@ use Rattle.sbx_image.specs.declared.parts.Block.{Block}
 use Rattle.sbx_image.specs.declared.parts.Parts.{Parts}
 use Rattle.sbx_flat.specs.Turns.{word_at}
 use Rattle.sbx_flat.proofs.Turns.{word_at_place}
-use Rattle.sbx_rules.specs.Places.{IsPlace, address_of, address_or_end, block_at, block_end, code_end, ends_run, function_at, function_end, no_block, op_at, or_block, word_of_place, words_in}
+use Rattle.sbx_rules.specs.Places.{IsPlace, address_of, address_or_end, block_at, ends_run, function_at, function_end, no_block, op_at, or_block, word_of_place, words_in}
 use Rattle.sbx_rules.specs.Ways.{Next, Past, To, falls, falls_to}
 use Rattle.sbx_sound.specs.Order.{HasWords, IsOrdered}
 use Rattle.sbx_sound.specs.Running.{Follows}

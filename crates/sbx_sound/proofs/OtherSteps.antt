@@ -28,7 +28,7 @@ use Rattle.sbx_domain.specs.Forms.{form_value}
 use Rattle.sbx_rules.specs.Ways.{To, Visit, cells_at, falls, fuel_at, weight_to, state_at}
 use Rattle.sbx_rules.specs.Places.{address_of, function_at, op_at, op_before}
 use Rattle.sbx_range.specs.Refining.{opposite}
-use Rattle.sbx_sound.specs.Running.{After, AreOpen, At, Follows, bytes_of, left_to_all, stack_bottom, straight_visit, tests, window_of}
+use Rattle.sbx_sound.specs.Running.{After, AreOpen, At, Follows, IsThere, bytes_of, left_to_all, stack_bottom, straight_visit, tests, window_of}
 use Rattle.sbx_form.specs.Forms.{Cells}
 use Rattle.sbx_sound.specs.Shared.{Open, Shared, Shows, base_below, stack_start}
 use Rattle.sbx_domain.specs.Transfer.{is_in, saved, transferred}
@@ -156,7 +156,7 @@ module _ (parts : Parts) where
       → bytes_of (function_at parts f) b i ≡ bytes_of (function_at parts f) b (suc i) → window_of (function_at parts f) b i ≡ window_of (function_at parts f) t 0
       → has_cells v.known (cells_at parts f t) ≡ true
       → IsPaid (state_at parts f b 0) (fuel_at parts f b) (weight_to parts f b (suc i)) v.known (fuel_at parts f t)
-      → Follows parts f t 0 (falls parts f t 0) (following (address_of parts f t 0))
+      → IsThere parts f t 0
       → let p : Spot parts w = record { k = k; f = f; b = b; i = i; v = v; start = start; at = at } in
       Steps parts w p
   unfolding state_at turn place_of weight_at

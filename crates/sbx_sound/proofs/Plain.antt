@@ -17,13 +17,12 @@ use Rattle.v8_meaning.specs.declared.operation.Operation.TheVariants.{Compute}
 use Rattle.v8_meaning.specs.Operands.{second}
 use Rattle.sbx_image.specs.declared.parts.Parts.{Parts}
 use Rattle.sbx_flat.specs.Effects.{does, operand_value, writes, writes_result}
-use Rattle.sbx_flat.specs.Registers.{Words}
 use Rattle.sbx_flat.specs.Runs.{reached_by}
 use Rattle.sbx_flat.specs.States.{State, reg}
 use Rattle.sbx_rules.specs.Operations.{reads_codes, reads_y}
 use Rattle.sbx_domain.specs.declared.entry.Entry.{Entry}
 use Rattle.sbx_domain.specs.Fits.{Fits}
-use Rattle.sbx_domain.specs.Known.{Known, range_of_entry, with_entry, with_y}
+use Rattle.sbx_domain.specs.Known.{Known, with_entry, with_y}
 use Rattle.sbx_domain.specs.declared.relation.Relation.{Relation}
 use Rattle.sbx_rules.specs.Rules.{is_defined, is_some}
 use Rattle.sbx_rules.specs.Places.{function_at}
@@ -143,6 +142,7 @@ module _ (parts : Parts) (w : ℕ) (p : Spot parts w) where
         left = record { words = with_location t.rd out.value p.k.words; icc = out.icc; y = out.y; memory = p.k.memory; input = p.k.input; output = p.k.output };
         fits = subst (λ o. Fits p.start (transferred frame o d) (with_location t.rd out.value p.k.words) out.icc out.y) (sym is) fits;
         link = other_word t.rd out.value p.k.words no_link;
+        stored = p.at.stored;
         reached = None;
         reaches = λ s h. ap (λ o. reached_by o s) is;
         goes = λ fresh s h.

@@ -14,7 +14,7 @@ use Rattle.sbx_domain.specs.Fits.{HasForm, HasInterval, Near}
 use Rattle.sbx_domain.specs.Known.{Known, form_of_entry, plain_entry_of, range_of_entry}
 use Rattle.sbx_domain.specs.Forms.{Form, form_value}
 use Rattle.sbx_rules.specs.Ways.{Visit, fuel_at, state_at, weight_to}
-use Rattle.sbx_rules.specs.Places.{op_at}
+use Rattle.sbx_rules.specs.Places.{IsPlace, op_at}
 use Rattle.sbx_sound.specs.Running.{IsVisit, left_at}
 use Rattle.sbx_form.specs.Forms.{Cells}
 use Rattle.sbx_domain.specs.Transfer.{called, is_out}
@@ -48,6 +48,7 @@ module _ (parts : Parts) where
     pub words : Words
     pub icc : Icc
     pub y : ℕ
+    pub there : IsPlace parts f b i
     pub is_visit : IsVisit parts f b i v
     pub begun : InCells (state_at parts f b 0) start
     pub near : Near start v.known words icc y

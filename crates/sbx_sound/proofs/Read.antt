@@ -1,5 +1,5 @@
 -- What the rules of registers give: each register that a word reads is known, and each that it writes may be written.
-use Rattle.std.proofs.Common.{◌≡◌, ◌≢◌, ℕ, zero, suc, ◌<◌, Bool, true, false, List, [], ◌∷◌, Option, Some, None, refl, sym, ap, ◌∙◌, subst, arith}
+use Rattle.std.proofs.Common.{◌≡◌, ◌≢◌, ℕ, zero, suc, ◌<◌, Bool, true, false, List, [], ◌∷◌, Some, refl, sym, ap, subst, arith}
 use Rattle.std.specs.Prelude.{◌==◌, ◌&&◌, ◌||◌, not, nat_lt, slice_get}
 use Rattle.std.specs.List.{list_any}
 use Rattle.std.proofs.lemmas.Bool.Decides.{nat_tests}
@@ -14,16 +14,16 @@ use Rattle.sbx_image.specs.declared.parts.Function.{Function}
 use Rattle.sbx_image.specs.declared.parts.Parts.{Parts}
 use Rattle.sbx_flat.specs.States.{State, reg}
 use Rattle.sbx_domain.specs.Known.{Known}
-use Rattle.sbx_fits.specs.Held.{AreFields, IsOperand}
+use Rattle.sbx_fits.specs.Held.{IsOperand}
 use Rattle.sbx_rules.specs.Operations.{frame_word_read, is_framed, is_reserved, may_write, reads_codes, reads_of, reads_y, second_reads, writes_of}
-use Rattle.sbx_rules.specs.Places.{function_at, op_at}
+use Rattle.sbx_rules.specs.Places.{function_at}
 use Rattle.sbx_rules.specs.Rules.{is_defined, is_some, is_undefined_word, reads_undefined, touches_reserved}
-use Rattle.sbx_sound.specs.LowFields.{LowFields, LowOperand, LowThree}
+use Rattle.sbx_sound.specs.LowFields.{LowOperand, LowThree}
 use Rattle.sbx_sound.specs.Running.{tests, window_of}
-use Rattle.sbx_sound.specs.Shared.{Lent, Shows, Window}
+use Rattle.sbx_sound.specs.Shared.{Lent, Window}
 use Rattle.sbx_sound.proofs.Effects.{read_shown}
 use Rattle.sbx_sound.proofs.Frames.{IsFree}
-use Rattle.sbx_sound.proofs.Plain.{ReadsWell, computes}
+use Rattle.sbx_sound.proofs.Plain.{computes}
 use Rattle.sbx_sound.proofs.Safe.{ShowsSpot, Spot}
 use Rattle.sbx_sound.proofs.Steps.{Does, linked_at, op_of}
 
@@ -94,6 +94,10 @@ module _ (function : Function) (o : Operation) (d : Known) (known : reads_undefi
   pub read_known : (n r : ℕ) → slice_get (reads_of function o) n ≡ Some r → r ≢ 0 → is_defined d r ≡ true
   read_known n r is some =
       known_of (r == 0) (is_reserved r) (is_defined d r) (none_of (λ x. not (x == 0) && not (is_reserved x) && not (is_defined d x)) (reads_of function o) n r is parts_known.0) (some_number r some) (none_of is_reserved (reads_of function o) n r is parts_kept.0)
+
+  -- nor is it one of the reserved ones
+  pub read_free : (n r : ℕ) → slice_get (reads_of function o) n ≡ Some r → is_reserved r ≡ false
+  read_free n r is = none_of is_reserved (reads_of function o) n r is parts_kept.0
 
   pub write_allowed : (n r : ℕ) → slice_get (writes_of o) n ≡ Some r → may_write function o r ≡ true
   write_allowed n r is = undone (may_write function o r) (none_of (λ x. not (may_write function o x)) (writes_of o) n r is parts_kept.1)

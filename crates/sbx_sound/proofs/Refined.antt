@@ -8,7 +8,7 @@ use Rattle.v8_word.specs.declared.Icc.{Icc}
 use Rattle.v8_meaning.specs.Operands.{is_always}
 use Rattle.sbx_image.specs.declared.parts.Range.{Range}
 use Rattle.sbx_range.specs.declared.refining.Pair.{Pair}
-use Rattle.sbx_range.specs.Refining.{opposite, refine, refine_by_value}
+use Rattle.sbx_range.specs.Refining.{refine, refine_by_value}
 use Rattle.sbx_form.specs.Forms.{Cells}
 use Rattle.sbx_flat.specs.Registers.{Words}
 use Rattle.sbx_domain.specs.declared.entry.Entry.{Entry}

@@ -24,7 +24,7 @@ use Rattle.sbx_domain.specs.Fits.{Fits, HasAlignment, HasInterval}
 use Rattle.sbx_domain.specs.Known.{Known, range_at, range_of_entry}
 use Rattle.sbx_rules.specs.Ways.{Next, To, Way, cells_at, falls, fuel_at, state_at, weight_to}
 use Rattle.sbx_rules.specs.Places.{address_of, function_at, op_at, op_before}
-use Rattle.sbx_sound.specs.Running.{After, AreOpen, At, Follows, IsOpen, known_after, straight_visit, tests, window_of}
+use Rattle.sbx_sound.specs.Running.{After, AreOpen, At, Follows, IsOpen, IsThere, known_after, straight_visit, tests, window_of}
 use Rattle.sbx_form.specs.Forms.{Cells}
 use Rattle.sbx_sound.specs.Shared.{KnownParts, Lent, Open, Own, Shared, Shows, ShowsFile, Window, with_location}
 use Rattle.sbx_domain.specs.Transfer.{is_out, transferred, called, restored}
@@ -76,7 +76,7 @@ module _ (parts : Parts) where
     pub known : d ≡ state_at parts f b (suc i)
     pub straight : goes_straight (op_at parts f b i) ≡ true
     pub no_call : is_call (op_at parts f b i) ≡ false
-    pub follows : Follows parts f b (suc i) (falls parts f b (suc i)) (following (address_of parts f b (suc i)))
+    pub follows : IsThere parts f b (suc i)
 
   -- control goes to a block
   pub record GoesToBlock (f b i : ℕ) (d : Known) (way : Way) : Type 0 where
@@ -85,7 +85,7 @@ module _ (parts : Parts) where
     pub some : t ≢ 0
     pub cells : has_cells d (cells_at parts f t) ≡ true
     pub paid : IsPaid (state_at parts f b 0) (fuel_at parts f b) (weight_to parts f b (suc i)) d (fuel_at parts f t)
-    pub follows : Follows parts f t 0 (falls parts f t 0) (following (address_of parts f t 0))
+    pub follows : IsThere parts f t 0
 
   -- where it arrives, and that a state which shows what is known shows that
   pub record Arrives (n : ℕ) (k : Shared) (d : Known) (window : Window) : Type 0 where
@@ -158,14 +158,13 @@ module _ (parts : Parts) where
       steps_by parts w p word refl None (λ s h. ap (λ x. reached_by x s) op) (inl next)
       (λ fresh is_fresh s h. reaches_on _ _ _ shown (reaches_by _ (does parts fresh (JumpAndLink t) s) _ (ap (λ x. does parts fresh x s) op) (does_it fresh s (subst (λ x. Shows (window_of (function_at parts f) b i) (tests parts d x) k s) comes_straight.no_call h))))
 
-  pub ret_word : (w : ℕ) (k : Shared) (f b i : ℕ) (c : Open) (cs : List Open) (start : Cells) (at : At parts w k f b (suc i) (straight_visit parts f b (suc i)) start)
-      → IsWord parts f b (suc i) → op_at parts f b (suc i) ≡ JumpAndLink (record { rd = 0; rs1 = 31; operand2 = Immediate 8 }) → k.calls ≡ c ∷ cs → ComesStraight parts f b (suc i) → is_framed (function_at parts f).kind ≡ true → (c.back + 8) % 2 ^ 32 % 4 ≡ 0
-      → let p : Spot parts w = record { k = k; f = f; b = b; i = suc i; v = straight_visit parts f b (suc i); start = start; at = at } in
+  pub ret_word : (w : ℕ) (k : Shared) (f b i : ℕ) (c : Open) (cs : List Open) (start : Cells) (at : At parts w k f b i (straight_visit parts f b i) start)
+      → IsWord parts f b i → op_at parts f b i ≡ JumpAndLink (record { rd = 0; rs1 = 31; operand2 = Immediate 8 }) → k.calls ≡ c ∷ cs → ComesStraight parts f b i → window_of (function_at parts f) b i ≡ Own (function_at parts f).frame → is_framed (function_at parts f).kind ≡ true → (c.back + 8) % 2 ^ 32 % 4 ≡ 0
+      → let p : Spot parts w = record { k = k; f = f; b = b; i = i; v = straight_visit parts f b i; start = start; at = at } in
       Steps parts w p
-  ret_word w k f b i c cs start at word op is comes_straight framed four =
-      let own = own_window (function_at parts f) b i framed in
-      let d = state_at parts f b (suc i) in
-      return_word w k f b (suc i) (record { rd = 0; rs1 = 31; operand2 = Immediate 8 }) c cs start at word op is comes_straight (own ∙ sym (own_window (function_at parts f) b (suc i) framed))
+  ret_word w k f b i c cs start at word op is comes_straight own framed four =
+      let d = state_at parts f b i in
+      return_word w k f b i (record { rd = 0; rs1 = 31; operand2 = Immediate 8 }) c cs start at word op is comes_straight (own ∙ sym (own_window (function_at parts f) b i framed))
       (λ fresh s h. subst (λ x. Reaches (does parts fresh (JumpAndLink (record { rd = 0; rs1 = 31; operand2 = Immediate 8 })) s) (Shows x (tests parts d false) (moved_to ((c.back + 8) % 2 ^ 32) k))) (sym own)
       (ret_reaches parts fresh (function_at parts f).frame (tests parts d false) c cs k s is four (subst (λ x. Shows x (tests parts d false) k s) own h)))
 
@@ -228,7 +227,7 @@ module _ (parts : Parts) where
       let brought : Left = record { words = left_by_leaf c d.left.words; icc = d.left.icc; y = d.left.y; memory = d.left.memory; input = d.left.input; output = d.left.output } in
       let brings : Brings parts c now brought.words = leaf_brings f c cs now d.left.words call d.fits.near.are_words d.fits.near.zero (λ l. (d.fits.near.intervals l, d.fits.multiples l)) in
       let next_k = record (left_by brought k) { base = c.base; calls = cs } in
-      let after = comes parts w k f b j (return_visit parts f b (suc j)) start c cs brought now is rules refl d.fits.near.y_word brings follows at in
+      let after = comes parts w k f b j (return_visit parts f b (suc j)) start c cs brought now is rules refl d.fits.near.y_word brings d.stored follows at in
       let arrived = arrives n next_k c.function c.block (suc c.place) (known_after parts c) (falls parts c.function c.block (suc c.place)) c.start call.framed goes after in
       let shown : (s : State) → Shows (window_of (function_at parts f) b (suc j)) (tests parts now (is_call (op_at parts f b j))) (left_by d.left k) s → Shows (Own (function_at parts c.function).frame) (tests parts (known_after parts c) false) next_k s =
       λ s h. (let h1 = subst (λ x. Shows x (tests parts now (is_call (op_at parts f b j))) (left_by d.left k) s) lent h in
@@ -343,7 +342,7 @@ module _ (parts : Parts) where
         kept = λ l h. high_kept t.rd v c k.words l low h;
       } in
       let next_k = record (left_by brought k) { base = c.base; calls = cs } in
-      let after = comes parts w k f b j (return_visit parts f b (suc j)) start c cs brought after_op is rules refl fits.near.y_word brings follows at in
+      let after = comes parts w k f b j (return_visit parts f b (suc j)) start c cs brought after_op is rules refl fits.near.y_word brings at.stored follows at in
       let arrived = arrives n next_k c.function c.block (suc c.place) (known_after parts c) (falls parts c.function c.block (suc c.place)) c.start call.framed goes after in
       let now = tests parts (known_after parts c) false in
       let shown : (s : State) → Shows (Own c.frame) now next_k s → ShowsSpot parts n arrived.spot s = λ s h. arrived.shows s (subst (λ x. Shows (Own x) now next_k s) call.is_frame h) in

@@ -19,7 +19,7 @@ use Rattle.sbx_rules.specs.Ways.{Visit, Way, after_call, falls, fuel_at, state_a
 use Rattle.sbx_rules.specs.Places.{address_of, callee_at, function_at, op_at}
 use Rattle.sbx_sound.specs.Running.{After, AreOpen, At, Follows, GoesTo, IsOpen, back_of, known_after, left_to, left_to_all}
 use Rattle.sbx_form.specs.Forms.{Cells}
-use Rattle.sbx_sound.specs.Shared.{Open, Shared}
+use Rattle.sbx_sound.specs.Shared.{AreStored, Open, Shared}
 use Rattle.sbx_domain.specs.Transfer.{called, transferred, is_out}
 use Rattle.sbx_sound.proofs.Arrivals.{Left, framed_bytes, left_by, weight_next}
 use Rattle.sbx_sound.proofs.Ledger.{interval_within, multiple_within, one_return, one_word}
@@ -133,11 +133,11 @@ module _ (parts : Parts) where
 
   -- `ret` with RESTORE, or `retl` with its slot: the caller goes on
   pub comes : (w : ℕ) (k : Shared) (f b j : ℕ) (v : Visit) (start : Cells) (c : Open) (cs : List Open) (left : Left) (d : Known)
-      → k.calls ≡ c ∷ cs → ReturnsWell f b j d → v.annulled ≡ false → left.y < 2 ^ 32 → Brings c d left.words
+      → k.calls ≡ c ∷ cs → ReturnsWell f b j d → v.annulled ≡ false → left.y < 2 ^ 32 → Brings c d left.words → AreStored (length parts.bytes) left.memory left.input
       → Follows parts c.function c.block (suc c.place) (falls parts c.function c.block (suc c.place)) (following (address_of parts c.function c.block (suc c.place)))
       → At parts w k f b (suc j) v start
       → After parts (w + weight_of (op_at parts f b (suc j))) (record (left_by left k) { base = c.base; calls = cs }) c.function c.block (suc c.place) (known_after parts c) (falls parts c.function c.block (suc c.place)) c.start
-  comes w k f b j v start c cs left d is rules runs y_word brings follows a =
+  comes w k f b j v start c cs left d is rules runs y_word brings stored follows a =
       let opened : AreOpen parts f (c ∷ cs) = subst (AreOpen parts f) is a.calls in
       let call = opened.0 in
       let pc : k.npc ≡ following (address_of parts c.function c.block (suc c.place)) = comes_back _ _ f b (suc j) v.way k.calls k.npc rules.no_call rules.returns a.npc ∙ ap (back_of parts) is ∙ back_follows c cs f call in
@@ -153,6 +153,7 @@ module _ (parts : Parts) where
         base = ap (λ x. c.base + x) (framed_bytes parts (function_at parts c.function) c.block (suc c.place) call.framed ∙ sym call.is_frame) ∙ call.base;
         eight = call.eight;
         room = call.room;
+        stored = stored;
         ledger =
             let before = one_word w weight (weight_to parts f b (suc j)) (budget parts) (form_value start (fuel_at parts f b)) (left_to_all parts k.calls) a.ledger in
             let same : weight_to parts f b (suc j) + weight ≡ weight_to parts f b (suc (suc j)) = sym (weight_next parts f b (suc j) rules.no_call) in

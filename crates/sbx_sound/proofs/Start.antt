@@ -7,7 +7,7 @@ use Rattle.v8_word.specs.declared.Icc.{Icc}
 use Rattle.sbx_image.specs.Rules.{code_start}
 use Rattle.sbx_image.specs.declared.parts.Parts.{Parts}
 use Rattle.sbx_flat.specs.Registers.{Frame, Words}
-use Rattle.sbx_flat.specs.Runs.{FlatSafe, IsStart, budget, data_at}
+use Rattle.sbx_flat.specs.Runs.{AreBytes, FlatSafe, IsStart, budget, data_at}
 use Rattle.sbx_flat.specs.States.{State}
 use Rattle.sbx_rules.specs.Fuel.{InCells, IsWithinBudget}
 use Rattle.sbx_domain.specs.Fits.{Fits, HasAlignment, HasForm, HasInterval}
@@ -15,14 +15,15 @@ use Rattle.sbx_domain.specs.Known.{Known, cell_entry, form_of_entry, is_location
 use Rattle.sbx_domain.specs.declared.entry.Entry.{Entry}
 use Rattle.sbx_rules.specs.Rules.{is_defined, is_some}
 use Rattle.sbx_domain.specs.Forms.{form_value}
-use Rattle.sbx_rules.specs.Places.{address_of, function_at}
+use Rattle.sbx_rules.specs.Places.{IsPlace, address_of, function_at}
 use Rattle.sbx_rules.specs.Ways.{cells_at, falls, fuel_at, state_at, weight_to}
+use Rattle.sbx_sound.specs.Positive.{IsPositive}
 use Rattle.sbx_sound.specs.Running.{At, Follows, left_at, straight_visit, tests}
 use Rattle.sbx_form.specs.Forms.{Cells}
 use Rattle.sbx_sound.specs.Shared.{Lent, Shared, Shows, ShowsCalls, stack_start}
 use Rattle.sbx_sound.proofs.Arrivals.{entry_bytes, is_straight_visit}
 use Rattle.sbx_sound.proofs.CallSteps.{entry_window}
-use Rattle.sbx_sound.proofs.Positive.{Point, left_of}
+use Rattle.sbx_sound.proofs.Stored.{stored_at_start}
 use Rattle.sbx_sound.proofs.Safe.{Pair, ShowsSpot, Spot, Steps, flat_safe}
 
 abbrev clear : Icc
@@ -36,12 +37,14 @@ no_numbers = λ _. pos 0
 
 -- What the rules and the image's order say of the entry function's first word.
 pub record StartsWell (parts : Parts) : Type 0 where
+  pub place : IsPlace parts 0 0 0
   pub entry : address_of parts 0 0 0 ≡ code_start
   pub no_params : cells_at parts 0 0 ≡ []
   pub follows : Follows parts 0 0 0 (falls parts 0 0 0) (code_start + 4)
   pub room : (function_at parts 0).stack_room + 64 ≤ 4096 * parts.stack_pages
   pub pages : parts.stack_pages ≤ 16
   pub within_budget : IsWithinBudget (state_at parts 0 0 0) (fuel_at parts 0 0) (budget parts)
+  pub bytes : AreBytes parts.bytes
 
 module _ (parts : Parts) where
   -- what all starts on an input share
@@ -78,12 +81,13 @@ module _ (parts : Parts) where
   first_ledger : (fuel : ℤ) (budget : ℕ) → fuel ≤ℤ pos budget → (pos 0 +ℤ ((fuel -ℤ pos 0) +ℤ pos 0)) ≤ℤ pos budget
   first_ledger fuel budget h = omega (arith, ints)
 
-  at_start : (input : List ℕ) → StartsWell parts → At parts 0 (shared_start input) 0 0 0 (straight_visit parts 0 0 0) no_numbers
+  at_start : (input : List ℕ) → AreBytes input → StartsWell parts → At parts 0 (shared_start input) 0 0 0 (straight_visit parts 0 0 0) no_numbers
   unfolding state_at weight_to
-  at_start input rules =
+  at_start input are rules =
       let same : started (cells_at parts 0 0) ≡ started [] = ap started rules.no_params in
       let begun = subst (λ d. InCells d no_numbers) (sym same) nothing_begun in
       record {
+        place = rules.place;
         is_visit = is_straight_visit parts 0 0 0 refl;
         pc = sym rules.entry;
         npc = rules.follows;
@@ -96,11 +100,12 @@ module _ (parts : Parts) where
         base = ap (λ x. stack_start + x) (entry_bytes parts (function_at parts 0));
         eight = refl;
         room = let h = rules.room in let p = rules.pages in omega (arith, h, p);
+        stored = stored_at_start parts.bytes input rules.bytes are;
         ledger = first_ledger (form_value no_numbers (fuel_at parts 0 0)) (budget parts) (rules.within_budget no_numbers begun);
       }
 
-  first_spot : (input : List ℕ) → StartsWell parts → Spot parts 0
-  first_spot input rules = record { k = shared_start input; f = 0; b = 0; i = 0; v = straight_visit parts 0 0 0; start = no_numbers; at = at_start input rules }
+  first_spot : (input : List ℕ) → AreBytes input → StartsWell parts → Spot parts 0
+  first_spot input are rules = record { k = shared_start input; f = 0; b = 0; i = 0; v = straight_visit parts 0 0 0; start = no_numbers; at = at_start input are rules }
 
   -- a start shows it
   one_frame : (older : List Frame) (newest : Frame) (oldest : Words) → older ≡ [] → newest.outs 14 ≡ stack_start → ShowsCalls [] (newest ∷ older) oldest
@@ -112,9 +117,9 @@ module _ (parts : Parts) where
       let x : is_defined d l ≡ false = ap (λ (y : Known). is_defined y l) e ∙ nowhere (λ x. is_some x ≡ false) refl l in
       grind (arith, nat_tests)
 
-  shows_start : (input : List ℕ) (s : State) → (rules : StartsWell parts) → IsStart parts input s → ShowsSpot parts 0 (first_spot input rules) s
+  shows_start : (input : List ℕ) (are : AreBytes input) (s : State) → (rules : StartsWell parts) → IsStart parts input s → ShowsSpot parts 0 (first_spot input are rules) s
   unfolding state_at first_spot started
-  shows_start input s rules start =
+  shows_start input are s rules start =
       let same : started (cells_at parts 0 0) ≡ started [] = ap started rules.no_params in
       let shown : Shows Lent (tests parts (started (cells_at parts 0 0)) false) (shared_start input) s = record {
         rest = record { pc = start.pc; npc = start.npc; annulled = start.annulled; memory = start.memory; input = start.input; output = start.output; exit = start.exit };
@@ -151,21 +156,17 @@ module _ (parts : Parts) where
   calm_is_start : (input : List ℕ) → IsStart parts input (calm_start input)
   calm_is_start input = record { pc = refl; npc = refl; annulled = refl; icc = refl; y = omega arith; one_frame = refl; base = refl; slots = λ a. refl; globals = λ n. omega arith; locals = λ n. omega arith; outs = out_word; ins = λ n. omega arith; memory = λ a. refl; input = refl; output = refl; exit = refl }
 
-  pub begins : (input : List ℕ) (s : State) → StartsWell parts → IsStart parts input s → Pair parts 0 s (calm_start input)
-  begins input s rules start = (inl (first_spot input rules), shows_start input s rules start, shows_start input (calm_start input) rules (calm_is_start input))
+  pub begins : (input : List ℕ) (s : State) → AreBytes input → StartsWell parts → IsStart parts input s → Pair parts 0 s (calm_start input)
+  begins input s are rules start = (inl (first_spot input are rules), shows_start input are s rules start, shows_start input are (calm_start input) rules (calm_is_start input))
 
   -- ---- the whole
-
-  point_of : (w : ℕ) → Spot parts w → Point parts
-  point_of w p = record { f = p.f; b = p.b; i = p.i; v = p.v; start = p.start; words = p.k.words; icc = p.k.icc; y = p.k.y; is_visit = p.at.is_visit; begun = p.at.begun; near = p.at.fits.near }
 
   some_left : (z : ℤ) → pos 1 ≤ℤ z → pos 0 ≤ℤ z
   some_left z h = omega (arith, ints)
 
-  stays : ((p : Point parts) → pos 1 ≤ℤ left_of parts p) → (w : ℕ) (p : Spot parts w) → pos 0 ≤ℤ left_at parts p.f p.b p.i p.start
-  unfolding point_of
-  stays positive w p = some_left (left_at parts p.f p.b p.i p.start) (positive (point_of w p))
+  stays : IsPositive parts → (w : ℕ) (p : Spot parts w) → pos 0 ≤ℤ left_at parts p.f p.b p.i p.start
+  stays positive w p = some_left (left_at parts p.f p.b p.i p.start) (positive p.f p.b p.i p.start p.at.place p.at.begun)
 
-  -- From each place a step, fuel positive at each point, and a good start: then the image is safe.
-  pub is_safe : ((w : ℕ) (p : Spot parts w) → Steps parts w p) → ((p : Point parts) → pos 1 ≤ℤ left_of parts p) → StartsWell parts → FlatSafe parts
-  is_safe steps positive rules = flat_safe parts steps (stays positive) calm_start (λ input s bytes start. begins input s rules start)
+  -- From each place a step, fuel that is positive, and a good start: then the image is safe.
+  pub is_safe : ((w : ℕ) (p : Spot parts w) → Steps parts w p) → IsPositive parts → StartsWell parts → FlatSafe parts
+  is_safe steps positive rules = flat_safe parts steps (stays positive) calm_start (λ input s are start. begins input s are rules start)

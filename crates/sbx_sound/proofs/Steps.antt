@@ -1,6 +1,6 @@
 -- From a place where a run stands to the next one: plain words, edges, calls and returns, with what the states show there.
 use Rattle.sbx_domain.specs.declared.entry.Entry.{Entry}
-use Rattle.std.proofs.Common.{◌≡◌, ◌≢◌, ℕ, suc, ◌+◌, Bool, true, false, List, [], ◌∷◌, Option, Some, None, refl, sym, ap, ◌∙◌, subst, inl, arith}
+use Rattle.std.proofs.Common.{◌≡◌, ◌≢◌, ℕ, suc, ◌+◌, Bool, true, false, List, length, Option, Some, None, refl, sym, ap, ◌∙◌, subst, inl, arith}
 use Rattle.std.specs.Prelude.{◌==◌, ◌&&◌, ◌||◌, not, if◌then◌else◌}
 use Rattle.std.proofs.lemmas.Bool.Decides.{nat_tests}
 use Rattle.v8_meaning.specs.declared.operation.Operation.{Operation}
@@ -23,8 +23,8 @@ use Rattle.sbx_domain.specs.Fits.{Fits}
 use Rattle.sbx_domain.specs.Known.{Known, started, range_of_entry}
 use Rattle.sbx_rules.specs.Ways.{Next, To, cells_at, falls, fuel_at, state_at, weight_to}
 use Rattle.sbx_rules.specs.Places.{address_of, function_at, op_at, op_before, word_of_place}
-use Rattle.sbx_sound.specs.Running.{After, Follows, straight_visit, tests, window_of, bytes_of}
-use Rattle.sbx_sound.specs.Shared.{KnownParts, Shared, Shows, Window}
+use Rattle.sbx_sound.specs.Running.{After, IsThere, straight_visit, tests, window_of, bytes_of}
+use Rattle.sbx_sound.specs.Shared.{AreStored, KnownParts, Shared, Shows, Window}
 use Rattle.sbx_domain.specs.Transfer.{transferred}
 use Rattle.sbx_sound.proofs.Arrivals.{Left, after_edge, after_next, after_no_call, after_plain, goes_straight, left_by}
 use Rattle.sbx_sound.proofs.Effects.{Reaches}
@@ -134,6 +134,7 @@ module _ (parts : Parts) where
     pub left : Left
     pub fits : Fits p.start (known_then w p) left.words left.icc left.y
     pub link : left.words 15 ≡ p.k.words 15
+    pub stored : AreStored (length parts.bytes) left.memory left.input
     pub reached : Option ℕ
     pub reaches : (s : State) → ShowsSpot parts w p s → reached_by (op_of w p) s ≡ reached
     pub goes : (fresh : Fresh) (s : State) → ShowsSpot parts w p s → Reaches (does parts fresh (op_of w p) s) (Shows (window_of (function_at parts p.f) p.b p.i) (tests parts (known_then w p) (linked_at w p)) (left_by left p.k))
@@ -147,13 +148,13 @@ module _ (parts : Parts) where
       → linked_at w p ≡ false → is_return (op_before parts p.f p.b p.i) ≡ false → goes_straight (op_of w p) ≡ true → is_call (op_of w p) ≡ false
       → bytes_of (function_at parts p.f) p.b p.i ≡ bytes_of (function_at parts p.f) p.b (suc p.i)
       → window_of (function_at parts p.f) p.b p.i ≡ window_of (function_at parts p.f) p.b (suc p.i)
-      → Follows parts p.f p.b (suc p.i) (falls parts p.f p.b (suc p.i)) (following (address_of parts p.f p.b (suc p.i)))
+      → IsThere parts p.f p.b (suc p.i)
       → Does w p → Steps parts w p
   plain_next w p word runs way known no_link no_return straight no_call same_bytes same_window follows d =
       let n = w + weight_of (op_of w p) in
       let k = left_by d.left p.k in
       let e = next_known p.f p.b p.i p.v.known no_link known in
-      let after = after_plain parts w p.k p.f p.b p.i p.v p.start d.left no_link no_return runs same_bytes d.fits p.at in
+      let after = after_plain parts w p.k p.f p.b p.i p.v p.start d.left no_link no_return runs same_bytes d.fits d.stored p.at in
       let after_there : After parts n k p.f p.b p.i (state_at parts p.f p.b (suc p.i)) Next p.start =
       subst (λ y. After parts n k p.f p.b p.i (state_at parts p.f p.b (suc p.i)) y p.start) way (subst (λ x. After parts n k p.f p.b p.i x p.v.way p.start) e after) in
       let at = after_next parts n k p.f p.b p.i p.start straight no_call follows after_there in
@@ -171,13 +172,13 @@ module _ (parts : Parts) where
       → window_of (function_at parts p.f) p.b p.i ≡ window_of (function_at parts p.f) t 0
       → has_cells (known_then w p) (cells_at parts p.f t) ≡ true
       → IsPaid (state_at parts p.f p.b 0) (fuel_at parts p.f p.b) (weight_to parts p.f p.b (suc p.i)) (known_then w p) (fuel_at parts p.f t)
-      → Follows parts p.f t 0 (falls parts p.f t 0) (following (address_of parts p.f t 0))
+      → IsThere parts p.f t 0
       → Does w p → Steps parts w p
   unfolding state_at
   plain_edge w p t word runs way some no_link no_return same_bytes same_window cells paid follows d =
       let n = w + weight_of (op_of w p) in
       let k = left_by d.left p.k in
-      let after = after_plain parts w p.k p.f p.b p.i p.v p.start d.left no_link no_return runs same_bytes d.fits p.at in
+      let after = after_plain parts w p.k p.f p.b p.i p.v p.start d.left no_link no_return runs same_bytes d.fits d.stored p.at in
       let after_there : After parts n k p.f p.b p.i (known_then w p) (To t) p.start = subst (λ y. After parts n k p.f p.b p.i (known_then w p) y p.start) way after in
       let at = after_edge parts n k p.f p.b p.i t (known_then w p) p.start some cells paid follows after_there in
       let next : Spot parts n = record { k = k; f = p.f; b = t; i = 0; v = straight_visit parts p.f t 0; start = numbers k.words; at = at } in

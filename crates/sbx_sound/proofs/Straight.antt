@@ -1,6 +1,6 @@
 -- The steps of words that come straight, from the rules: results, CALL, SAVE and the exit.
-use Rattle.std.proofs.Common.{◌≡◌, ◌≢◌, ℕ, zero, suc, ◌+◌, ◌<◌, ◌≤◌, Bool, true, false, List, [], ◌∷◌, length, Option, Some, None, refl, sym, ap, ◌∙◌, subst, inl, inr, arith}
-use Rattle.std.specs.Prelude.{◌⊎◌, ◌==◌, ◌&&◌, ◌||◌, not, nat_lt, slice_get, if◌then◌else◌}
+use Rattle.std.proofs.Common.{◌≡◌, ◌≢◌, ℕ, suc, ◌+◌, ◌<◌, ◌≤◌, Bool, true, false, length, Option, Some, None, refl, sym, ap, ◌∙◌, subst, inl, inr, arith}
+use Rattle.std.specs.Prelude.{◌==◌, ◌&&◌, not, nat_lt, slice_get, if◌then◌else◌}
 use Rattle.std.proofs.lemmas.Bool.Decides.{nat_tests}
 use Rattle.v8_formats.specs.declared.instr.Branch.{Branch}
 use Rattle.v8_formats.specs.declared.instr.Three.{Three}
@@ -14,19 +14,17 @@ use Rattle.sbx_image.specs.declared.services.Services.{Services}
 use Rattle.sbx_flat.specs.Effects.{declares, service_of}
 use Rattle.sbx_range.specs.Refining.{opposite}
 use Rattle.sbx_range.proofs.Kept.{one_edge_is_left}
-use Rattle.sbx_domain.specs.Known.{Known}
-use Rattle.sbx_domain.specs.Transfer.{transferred}
 use Rattle.sbx_rules.specs.Operations.{is_call, is_framed, is_return, is_save, is_transfer, reads_of, service_reads}
-use Rattle.sbx_rules.specs.Places.{IsPlace, address_of, callee_at, ends_run, function_at, is_exit, op_at, op_before, service_asked, word_of_place, words_in}
+use Rattle.sbx_rules.specs.Places.{IsPlace, callee_at, ends_run, function_at, is_exit, op_at, op_before, service_asked, word_of_place, words_in}
 use Rattle.sbx_rules.specs.Fuel.{IsPaid}
-use Rattle.sbx_rules.specs.Rules.{enters_well, has_cells, is_declared, is_entry, is_frame_size, is_later, is_save_of, reads_undefined, touches_reserved}
+use Rattle.sbx_rules.specs.Rules.{has_cells, is_declared, is_entry, is_frame_size, is_later, is_save_of, reads_undefined, touches_reserved}
 use Rattle.sbx_rules.specs.Verdicts.{Checked}
-use Rattle.sbx_rules.specs.Ways.{Next, Past, To, Way, cells_at, falls, falls_to, fuel_at, state_at, weight_to}
+use Rattle.sbx_rules.specs.Ways.{Next, Past, To, cells_at, falls, falls_to, fuel_at, state_at, weight_to}
 use Rattle.sbx_form.specs.Forms.{Cells}
 use Rattle.sbx_sound.specs.LowFields.{LowFields, LowThree}
 use Rattle.sbx_sound.specs.Order.{IsOrdered}
 use Rattle.sbx_sound.specs.Running.{At, IsVisit, bytes_of, straight_visit, window_of}
-use Rattle.sbx_sound.specs.Shared.{Lent, Own, Shared, Window}
+use Rattle.sbx_sound.specs.Shared.{Lent, Own, Shared}
 use Rattle.sbx_sound.proofs.Arrivals.{after_no_call, goes_straight, is_straight_visit}
 use Rattle.sbx_sound.proofs.Asked.{admitted, asks_declared, calls_later, enters, keeps_reserved, reads_known, slot_follows, suits_kind}
 use Rattle.sbx_sound.proofs.CallSteps.{call_word}
@@ -37,10 +35,9 @@ use Rattle.sbx_sound.proofs.Ordered.{code_word, follows, lies_low}
 use Rattle.sbx_sound.proofs.OtherSteps.{branch_word, exit_word, save_word}
 use Rattle.sbx_sound.proofs.Read.{codes_known, computes_checked, read_known}
 use Rattle.sbx_sound.proofs.Refined.{looks_at_codes, refines}
-use Rattle.sbx_sound.proofs.ReturnSteps.{GoesNext, GoesOn, GoesToBlock}
+use Rattle.sbx_sound.proofs.ReturnSteps.{GoesOn}
 use Rattle.sbx_sound.proofs.Safe.{Spot, Steps}
 use Rattle.sbx_sound.proofs.Steps.{Does, IsWord, known_then, plain_edge, plain_next}
-use Rattle.sbx_sound.proofs.Transfers.{ComesStraight}
 use Rattle.sbx_sound.proofs.Wells.{and_left, call_transfers, enters_framed, framed_of, saves_well}
 
 -- ---- a framed function's window, but before its SAVE
@@ -73,7 +70,7 @@ same_window function b i c j h g = by_kind (is_framed function.kind) ((b == 0) &
     by_kind true true s h = absurd (cc)
     by_kind true false s h = sym (ap (λ (x : Bool). if true && not x then Own function.frame else Lent) s)
 
-lent_leaf : (function : Function) (b i : ℕ) → (is_framed function.kind && is_entry b i) ≡ false → window_of function b i ≡ Lent → is_framed function.kind ≡ false
+pub lent_leaf : (function : Function) (b i : ℕ) → (is_framed function.kind && is_entry b i) ≡ false → window_of function b i ≡ Lent → is_framed function.kind ≡ false
 lent_leaf function b i h = by_kind (is_framed function.kind) ((b == 0) && (i == 0)) h
   where
     by_kind : (t e : Bool) → (t && e) ≡ false → (if t && not e then Own function.frame else Lent) ≡ Lent → t ≡ false
@@ -81,7 +78,7 @@ lent_leaf function b i h = by_kind (is_framed function.kind) ((b == 0) && (i == 
     by_kind true true h l = absurd (cc)
     by_kind true false h l = absurd (cc)
 
-own_inside : (function : Function) (b i : ℕ) → (is_framed function.kind && is_entry b i) ≡ false → is_framed function.kind ≡ true → window_of function b i ≡ Own function.frame
+pub own_inside : (function : Function) (b i : ℕ) → (is_framed function.kind && is_entry b i) ≡ false → is_framed function.kind ≡ true → window_of function b i ≡ Own function.frame
 own_inside function b i h = by_kind (is_framed function.kind) ((b == 0) && (i == 0)) h
   where
     by_kind : (t e : Bool) → (t && e) ≡ false → t ≡ true → (if t && not e then Own function.frame else Lent) ≡ Own function.frame

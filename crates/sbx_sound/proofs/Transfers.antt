@@ -1,33 +1,27 @@
 -- Branches, calls and returns: from the word to its slot.
 use Rattle.sbx_domain.specs.declared.entry.Entry.{Entry}
-use Rattle.std.proofs.Common.{◌≡◌, ◌≢◌, ℕ, suc, ◌+◌, ◌-◌, ◌%◌, ◌^◌, ◌<◌, ◌≤◌, Bool, true, false, List, [], ◌∷◌, Option, Some, None, refl, sym, ap, ◌∙◌, subst, arith}
-use Rattle.std.specs.Prelude.{pos, ◌+ℤ◌, ◌-ℤ◌, ◌≤ℤ◌, ◌==◌, ◌||◌, nat_le, if◌then◌else◌, slice_get}
+use Rattle.std.proofs.Common.{◌≡◌, ℕ, suc, ◌+◌, ◌-◌, ◌%◌, ◌^◌, ◌<◌, ◌≤◌, Bool, true, false, List, [], ◌∷◌, Option, Some, None, refl, sym, ap, ◌∙◌, subst, arith}
+use Rattle.std.specs.Prelude.{pos, ◌+ℤ◌, ◌-ℤ◌, ◌≤ℤ◌, ◌==◌, if◌then◌else◌, slice_get}
 use Rattle.std.proofs.lemmas.Bool.Decides.{nat_tests}
-use Rattle.v8_alu.specs.Results.{difference_codes}
 use Rattle.v8_word.specs.declared.Icc.{Icc}
 use Rattle.v8_formats.specs.declared.instr.Three.{Three}
 use Rattle.v8_meaning.specs.declared.operation.Operation.TheVariants.{Call, JumpAndLink}
 use Rattle.v8_meaning.specs.Operands.{target}
 use Rattle.sbx_image.specs.declared.parts.Parts.{Parts}
 use Rattle.sbx_image.specs.declared.parts.Function.{Function}
-use Rattle.sbx_image.specs.declared.parts.Range.{Range}
 use Rattle.sbx_flat.specs.Registers.{Words}
 use Rattle.sbx_flat.specs.Runs.{budget, weight_of}
 use Rattle.sbx_rules.specs.Operations.{is_call, is_return}
-use Rattle.sbx_domain.specs.Fits.{Fits, HasAlignment, HasForm, HasInterval, Relates, word_of_related}
-use Rattle.sbx_domain.specs.Known.{Known, is_at, names, with_entry, without_location, range_of_entry, form_of_entry}
-use Rattle.sbx_domain.specs.Forms.{Form, form_value}
-use Rattle.sbx_domain.specs.declared.relation.Relation.{Relation}
-use Rattle.sbx_domain.specs.declared.relation.Related.{Related}
-use Rattle.sbx_domain.specs.declared.relation.Related.TheVariants.{Location, Word}
-use Rattle.sbx_domain.specs.declared.relation.Relation.TheVariants.{Compared, Signs}
+use Rattle.sbx_domain.specs.Fits.{Fits, HasAlignment, HasForm, HasInterval}
+use Rattle.sbx_domain.specs.Known.{Known, with_entry, range_of_entry, form_of_entry}
+use Rattle.sbx_domain.specs.Forms.{form_value}
 use Rattle.sbx_rules.specs.Ways.{Back, Next, Visit, Way, falls, fuel_at, state_at, visits_after, visits_at, weight_to}
 use Rattle.sbx_rules.specs.Places.{address_of, callee_at, callee_before, callee_of, find_entry, function_at, op_at, op_before, or_function}
 use Rattle.sbx_sound.specs.Running.{At, Follows, GoesTo, back_of, bytes_of, entry_of, left_at, left_to_all, straight_visit}
 use Rattle.sbx_form.specs.Forms.{Cells}
 use Rattle.sbx_sound.specs.Shared.{Open, Shared, with_location}
 use Rattle.sbx_domain.specs.Transfer.{transferred}
-use Rattle.sbx_sound.proofs.Arrivals.{after_no_call, follows_plainly, goes_straight, is_straight_visit, weight_next}
+use Rattle.sbx_sound.proofs.Arrivals.{after_no_call, follows_plainly, goes_straight, is_straight_visit, next_there, weight_next}
 use Rattle.sbx_sound.proofs.Effects.{linked, moved_to}
 use Rattle.sbx_sound.proofs.Ledger.{one_word}
 
@@ -135,6 +129,7 @@ module _ (parts : Parts) where
       let pc = a.pc in
       let small = comes.small in
       record {
+        place = next_there parts f b i comes.next a.place;
         is_visit = is_straight_visit parts f b (suc i) (ap goes_straight op);
         pc = npc;
         npc = goes_in (is_call (op_at parts f b i)) (is_return (op_at parts f b i)) f b (suc i) (falls parts f b (suc i)) k.calls (target k.pc displacement) (ap is_call op) (ap (λ x. target x displacement) a.pc ∙ target_is f b i displacement g op callee);
@@ -149,6 +144,7 @@ module _ (parts : Parts) where
         base = ap (λ x. k.base + x) (sym comes.same) ∙ a.base;
         eight = a.eight;
         room = a.room;
+        stored = a.stored;
         ledger = light_ledger f b i w k (straight_visit parts f b i) start comes.no_call (ap weight_of op) a;
       }
 
@@ -160,6 +156,7 @@ module _ (parts : Parts) where
       → At parts w k f b i (straight_visit parts f b i) start → At parts (w + 1) (moved_to ((c.back + 8) % 2 ^ 32) k) f b (suc i) (return_visit f b (suc i)) start
   unfolding state_at transferred visits_at
   return_at w k f b i t c cs start op is comes a = record {
+    place = next_there parts f b i comes.next a.place;
     is_visit = (0, ap (λ o. slice_get (visits_after parts f b i o (state_at parts f b i) (state_at parts f b (suc i))) 0) op);
     pc = slot_at f b i w k start comes a;
     npc = goes_back (is_call (op_at parts f b i)) (is_return (op_at parts f b i)) f b (suc i) Back k.calls ((c.back + 8) % 2 ^ 32) (ap is_call op) (ap is_return op) (sym (ap (back_of parts) is));
@@ -173,5 +170,6 @@ module _ (parts : Parts) where
     base = ap (λ x. k.base + x) (sym comes.same) ∙ a.base;
     eight = a.eight;
     room = a.room;
+    stored = a.stored;
     ledger = light_ledger f b i w k (straight_visit parts f b i) start comes.no_call (ap weight_of op) a;
   }

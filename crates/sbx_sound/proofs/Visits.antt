@@ -62,3 +62,8 @@ module _ (parts : Parts) where
   visit_is_way f b i c v op is =
       two_ways (refined c.cond (state_at parts f b i)) (refined (opposite c.cond) (state_at parts f b i)) (branch_way parts f b i c.displacement) (falls parts f b (suc i)) (c.annul && is_always c.cond) c.annul (is_always c.cond) v is.0
       (sym (ap (λ o. slice_get (visits_after parts f b i o (state_at parts f b i) (state_at parts f b (suc i))) is.0) op) ∙ is.1)
+
+  -- the slot of a return has its one way
+  pub is_return_visit : (f b i : ℕ) (t : Three) → op_at parts f b i ≡ JumpAndLink t → IsVisit parts f b (suc i) (return_visit parts f b (suc i))
+  unfolding visits_at
+  is_return_visit f b i t op = (0, ap (λ o. slice_get (visits_after parts f b i o (state_at parts f b i) (state_at parts f b (suc i))) 0) op)

@@ -1,32 +1,29 @@
 -- What a checked image gives where a run starts, where a function begins, and at a call.
-use Rattle.std.proofs.Common.{◌≡◌, ◌≢◌, ℕ, zero, suc, ◌+◌, ◌-◌, ◌*◌, ◌%◌, ◌^◌, ◌<◌, ◌≤◌, Bool, true, false, List, [], ◌∷◌, length, Option, Some, None, refl, sym, ap, ◌∙◌, subst, inl, inr, arith}
-use Rattle.std.specs.Prelude.{◌==◌, ◌&&◌, nat_le, nat_lt, slice_get, if◌then◌else◌}
+use Rattle.std.proofs.Common.{◌≡◌, ℕ, suc, ◌+◌, ◌-◌, ◌%◌, ◌^◌, ◌<◌, ◌≤◌, Bool, true, false, List, [], ◌∷◌, length, Option, Some, None, refl, sym, ap, ◌∙◌, subst, arith}
+use Rattle.std.specs.Prelude.{◌==◌, ◌&&◌, slice_get, if◌then◌else◌}
 use Rattle.std.proofs.lemmas.Bool.Decides.{nat_tests}
 use Rattle.v8_formats.specs.declared.instr.Operand.{Operand}
 use Rattle.v8_formats.specs.declared.instr.Operand.TheVariants.{Register, Immediate}
-use Rattle.v8_formats.specs.declared.instr.Three.{Three}
 use Rattle.v8_meaning.specs.declared.operation.Operation.{Operation}
 use Rattle.v8_meaning.specs.declared.operation.Operation.TheVariants.{Call, Save}
 use Rattle.v8_meaning.specs.Operands.{following}
-use Rattle.sbx_image.specs.Rules.{code_start}
 use Rattle.sbx_image.specs.declared.parts.Function.{Function}
 use Rattle.sbx_image.specs.declared.parts.Parts.{Parts}
 use Rattle.sbx_image.specs.declared.parts.Range.{Range}
-use Rattle.sbx_flat.specs.Runs.{budget, budget_of}
-use Rattle.sbx_domain.specs.Known.{Known}
+use Rattle.sbx_flat.specs.Runs.{AreBytes, budget_of}
 use Rattle.sbx_domain.specs.Transfer.{saved, transferred}
 use Rattle.sbx_rules.specs.Fuel.{IsWithinBudget}
 use Rattle.sbx_rules.specs.Operations.{is_call, is_framed, is_transfer}
 use Rattle.sbx_rules.specs.Places.{IsPlace, address_of, callee_at, callee_of, ends_run, find_entry, function_at, op_at, or_function}
 use Rattle.sbx_rules.specs.Rules.{enters_well, has_cells, is_frame_size, is_minus, is_save_of, params_of, room_of_callee, suits}
 use Rattle.sbx_rules.specs.Verdicts.{Checked}
-use Rattle.sbx_rules.specs.Ways.{cells_at, falls, fuel_at, out_cells, state_at}
+use Rattle.sbx_rules.specs.Ways.{falls, fuel_at, out_cells, state_at}
 use Rattle.sbx_image.specs.declared.parts.Kind.{Kind}
 use Rattle.sbx_image.specs.declared.parts.Kind.TheVariants.{Framed, Leaf}
 use Rattle.sbx_sound.specs.Order.{IsOrdered}
 use Rattle.sbx_sound.specs.Running.{Follows, straight_visit}
 use Rattle.sbx_sound.proofs.Arrivals.{goes_straight, is_straight_visit}
-use Rattle.sbx_sound.proofs.Asked.{calls_later, enters, has_params, no_params, room_for_callee, room_for_frame, room_of_the_stack, slot_follows, suits_kind, within_budget}
+use Rattle.sbx_sound.proofs.Asked.{enters, has_params, no_params, room_for_callee, room_for_frame, room_of_the_stack, slot_follows, suits_kind, within_budget}
 use Rattle.sbx_sound.proofs.Calls.{CallsWell, in_slot}
 use Rattle.sbx_sound.proofs.Goes.{begin_place, goes_on}
 use Rattle.sbx_sound.proofs.Ordered.{follows}
@@ -119,16 +116,18 @@ call_straight _ h = absurd (cc)
 
 module _ (parts : Parts) (checked : Checked parts) (ordered : IsOrdered parts) (pages : parts.stack_pages ≤ 16) where
   -- the entry function begins
-  pub starts_well : 0 < length parts.functions → StartsWell parts
-  starts_well some =
+  pub starts_well : AreBytes parts.bytes → 0 < length parts.functions → StartsWell parts
+  starts_well bytes some =
       let place = begin_place parts checked ordered 0 0 some (ordered.entries 0 some).0 in
       record {
+        place = place;
         entry = ordered.first;
         no_params = ap (out_cells 8) (no_ranges (function_at parts 0).params (no_params parts checked 0 0 0 place refl refl));
         follows = subst (λ a. Follows parts 0 0 0 (falls parts 0 0 0) a) (ap following ordered.first) (follows parts ordered 0 0 0 place);
         room = room_of_the_stack parts checked 0 0 0 place refl refl;
         pages = pages;
         within_budget = subst (IsWithinBudget (state_at parts 0 0 0) (fuel_at parts 0 0)) (sym (same_budget (slice_get parts.functions 0))) (within_budget parts checked 0 0 0 place refl);
+        bytes = bytes;
       }
 
   -- a framed function begins with its SAVE
@@ -163,11 +162,10 @@ module _ (parts : Parts) (checked : Checked parts) (ordered : IsOrdered parts) (
       record {
         calls = calls;
         callee_is = callee;
-        slot = within;
         framed = framed_of (function_at parts f).kind (op_at parts f b j) calls (suits_kind parts checked f b j place);
         params = subst (λ o. has_cells (in_slot parts f b j g) (params_of parts f b (suc j) o) ≡ true) callee (has_params parts checked f b (suc j) slot (straight_visit parts f b (suc j)) visit);
         room = subst (λ o. (function_at parts f).frame + room_of_callee parts f b j o ≤ (function_at parts f).stack_room) callee (room_for_callee parts checked f b j place calls);
         within_budget = within_budget parts checked g 0 0 entry refl;
         entry = (ordered.entries g in_g).1;
-        follows = follows parts ordered g 0 0 entry;
+        there = record { place = entry; follows = follows parts ordered g 0 0 entry };
       }

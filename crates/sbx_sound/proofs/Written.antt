@@ -1,9 +1,8 @@
 -- Words with one location set, as what is known has them and as states show them; and which tests a write leaves.
-use Rattle.std.proofs.Common.{◌≡◌, ◌≢◌, ℕ, ◌+◌, ◌<◌, Bool, true, false, Option, Some, None, refl, sym, ap, ◌∙◌, subst, arith}
+use Rattle.std.proofs.Common.{◌≡◌, ◌≢◌, ℕ, ◌<◌, Bool, true, false, Option, Some, None, refl, sym, ap, ◌∙◌, subst, arith}
 use Rattle.std.specs.Prelude.{◌==◌, ◌&&◌, ◌||◌, ◌^◌, not, if◌then◌else◌}
 use Rattle.std.proofs.lemmas.Bool.Decides.{nat_tests}
 use Rattle.v8_word.specs.declared.Icc.{Icc}
-use Rattle.v8_alu.specs.Results.{difference_codes}
 use Rattle.sbx_flat.specs.Registers.{Words}
 use Rattle.sbx_form.specs.Forms.{Cells}
 use Rattle.sbx_domain.specs.declared.entry.Entry.{Entry}

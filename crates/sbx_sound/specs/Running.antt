@@ -1,5 +1,5 @@
 -- The invariant of a run of a checked image: where it stands, what fits there, who called, and what fuel is left.
-use Rattle.std.specs.Prelude.{◌≡◌, ℕ, suc, ◌+◌, ◌-◌, ◌*◌, ◌%◌, ◌^◌, ◌<◌, ◌≤◌, ◌&&◌, ◌||◌, not, Bool, true, false, ◌==◌, nat_le, if◌then◌else◌, List, [], ◌∷◌, Option, Some, None, ℤ, pos, ◌+ℤ◌, ◌-ℤ◌, ◌≤ℤ◌, slice_get}
+use Rattle.std.specs.Prelude.{◌≡◌, ℕ, suc, ◌+◌, ◌-◌, ◌*◌, ◌%◌, ◌^◌, ◌<◌, ◌≤◌, ◌&&◌, ◌||◌, not, Bool, true, false, ◌==◌, nat_le, if◌then◌else◌, List, [], ◌∷◌, Option, Some, None, ℤ, pos, ◌+ℤ◌, ◌-ℤ◌, ◌≤ℤ◌, length, slice_get}
 use Rattle.v8_meaning.specs.Operands.{following}
 use Rattle.sbx_image.specs.declared.parts.Function.{Function}
 use Rattle.sbx_image.specs.declared.parts.Parts.{Parts}
@@ -12,9 +12,9 @@ use Rattle.sbx_domain.specs.Known.{Known, form_at, range_at}
 use Rattle.sbx_rules.specs.Rules.{is_defined, is_some}
 use Rattle.sbx_domain.specs.Forms.{form_value}
 use Rattle.sbx_rules.specs.Ways.{Next, To, Visit, Way, falls, fuel_at, state_at, visits_at, weight_to}
-use Rattle.sbx_rules.specs.Places.{address_of, callee_at, callee_before, function_at, op_before, words_in}
+use Rattle.sbx_rules.specs.Places.{IsPlace, address_of, callee_at, callee_before, function_at, op_before}
 use Rattle.sbx_form.specs.Forms.{Cells}
-use Rattle.sbx_sound.specs.Shared.{KnownParts, Lent, Open, Own, Shared, Shows, Window, base_below}
+use Rattle.sbx_sound.specs.Shared.{AreStored, KnownParts, Lent, Open, Own, Shared, Shows, Window, base_below}
 
 -- what a function has in its window: before its SAVE, and in a leaf, its caller's
 abbrev pub window_of : Function → ℕ → ℕ → Window
@@ -47,7 +47,7 @@ module _ (parts : Parts) where
   -- An open call of function f, with the calls below it.
   pub record IsOpen (f : ℕ) (c : Open) (cs : List Open) : Type 0 where
     pub calls : callee_at parts c.function c.block c.place ≡ Some f
-    pub within : suc c.place < words_in parts c.function c.block
+    pub slot : IsPlace parts c.function c.block (suc c.place)
     pub framed : is_framed (function_at parts c.function).kind ≡ true
     pub is_frame : c.frame ≡ (function_at parts c.function).frame
     pub back : c.back ≡ address_of parts c.function c.block c.place
@@ -85,6 +85,11 @@ module _ (parts : Parts) where
   Follows f b i (To t) address = address ≡ address_of parts f t 0
   Follows f b i _ address = Unit {0}
 
+  -- a word is there, and its way on leads to the address after it
+  pub record IsThere (f b i : ℕ) : Type 0 where
+    pub place : IsPlace parts f b i
+    pub follows : Follows f b i (falls parts f b i) (following (address_of parts f b i))
+
   -- where control goes after this word: a CALL before it goes to the callee, a return to the caller
   abbrev pub GoesTo : Bool → Bool → ℕ → ℕ → ℕ → Way → List Open → ℕ → Type 0
   GoesTo true returns f b i way calls address = address ≡ entry_of (callee_before parts f b i)
@@ -108,6 +113,7 @@ module _ (parts : Parts) where
 
   -- Before word i of block b of function f, in a visit v.
   pub record At (w : ℕ) (k : Shared) (f b i : ℕ) (v : Visit) (start : Cells) : Type 0 where
+    pub place : IsPlace parts f b i
     pub is_visit : IsVisit f b i v
     pub pc : k.pc ≡ address_of parts f b i
     pub npc : GoesTo (is_call (op_before parts f b i)) (is_return (op_before parts f b i)) f b i v.way k.calls k.npc
@@ -121,6 +127,7 @@ module _ (parts : Parts) where
     pub base : k.base + bytes_of (function_at parts f) b i ≡ base_below k.calls
     pub eight : k.base % 8 ≡ 0
     pub room : stack_bottom parts + (function_at parts f).stack_room ≤ base_below k.calls
+    pub stored : AreStored (length parts.bytes) k.memory k.input
     -- the ledger: what was used, what is left here, and what is left to each caller
     pub ledger : (pos w +ℤ (left_at f b i start +ℤ left_to_all k.calls)) ≤ℤ pos (budget parts)
 
@@ -136,6 +143,7 @@ module _ (parts : Parts) where
     pub base : k.base + bytes_of (function_at parts f) b (suc i) ≡ base_below k.calls
     pub eight : k.base % 8 ≡ 0
     pub room : stack_bottom parts + (function_at parts f).stack_room ≤ base_below k.calls
+    pub stored : AreStored (length parts.bytes) k.memory k.input
     pub ledger : (pos w +ℤ (left_at f b (suc i) start +ℤ left_to_all k.calls)) ≤ℤ pos (budget parts)
 
   -- the invariant of a state and the calm one beside it

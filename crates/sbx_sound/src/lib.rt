@@ -8,3 +8,5 @@
 //! Not there yet, from the rules: returns, the slots of calls and branches, loads and stores, divisions, tagged results, Y, get
 //! and put; and that fuel is positive at each place. No contract stands on these lemmas.
 #![tactic(auto)]
+
+pub mod laws;
