@@ -1,3 +1,0 @@
-pub mod Both
-pub mod Sound
-pub mod Steps
