@@ -1,3 +1,8 @@
 pub mod Products
 pub mod Values
 pub mod Deciding
+pub mod Reached
+pub mod Counting
+pub mod Exact
+pub mod KeptBlocks
+pub mod Locations

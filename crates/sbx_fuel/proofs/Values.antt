@@ -104,7 +104,7 @@ unfolding start_terms
 start_ascends now [] terms h = h
 start_ascends now (t ∷ ts) terms h = start_ascends now ts (less_terms t.coefficient (form_at now t.location) terms) (ascend_less t.coefficient (form_at now t.location) terms h)
 
-from_less : (n m : ℕ) (ts : List FormTerm) → n ≤ m → AscendFrom m ts → AscendFrom n ts
+pub from_less : (n m : ℕ) (ts : List FormTerm) → n ≤ m → AscendFrom m ts → AscendFrom n ts
 from_less n m [] le h = tt
 from_less n m (t ∷ ts) le h = (let x = h.0 in omega arith, h.1)
 

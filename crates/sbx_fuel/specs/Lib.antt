@@ -1,1 +1,3 @@
 pub mod Margins
+pub mod Least
+pub mod Blocks

@@ -3,16 +3,15 @@
 
 mod assembling;
 mod files;
-mod words;
 
 use assembling::assemble_to;
 use files::opened;
 use sbx_command::{Job, Stop, command};
+use sbx_words::{Usage, read_words};
 use std::alloc::AllocError;
 use std::io::BufWriter;
 use std::process::ExitCode;
 use std::{env, io};
-use words::{Usage, read_words};
 
 /// The exit status of words that ask for nothing.
 const USAGE: u8 = 3;

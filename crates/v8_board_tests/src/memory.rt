@@ -34,10 +34,8 @@ fn kept(memory: &Memory<Probe<'_>>, calls: u64, bytes: &[u8]) -> bool {
     memory.port().calls == calls && memory.port().kept.as_slice() == bytes
 }
 
-/// A load of the first register gives the next byte of input, and all ones at its end. From then on the port isn't asked.
-#[test]
-fn loads_give_the_input_and_its_end(rt: HostRuntime) -> Result<(), Fail> {
-    let mut memory = memory(rt.alloc(), b"a\xFF")?;
+/// Whether loads give `a`, FF and then the end, again and again, and the port is called so often.
+fn loads_to_the_end(memory: &mut Memory<Probe<'_>>) -> bool {
     for (word, calls) in [
         (0x61, 1),
         (0xFF, 2),
@@ -45,11 +43,24 @@ fn loads_give_the_input_and_its_end(rt: HostRuntime) -> Result<(), Fail> {
         (0xFFFF_FFFF, 3),
         (0xFFFF_FFFF, 3),
     ] {
-        assert!(rt; loads(&mut memory, word, calls), "{word} {calls}");
+        if !loads(memory, word, calls) {
+            return false;
+        }
     }
+    true
+}
+
+/// Whether the port is asked again after a restart.
+fn asks_after_a_restart(memory: &mut Memory<Probe<'_>>) -> bool {
     memory.restart();
-    assert!(rt; loads(&mut memory, 0xFFFF_FFFF, 4) && kept(&memory, 4, b""));
-    assert!(rt; memory.stop().is_none());
+    loads(memory, 0xFFFF_FFFF, 4) && kept(memory, 4, b"") && memory.stop().is_none()
+}
+
+/// A load of the first register gives the next byte of input, and all ones at its end. From then on the port isn't asked.
+#[test]
+fn loads_give_the_input_and_its_end(rt: HostRuntime) -> Result<(), Fail> {
+    let mut memory = memory(rt.alloc(), b"a\xFF")?;
+    assert!(rt; loads_to_the_end(&mut memory) && asks_after_a_restart(&mut memory));
     Ok(())
 }
 
@@ -106,37 +117,73 @@ fn is_untouched(memory: &Memory<Probe<'_>>) -> bool {
     memory.stop().is_none() && kept(memory, 0, b"")
 }
 
-/// A word at a register that doesn't answer its kind of access, or past the last one: nothing answers, and the port isn't called.
-#[test]
-fn words_elsewhere_are_not_answered(rt: HostRuntime) -> Result<(), Fail> {
-    let mut memory = memory(rt.alloc(), b"a")?;
-    for pa in [
+/// Whether nothing answers loads of words at these places.
+fn refuses_loads_at(memory: &mut Memory<Probe<'_>>, places: &[u64]) -> bool {
+    for pa in places {
+        if !refuses_loads(memory, *pa, Size::Word) {
+            return false;
+        }
+    }
+    true
+}
+
+/// Whether nothing answers stores of words at these places.
+fn refuses_words_at(memory: &mut Memory<Probe<'_>>, places: &[u64]) -> bool {
+    for pa in places {
+        if !refuses_words(memory, *pa) {
+            return false;
+        }
+    }
+    true
+}
+
+/// Whether nothing answers words elsewhere.
+fn answers_no_word(memory: &mut Memory<Probe<'_>>) -> bool {
+    let no_loads = [
         0x1_0000_0004,
         0x1_0000_0008,
         0x1_0000_000C,
         0x1_0000_0010,
         0x1_0000_1000,
-    ] {
-        assert!(rt; refuses_loads(&mut memory, pa, Size::Word), "{pa}");
-    }
-    for pa in [0x1_0000_0000, 0x1_0000_0010, 0x1_0000_1000] {
-        assert!(rt; refuses_words(&mut memory, pa), "{pa}");
-    }
-    assert!(rt; is_untouched(&memory));
+    ];
+    let no_stores = [0x1_0000_0000, 0x1_0000_0010, 0x1_0000_1000];
+    refuses_loads_at(memory, &no_loads)
+        && refuses_words_at(memory, &no_stores)
+        && is_untouched(memory)
+}
+
+/// A word at a register that doesn't answer its kind of access, or past the last one: nothing answers, and the port isn't called.
+#[test]
+fn words_elsewhere_are_not_answered(rt: HostRuntime) -> Result<(), Fail> {
+    let mut memory = memory(rt.alloc(), b"a")?;
+    assert!(rt; answers_no_word(&mut memory));
     Ok(())
+}
+
+/// Whether nothing answers loads of bytes, halfwords and double words there.
+fn refuses_other_loads(memory: &mut Memory<Probe<'_>>, pa: u64) -> bool {
+    refuses_loads(memory, pa, Size::Byte)
+        && refuses_loads(memory, pa, Size::Half)
+        && refuses_loads(memory, pa, Size::Double)
+}
+
+/// Whether no register answers another size or an exchange.
+fn answers_words_alone(memory: &mut Memory<Probe<'_>>) -> bool {
+    for pa in [0x1_0000_0000, 0x1_0000_0004, 0x1_0000_0008, 0x1_0000_000C] {
+        if !(refuses_other_loads(memory, pa)
+            && refuses_other_stores(memory, pa)
+            && refuses_exchanges(memory, pa))
+        {
+            return false;
+        }
+    }
+    is_untouched(memory)
 }
 
 /// Bytes, halfwords, double words and exchanges: no register answers, and the port isn't called.
 #[test]
 fn other_sizes_and_exchanges_are_not_answered(rt: HostRuntime) -> Result<(), Fail> {
     let mut memory = memory(rt.alloc(), b"a")?;
-    for pa in [0x1_0000_0000, 0x1_0000_0004, 0x1_0000_0008, 0x1_0000_000C] {
-        for size in [Size::Byte, Size::Half, Size::Double] {
-            assert!(rt; refuses_loads(&mut memory, pa, size), "{pa} {size:?}");
-        }
-        assert!(rt; refuses_other_stores(&mut memory, pa), "{pa}");
-        assert!(rt; refuses_exchanges(&mut memory, pa), "{pa}");
-    }
-    assert!(rt; is_untouched(&memory));
+    assert!(rt; answers_words_alone(&mut memory));
     Ok(())
 }

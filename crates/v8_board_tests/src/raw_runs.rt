@@ -2,6 +2,7 @@
 ghost use Rattle.std.specs.Prelude.{◌≤◌, ℕ};
 
 use crate::images::{EXIT, End, GET, GREETING, NOP, PUT, RESTORE, RET, SAVE, raw_image};
+use sbx_image::Image;
 use sbx_raw::{Ending, Outcome, PageUse, Raw, run_raw};
 use std::alloc::{AllocError, Global};
 use std::test::Fail;
@@ -173,6 +174,11 @@ fn chain(alloc: Global, heads: &Heads) -> Result<Vec<u32>, AllocError> {
     Ok(words)
 }
 
+fn chain_image(alloc: Global, heads: &Heads) -> Result<Image, Fail> {
+    let words = chain(alloc, heads)?;
+    raw_image(alloc, &words)
+}
+
 /// Whether a chain exits on `N` windows with this status, these counts, and `!` put out.
 fn chain_ends<const N: usize>(
     alloc: Global,
@@ -182,8 +188,7 @@ fn chain_ends<const N: usize>(
 ) -> Result<bool, Fail>
     requires { (4 ≤ N) × (N ≤ 32) }
 {
-    let words = chain(alloc, heads)?;
-    let image = raw_image(alloc, &words)?;
+    let image = chain_image(alloc, heads)?;
     let raw = run_raw::<N>(alloc, &image, b"", 10_000)?;
     Ok(exits(&raw, status, counts) && raw.output.as_slice() == b"!".as_slice())
 }

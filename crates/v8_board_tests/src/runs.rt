@@ -93,14 +93,28 @@ fn agrees(board: &mut Tested, alloc: Global, run: &Run) -> Result<bool, Fail> {
     Ok(ends(board, &told, run.status))
 }
 
+/// How many rows end as they say, up to the first that doesn't.
+fn agreeing(board: &mut Tested, alloc: Global) -> Result<u32, Fail> {
+    let mut rows = 0u32;
+    for run in &RUNS {
+        if !agrees(board, alloc, run)? {
+            return Ok(rows);
+        }
+        rows = rows.saturating_add(1);
+    }
+    Ok(rows)
+}
+
+/// Whether the last row's board put the greeting out, and used the code alone.
+fn has_greeted(board: &Tested) -> bool {
+    kept(board, b"Hi") && used_code_alone(board)
+}
+
 #[test]
 fn raw_words_end_as_worked_out(rt: HostRuntime) -> Result<(), Fail> {
-    let alloc = rt.alloc();
-    let mut plain = board(alloc, 0)?;
-    for run in &RUNS {
-        assert!(rt; agrees(&mut plain, alloc, run)?, "{:?}", run.words);
-    }
-    assert!(rt; kept(&plain, b"Hi") && used_code_alone(&plain));
+    let mut plain = board(rt.alloc(), 0)?;
+    let rows = agreeing(&mut plain, rt.alloc())?;
+    assert!(rt; rows == 9 && has_greeted(&plain), "row {rows}");
     Ok(())
 }
 
@@ -137,6 +151,17 @@ fn differ_in_the_last_page(loaded: &Tested, ran: &Tested) -> bool {
     loaded.page_use().modified == [0, 0, 0] && ran.page_use().modified == [0, 0, 1 << 63]
 }
 
+/// Whether a run ends with 43 turns and an overflow, and changes nothing below the stack but R and M.
+fn keeps_what_was_loaded(loaded: &Tested, ran: &mut Tested) -> bool {
+    let told = Ok(outcome(Ending::Exit(0), 43, 1));
+    // and the first code page and the last stack page are marked
+    ends(ran, &told, 0)
+        && differ_in_the_last_page(loaded, ran)
+        && are_alike_below_the_stack(loaded, ran)
+        && have(loaded, ran, 0x2A00, (0x1012, 0x1032))
+        && have(loaded, ran, 0x2CFC, (0x9F06, 0x9F66))
+}
+
 /// A run leaves the trap table, the handlers, the tables, the code and the data as they were loaded, but for R and M.
 #[test]
 fn a_run_changes_nothing_below_the_stack(rt: HostRuntime) -> Result<(), Fail> {
@@ -155,14 +180,20 @@ fn a_run_changes_nothing_below_the_stack(rt: HostRuntime) -> Result<(), Fail> {
     ];
     let loaded = loaded_with(alloc, &words)?;
     let mut ran = loaded_with(alloc, &words)?;
-    let told = Ok(outcome(Ending::Exit(0), 43, 1));
-    assert!(rt; ends(&mut ran, &told, 0));
-    assert!(rt; differ_in_the_last_page(&loaded, &ran));
-    assert!(rt; are_alike_below_the_stack(&loaded, &ran));
-    // the first code page and the last stack page, marked
-    assert!(rt; have(&loaded, &ran, 0x2A00, (0x1012, 0x1032)));
-    assert!(rt; have(&loaded, &ran, 0x2CFC, (0x9F06, 0x9F66)));
+    assert!(rt; keeps_what_was_loaded(&loaded, &mut ran));
     Ok(())
+}
+
+/// Whether a run ends in error mode at its first spill, puts nothing out, and changes nothing below the stack but R and M.
+fn is_refused_its_spill(loaded: &Tested, ran: &mut Tested) -> bool {
+    let told = Ok(outcome(Ending::ErrorMode(TrapType::new(0x09)), 19, 1));
+    // and the entries of the last stack page and of the device are without a mark
+    ends(ran, &told, 0x3B6)
+        && kept(ran, b"")
+        && used_code_alone(ran)
+        && are_alike_below_the_stack(loaded, ran)
+        && have(loaded, ran, 0x2CFC, (0x9F06, 0x9F06))
+        && have(loaded, ran, 0x2D40, (0x1000_001E, 0x1000_001E))
 }
 
 /// SAVEs with the stack pointer at the device, whose first spill is refused: the machine ends in error mode, nothing is put out, and
@@ -174,12 +205,6 @@ fn a_refused_spill_changes_nothing(rt: HostRuntime) -> Result<(), Fail> {
     let words = [0x1D3C_0040, 0x1080_0000, 0x9DE3_A000];
     let loaded = loaded_with(alloc, &words)?;
     let mut ran = loaded_with(alloc, &words)?;
-    let told = Ok(outcome(Ending::ErrorMode(TrapType::new(0x09)), 19, 1));
-    assert!(rt; ends(&mut ran, &told, 0x3B6));
-    assert!(rt; kept(&ran, b"") && used_code_alone(&ran));
-    assert!(rt; are_alike_below_the_stack(&loaded, &ran));
-    // the entries of the last stack page and of the device, without a mark
-    assert!(rt; have(&loaded, &ran, 0x2CFC, (0x9F06, 0x9F06)));
-    assert!(rt; have(&loaded, &ran, 0x2D40, (0x1000_001E, 0x1000_001E)));
+    assert!(rt; is_refused_its_spill(&loaded, &mut ran));
     Ok(())
 }

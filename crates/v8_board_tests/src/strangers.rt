@@ -170,27 +170,37 @@ impl Ends {
     }
 }
 
+/// How many of a thousand programs of chance are contained, up to the first that isn't, with how their runs ended.
+fn contained(
+    watched: &mut Tested,
+    fresh: &mut Tested,
+    alloc: Global,
+    ends: &mut Ends,
+) -> Result<u32, Fail> {
+    let mut dice = Dice { state: 1 };
+    for number in 0..1000u32 {
+        let words = stranger(&mut dice);
+        if !is_contained(watched, fresh, alloc, &words)? {
+            return Ok(number);
+        }
+        ends.note(&watched.ending());
+    }
+    Ok(1000)
+}
+
 /// A thousand programs of chance, one after another on one board: none changes what was loaded with it, or reaches what isn't its own.
 #[test]
 fn strangers_are_contained(rt: HostRuntime) -> Result<(), Fail> {
     let alloc = rt.alloc();
     let mut watched = board(alloc, 0)?;
     let mut fresh = board(alloc, 0)?;
-    let mut dice = Dice { state: 1 };
     let mut ends = Ends {
         exits: 0,
         traps: 0,
         errors: 0,
         limits: 0,
     };
-    for _ in 0..1000u32 {
-        let words = stranger(&mut dice);
-        assert!(rt;
-            is_contained(&mut watched, &mut fresh, alloc, &words)?,
-            "{words:?}"
-        );
-        ends.note(&watched.ending());
-    }
-    assert!(rt; ends.has_all());
+    let number = contained(&mut watched, &mut fresh, alloc, &mut ends)?;
+    assert!(rt; number == 1000 && ends.has_all(), "program {number}");
     Ok(())
 }

@@ -35,31 +35,46 @@ fn has_made(board: &mut Tested, turns: u64) -> bool {
     }
 }
 
+/// Whether a board without an image ends in two turns.
+fn ends_at_once(board: &mut Tested) -> bool {
+    let access = TrapType::new(0x01);
+    steps(board, &Event::Trapped(access), 0x46)
+        && steps(board, &Event::ErrorMode(access), 0x66)
+        && has_made(board, 2)
+}
+
+/// Whether the turn that met a trap, the second, tells it.
+fn traps_in_its_turn(board: &mut Tested, alloc: Global) -> Result<bool, Fail> {
+    load(board, alloc, &[0x033C_0000, 0xC400_4000])?;
+    Ok(runs(board, 1) && steps(board, &Event::Trapped(TrapType::new(0x09)), 0x30E))
+}
+
 /// A board without an image ends in two turns, and an image may be loaded then: a trap is told in the turn that met it.
 #[test]
 fn turns_are_told_one_by_one(rt: HostRuntime) -> Result<(), Fail> {
-    let alloc = rt.alloc();
-    let mut bare = board(alloc, 0)?;
-    let access = TrapType::new(0x01);
-    assert!(rt; steps(&mut bare, &Event::Trapped(access), 0x46));
-    assert!(rt; steps(&mut bare, &Event::ErrorMode(access), 0x66));
-    assert!(rt; has_made(&mut bare, 2));
-    load(&mut bare, alloc, &[0x033C_0000, 0xC400_4000])?;
-    assert!(rt; runs(&mut bare, 1));
-    assert!(rt; steps(&mut bare, &Event::Trapped(TrapType::new(0x09)), 0x30E));
+    let mut bare = board(rt.alloc(), 0)?;
+    assert!(rt; ends_at_once(&mut bare));
+    assert!(rt; traps_in_its_turn(&mut bare, rt.alloc())?);
     Ok(())
+}
+
+/// Whether a run fails at its first call of the port, leaves that turn undone, and goes on from there.
+fn is_made_again(board: &mut Tested, alloc: Global) -> Result<bool, Fail> {
+    load(board, alloc, &GREETING)?;
+    let told = Ok(outcome(Ending::Exit(0), 16, 0));
+    Ok(
+        board.run(100) == Err(PortFault::Writer)
+            && (board.psr(), board.wim()) == (0x83, 2)
+            && board.entry(0x1_0000) == Some(0x9010_2048)
+            && ends(board, &told, 0),
+    )
 }
 
 /// A port that fails at its first call leaves that turn undone, and the run goes on from there.
 #[test]
 fn a_failed_turn_is_made_again(rt: HostRuntime) -> Result<(), Fail> {
     let mut failing = board(rt.alloc(), 1)?;
-    load(&mut failing, rt.alloc(), &GREETING)?;
-    assert!(rt; failing.run(100) == Err(PortFault::Writer));
-    assert!(rt; (failing.psr(), failing.wim()) == (0x83, 2));
-    assert!(rt; failing.entry(0x1_0000) == Some(0x9010_2048));
-    let told = Ok(outcome(Ending::Exit(0), 16, 0));
-    assert!(rt; ends(&mut failing, &told, 0));
+    assert!(rt; is_made_again(&mut failing, rt.alloc())?);
     Ok(())
 }
 
@@ -77,19 +92,26 @@ fn refuses(board: &mut Tested, before: u32, status: u32) -> bool {
     }
 }
 
-/// Loads that are refused: every turn before runs, and the trap is told in its own turn.
-#[test]
-fn refused_accesses_trap_in_their_turn(rt: HostRuntime) -> Result<(), Fail> {
-    let alloc = rt.alloc();
-    let mut plain = board(alloc, 0)?;
+/// Whether each of these accesses is refused in its turn.
+fn refuses_each(board: &mut Tested, alloc: Global) -> Result<bool, Fail> {
     for (words, before, status) in [
         (&[0x033C_0000, 0xC400_4000][..], 1, 0x30E),
         (&[0x0300_0100, 0xC020_4000][..], 1, 0x38A),
         (&[0xC400_0000][..], 0, 0x206),
     ] {
-        load(&mut plain, alloc, words)?;
-        assert!(rt; refuses(&mut plain, before, status), "{words:?}");
+        load(board, alloc, words)?;
+        if !refuses(board, before, status) {
+            return Ok(false);
+        }
     }
+    Ok(true)
+}
+
+/// Loads that are refused: every turn before runs, and the trap is told in its own turn.
+#[test]
+fn refused_accesses_trap_in_their_turn(rt: HostRuntime) -> Result<(), Fail> {
+    let mut plain = board(rt.alloc(), 0)?;
+    assert!(rt; refuses_each(&mut plain, rt.alloc())?);
     Ok(())
 }
 
@@ -119,20 +141,25 @@ fn runs_word(board: &mut Tested, word: u32) -> bool {
     }
 }
 
-/// `ba,a` over a SAVE, and `bne,a` not taken over a store: the slot is one turn that changes neither the window nor memory.
-#[test]
-fn annulled_slots_are_turns_without_effect(rt: HostRuntime) -> Result<(), Fail> {
-    let alloc = rt.alloc();
-    let mut plain = board(alloc, 0)?;
+/// Whether each of these branches annuls its slot, the turn after so many.
+fn annuls_each(board: &mut Tested, alloc: Global) -> Result<bool, Fail> {
     for (words, before) in [
         (&[0x3080_0002, SAVE, NOP][..], 1),
         (&[0x80A0_0000, 0x3280_0002, 0xDC23_A000, NOP][..], 2),
     ] {
-        load(&mut plain, alloc, words)?;
-        assert!(rt; runs(&mut plain, before), "{words:?}");
-        assert!(rt; annuls_without_effect(&mut plain), "{words:?}");
-        assert!(rt; runs_word(&mut plain, NOP), "{words:?}");
+        load(board, alloc, words)?;
+        if !(runs(board, before) && annuls_without_effect(board) && runs_word(board, NOP)) {
+            return Ok(false);
+        }
     }
+    Ok(true)
+}
+
+/// `ba,a` over a SAVE, and `bne,a` not taken over a store: the slot is one turn that changes neither the window nor memory.
+#[test]
+fn annulled_slots_are_turns_without_effect(rt: HostRuntime) -> Result<(), Fail> {
+    let mut plain = board(rt.alloc(), 0)?;
+    assert!(rt; annuls_each(&mut plain, rt.alloc())?);
     Ok(())
 }
 
@@ -194,13 +221,19 @@ fn makes(board: &mut Tested, turns: u32) -> bool {
     true
 }
 
+/// Whether a store to the device fails once without effect, and then completes.
+fn stores_after_a_failure(board: &mut Tested) -> bool {
+    makes(board, 3)
+        && fails_without_effect(board)
+        && stores_in_the_device(board)
+        && kept(board, b"H")
+        && board.ending().is_none()
+}
+
 /// A store to the device whose port fails leaves everything as it was; the same store completes once the port works.
 #[test]
 fn failed_store_is_done_again(rt: HostRuntime) -> Result<(), Fail> {
     let mut failing = loaded_with(rt.alloc(), &GREETING)?;
-    assert!(rt; makes(&mut failing, 3));
-    assert!(rt; fails_without_effect(&mut failing));
-    assert!(rt; stores_in_the_device(&mut failing));
-    assert!(rt; kept(&failing, b"H") && failing.ending().is_none());
+    assert!(rt; stores_after_a_failure(&mut failing));
     Ok(())
 }

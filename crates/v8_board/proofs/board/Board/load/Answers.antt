@@ -1,6 +1,6 @@
 use Rattle.std.proofs.lemmas.Grind.{common_steps}
 use Rattle.std.proofs.Common.{◌≡◌, ◌^◌, ◌<◌, ap, arith}
-use Rattle.v8_state.specs.declared.state.Control.{Control}
+use Rattle.v8_core.specs.Control.{Control}
 use Rattle.v8_board.proofs.Placed.{placed_loaded, placed_maps}
 use Rattle.v8_board.proofs.Contained.{boots_state, control_is, loads_contained}
 use Rattle.v8_board.proofs.board.Board.load.Goals as goal

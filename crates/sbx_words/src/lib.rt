@@ -1,4 +1,6 @@
 //! What the words of a command line ask for.
+#![tactic(auto)]
+
 ghost use Rattle.std.specs.Prelude.{IfOk, IfSome};
 ghost use Rattle.sbx_command.specs.Jobs.{IsInRange};
 
@@ -9,7 +11,7 @@ use std::alloc::{AllocError, Global};
 use std::convert::AsStr;
 
 /// Why there is nothing to do.
-#[derive(Debug, Drop)]
+#[derive(Drop)]
 pub enum Usage {
     /// The words ask for nothing: the text that says so.
     Text(String),
@@ -157,6 +159,3 @@ pub fn read_words<'a, S: AsStr>(alloc: Global, words: &'a [S]) -> Result<Job<'a>
         None => Err(limit_usage(alloc)),
     }
 }
-
-#[cfg(test)]
-mod tests;

@@ -1,5 +1,6 @@
-//! Command lines and what they ask for.
-use super::{Job, Usage, read_words};
+// Command lines and what they ask for.
+use sbx_command::Job;
+use sbx_words::{Usage, read_words};
 use std::alloc::Global;
 
 const ASM: Job<'static> = Job::Asm {

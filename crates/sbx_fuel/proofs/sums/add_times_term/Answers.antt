@@ -1,0 +1,12 @@
+use Rattle.std.proofs.Common.{◌≡◌, ℕ, ◌+◌, ◌*ℤ◌, ◌^◌, ◌≤◌, unsigned_abs, rules, arith, sym, ap, subst, to_z, of_z}
+use Rattle.std.specs.Int.{w128}
+use Rattle.std.proofs.lemmas.Int.{to_z-of_z}
+use mir.Val.{SFits}
+use Rattle.sbx_form.proofs.Bounds.{within_at}
+use Rattle.sbx_fuel.proofs.sums.add_times_term.Goals as goal
+
+pub add_term-requires : goal.add_term-requires
+add_term-requires c =
+    let f : SFits w128 c.product.result = search rules in
+    let e : to_z w128 (of_z w128 c.product.result) ≡ c.product.result = to_z-of_z w128 c.product.result f in
+    (search rules, (search rules, ((λ k t h. (let b = within_at (2 ^ 90) c.args.terms.now.items k t c.requires.small h in omega arith)), rw e (omega (arith, c.product.ensures.bound)))))

@@ -1,0 +1,11 @@
+//! Verdicts and runs of images, against rows that were worked out by hand.
+#![tactic(auto)]
+
+#[cfg(test)]
+mod images;
+#[cfg(test)]
+mod runs;
+#[cfg(test)]
+mod verdicts;
+#[cfg(test)]
+mod words;

@@ -1,0 +1,44 @@
+//! What the flat machine reads of code words, and the laws that its definitions keep.
+use crate::images::HELLO;
+use sbx_flat::laws::{
+    each_step_counts, frames_come_and_go, invariants_make_safe, registers_keep_words,
+};
+use sbx_flat::{asked, declares, service_of, weight_of, word_at};
+use sbx_image::Services;
+use std::marker::Brand;
+use v8_meaning::Operation;
+
+/// The service that a word calls.
+fn called(word: u32) -> Option<u32> {
+    match asked(word) {
+        Operation::TrapOnCondition(trap) => service_of(&trap),
+        _ => None,
+    }
+}
+
+#[test]
+fn reads_code_words(rt: HostRuntime) {
+    let weights = [
+        (0x9de3_bfa0, 25),
+        (0x81e8_0000, 25),
+        (0x91d0_2000, 3),
+        (0x91d0_2001, 5),
+        (0x91d0_2002, 5),
+        (0x9202_2005, 1),
+    ];
+    for (word, weight) in weights {
+        assert!(rt; weight_of(&asked(word)) == weight, "{word}");
+    }
+    assert!(rt; called(0x91d0_2002) == Some(2));
+    assert!(rt; word_at(&HELLO, 0x0004_0004) == Some(0x91d0_2002));
+    assert!(rt; word_at(&HELLO, 0x0004_0018).is_none());
+    assert!(rt; declares(Services::EXIT, 0) && !declares(Services::EXIT, 1));
+}
+
+#[test]
+fn laws_return(_rt: HostRuntime) {
+    registers_keep_words();
+    frames_come_and_go();
+    each_step_counts();
+    invariants_make_safe::<Brand>();
+}
