@@ -1,6 +1,6 @@
 -- Each number of a block's ranges is that of a word, so that a block has words to begin with; and from there control comes to each
 -- of its words. Then fuel is positive.
-use Rattle.std.proofs.Common.{◌≡◌, ℕ, zero, suc, ◌+◌, ◌^◌, ◌<◌, ◌≤◌, ℤ, Bool, true, false, List, Option, Some, None, Ok, refl, sym, ap, ◌∙◌, subst, arith}
+use Rattle.std.proofs.Common.{◌≡◌, ℕ, zero, suc, ◌+◌, ◌^◌, ◌<◌, ℤ, Bool, true, false, List, Option, Some, None, Ok, refl, sym, ◌∙◌, subst, arith}
 use Rattle.std.specs.Prelude.{pos, ◌+ℤ◌, ◌≤ℤ◌, nat_lt, if◌then◌else◌}
 use Rattle.std.specs.Int.{cast_unsigned, w32}
 use Rattle.std.specs.List.{AllByRecursion}
@@ -15,7 +15,7 @@ use Rattle.sbx_image.specs.declared.parts.Parts.{Parts}
 use Rattle.sbx_image.specs.declared.parts.Range.{Range}
 use Rattle.sbx_form.specs.Forms.{Cells}
 use Rattle.sbx_domain.specs.declared.entry.Entry.{Entry}
-use Rattle.sbx_domain.specs.Fits.{HasForm, HasInterval, Near, Words}
+use Rattle.sbx_domain.specs.Fits.{HasForm, HasInterval}
 use Rattle.sbx_domain.specs.Forms.{Form, form_of_location, form_value}
 use Rattle.sbx_domain.specs.Known.{cell_entry, form_of_entry, is_location, range_of_entry, started}
 use Rattle.sbx_rules.specs.Fuel.{InCells}
@@ -23,10 +23,10 @@ use Rattle.sbx_rules.specs.Places.{IsPlace, words_in}
 use Rattle.sbx_rules.specs.Verdicts.{Checked}
 use Rattle.sbx_rules.specs.Ways.{Visit, cells_at, state_at}
 use Rattle.sbx_sound.specs.Positive.{FuelStaysPositive, IsPositive}
-use Rattle.sbx_sound.specs.Running.{left_at, straight_visit}
+use Rattle.sbx_sound.specs.Running.{straight_visit}
 use Rattle.sbx_sound.proofs.Arrivals.{is_straight_visit}
 use Rattle.sbx_sound.proofs.Bounded.{IsGoodEntry, entry_good, left_is_bounded, lowest}
-use Rattle.sbx_sound.proofs.Limits.{IsGoodCell, IsGoodRange, cells_good, have_results, in_written, ordered, words_few, written_in}
+use Rattle.sbx_sound.proofs.Limits.{IsGoodCell, cells_good, have_results, in_written, ordered, words_few, written_in}
 use Rattle.sbx_sound.proofs.NearWords.{HasNear}
 use Rattle.sbx_sound.proofs.Onward.{HasVisit, before_straight, on, visit_then}
 use Rattle.sbx_sound.proofs.Positive.{Point, left_of, positive}

@@ -1,17 +1,15 @@
 -- The slot of a branch, from the rules: on each of its ways control goes to another block, whether the slot is annulled or not.
-use Rattle.std.proofs.Common.{◌≡◌, ◌≢◌, ℕ, suc, ◌+◌, ◌<◌, ◌≤◌, Bool, true, false, length, Option, Some, None, refl, sym, ap, ◌∙◌, subst, inl, inr, arith}
+use Rattle.std.proofs.Common.{◌≡◌, ◌≢◌, ℕ, suc, ◌+◌, ◌<◌, ◌≤◌, Bool, true, false, length, refl, ap, ◌∙◌, subst, inl, inr, arith}
 use Rattle.std.specs.Prelude.{◌⊎◌, ◌&&◌, not, nat_le, nat_lt, if◌then◌else◌}
 use Rattle.std.proofs.lemmas.Bool.Decides.{nat_tests}
 use Rattle.v8_formats.specs.declared.instr.Branch.{Branch}
 use Rattle.v8_meaning.specs.Operands.{is_always}
 use Rattle.v8_meaning.specs.declared.operation.Operation.{Operation}
 use Rattle.v8_meaning.specs.declared.operation.Operation.TheVariants.{BranchOnCondition, Restore, Save, TrapOnCondition}
-use Rattle.sbx_image.specs.declared.parts.Function.{Function}
 use Rattle.sbx_image.specs.declared.parts.Parts.{Parts}
 use Rattle.sbx_flat.specs.Runs.{weight_of}
 use Rattle.sbx_range.specs.Refining.{opposite}
 use Rattle.sbx_form.specs.Forms.{Cells}
-use Rattle.sbx_domain.specs.Known.{Known}
 use Rattle.sbx_domain.specs.Refining.{refined}
 use Rattle.sbx_domain.specs.Transfer.{transferred}
 use Rattle.sbx_rules.specs.Fuel.{IsPaid}
@@ -27,7 +25,7 @@ use Rattle.sbx_sound.proofs.Arrivals.{after_no_call}
 use Rattle.sbx_sound.proofs.Asked.{branches_well, has_shape, restores_in_slot}
 use Rattle.sbx_sound.proofs.FromChecked.{edge_has_cells, edge_is_paid, goes_somewhere}
 use Rattle.sbx_sound.proofs.Goes.{FallsNext, FallsTo, begin_place, falls_by, there}
-use Rattle.sbx_sound.proofs.Onward.{HaveResults, LeadsTo, branch_leads, no_more, past_no}
+use Rattle.sbx_sound.proofs.Onward.{HaveResults, branch_leads, no_more, past_no}
 use Rattle.sbx_sound.proofs.OtherSteps.{annulled_slot}
 use Rattle.sbx_sound.proofs.Returning.{PlainWordsDo, slot_is_no_save, slot_is_plain, slot_keeps_on}
 use Rattle.sbx_sound.proofs.Safe.{Spot, Steps}

@@ -1,6 +1,6 @@
 -- The slot of a CALL, from the rules: the callee begins, and what is left to its caller is positive.
-use Rattle.std.proofs.Common.{◌≡◌, ℕ, zero, suc, ◌+◌, ◌-◌, ◌<◌, ◌≤◌, ℤ, Bool, true, false, length, Option, Some, None, refl, sym, ap, subst, inl, inr, arith}
-use Rattle.std.specs.Prelude.{◌⊎◌, pos, ◌+ℤ◌, ◌-ℤ◌, ◌≤ℤ◌}
+use Rattle.std.proofs.Common.{◌≡◌, ℕ, suc, ◌≤◌, ℤ, Bool, true, false, Option, Some, None, refl, ap, subst, inl, inr, arith}
+use Rattle.std.specs.Prelude.{pos, ◌+ℤ◌, ◌-ℤ◌, ◌≤ℤ◌}
 use Rattle.std.proofs.lemmas.Int.{ints}
 use Rattle.v8_meaning.specs.declared.operation.Operation.TheVariants.{Call}
 use Rattle.sbx_image.specs.declared.parts.Parts.{Parts}
@@ -8,7 +8,7 @@ use Rattle.sbx_form.specs.Forms.{Cells}
 use Rattle.sbx_domain.specs.Forms.{form_value}
 use Rattle.sbx_rules.specs.Fuel.{InCells}
 use Rattle.sbx_rules.specs.Operations.{is_call, is_framed_return, is_restore, is_transfer}
-use Rattle.sbx_rules.specs.Places.{IsPlace, callee_at, ends_run, op_at, op_before, words_in}
+use Rattle.sbx_rules.specs.Places.{IsPlace, callee_at, ends_run, op_at, op_before}
 use Rattle.sbx_rules.specs.Rules.{is_later, same_test}
 use Rattle.sbx_rules.specs.Verdicts.{Checked}
 use Rattle.sbx_rules.specs.Ways.{falls, fuel_at, state_at, weight_to}

@@ -1,11 +1,10 @@
 -- A call into a function, and the return to its caller.
 use Rattle.sbx_sound.proofs.Entries.{called_kept}
-use Rattle.std.proofs.Common.{◌≡◌, ℕ, suc, ◌+◌, ◌<◌, ◌≤◌, Bool, true, false, List, ◌∷◌, length, Option, Some, None, refl, sym, ap, ◌∙◌, subst, arith}
-use Rattle.std.specs.Prelude.{pos, ◌+ℤ◌, ◌-ℤ◌, ◌≤ℤ◌, nat_le, if◌then◌else◌}
+use Rattle.std.proofs.Common.{◌≡◌, ℕ, suc, ◌+◌, ◌≤◌, Bool, true, false, List, ◌∷◌, length, Some, refl, sym, ap, ◌∙◌, subst, arith}
+use Rattle.std.specs.Prelude.{pos, ◌+ℤ◌, ◌-ℤ◌, ◌≤ℤ◌, nat_le}
 use Rattle.v8_meaning.specs.Operands.{following}
 use Rattle.sbx_image.specs.declared.parts.Parts.{Parts}
 use Rattle.sbx_image.specs.declared.parts.Function.{Function}
-use Rattle.sbx_image.specs.declared.parts.Range.{Range}
 use Rattle.sbx_flat.specs.Registers.{Words}
 use Rattle.sbx_flat.specs.Runs.{budget, weight_of}
 use Rattle.sbx_rules.specs.Fuel.{IsWithinBudget}
@@ -13,7 +12,7 @@ use Rattle.sbx_rules.specs.Rules.{has_cells, is_defined}
 use Rattle.sbx_rules.specs.Operations.{is_call, is_framed}
 use Rattle.sbx_domain.specs.Fits.{Fits, HasAlignment, HasForm, HasInterval}
 use Rattle.sbx_domain.specs.Known.{Known, range_at, form_at, range_of_entry, form_of_entry}
-use Rattle.sbx_domain.specs.Forms.{Form, form_value}
+use Rattle.sbx_domain.specs.Forms.{form_value}
 use Rattle.sbx_rules.specs.Ways.{Way, after_call, budget_of_callee, cells_at, falls, fuel_at, state_at, weight_to}
 use Rattle.sbx_rules.specs.Places.{address_of, callee_at, callee_before, function_at, op_at}
 use Rattle.sbx_sound.specs.Running.{At, Follows, GoesTo, IsOpen, IsThere, entry_of, left_at, left_to_all, straight_visit}

@@ -1,5 +1,5 @@
 -- What loads, stores and exchanges of data do, by the rules.
-use Rattle.std.proofs.Common.{◌≡◌, ◌≢◌, ℕ, zero, suc, ◌+◌, ◌-◌, ◌*◌, ◌/◌, ◌%◌, ◌^◌, ◌<◌, ◌≤◌, ℤ, Bool, true, false, List, [], ◌∷◌, ◌++◌, length, Option, Some, None, refl, sym, ap, ◌∙◌, subst, arith}
+use Rattle.std.proofs.Common.{◌≡◌, ◌≢◌, ℕ, zero, suc, ◌+◌, ◌-◌, ◌*◌, ◌/◌, ◌%◌, ◌^◌, ◌<◌, ◌≤◌, Bool, true, false, List, [], ◌∷◌, ◌++◌, length, Option, Some, None, refl, sym, ap, ◌∙◌, subst, arith}
 use Rattle.std.specs.Prelude.{◌==◌, ◌&&◌, ◌||◌, not, nat_lt, nat_le, slice_get, if◌then◌else◌}
 use Rattle.std.proofs.lemmas.Bool.Decides.{nat_tests}
 use Rattle.v8_word.specs.declared.Size.{Size}
@@ -11,21 +11,20 @@ use Rattle.v8_meaning.specs.declared.operation.Exchange.TheVariants as exchanges
 use Rattle.v8_meaning.specs.declared.operation.Loading.{Loading}
 use Rattle.v8_meaning.specs.declared.operation.Loading.TheVariants as loadings
 use Rattle.v8_meaning.specs.declared.operation.MemoryOperand.{MemoryOperand}
-use Rattle.v8_meaning.specs.declared.operation.Operation.{Operation}
 use Rattle.v8_meaning.specs.declared.operation.Operation.TheVariants.{Transfer}
 use Rattle.v8_meaning.specs.declared.operation.Transfer.{Transfer as Moving}
 use Rattle.v8_meaning.specs.declared.operation.Transfer.TheVariants.{Load, Store, Exchange}
 use Rattle.v8_meaning.specs.Operands.{second, sum_address}
-use Rattle.v8_meaning.specs.Transfers.{bytes_in, exchanged_size, filled, left_behind, loaded, loaded_size, odd_of, size_of, stored}
+use Rattle.v8_meaning.specs.Transfers.{bytes_in, exchanged_size, filled, left_behind, loaded, odd_of, size_of, stored}
 use Rattle.sbx_image.specs.declared.parts.Function.{Function}
 use Rattle.sbx_image.specs.declared.parts.Parts.{Parts}
 use Rattle.sbx_image.specs.declared.parts.Range.{Range}
 use Rattle.sbx_range.specs.Ranges.{all}
-use Rattle.sbx_flat.specs.Effects.{address_in, does, is_stack_pointer, takes, transfers, transfers_data, transfers_in, writes}
-use Rattle.sbx_flat.specs.Memory.{Bytes, byte_of, number_at, with_number}
-use Rattle.sbx_flat.specs.Registers.{Fresh, Words}
-use Rattle.sbx_flat.specs.Runs.{data_start, reached_by}
-use Rattle.sbx_flat.specs.States.{State, Turn, Goes, Fails, advanced, reg, with_reg}
+use Rattle.sbx_flat.specs.Effects.{address_in, does, takes, transfers, transfers_data, writes}
+use Rattle.sbx_flat.specs.Memory.{byte_of, with_number}
+use Rattle.sbx_flat.specs.Registers.{Words}
+use Rattle.sbx_flat.specs.Runs.{reached_by}
+use Rattle.sbx_flat.specs.States.{State, Goes, Fails, advanced, reg, with_reg}
 use Rattle.sbx_flat.specs.declared.path.Wrong.TheVariants.{StackPointer}
 use Rattle.sbx_domain.specs.declared.entry.Entry.{Entry}
 use Rattle.sbx_domain.specs.Fits.{Fits, with_word}
@@ -38,14 +37,14 @@ use Rattle.sbx_fits.proofs.Memory.{data_keeps_fitting}
 use Rattle.sbx_rules.specs.Operations.{Access, access_of, address_reads, frame_offset, is_framed, is_reserved, moved_reads, moved_writes, reads_of, second_reads, writes_of}
 use Rattle.sbx_rules.specs.Places.{function_at}
 use Rattle.sbx_rules.specs.Rules.{is_aligned_access, is_aligned_at, is_defined, is_placed_access, is_placed_at, is_some, reads_undefined, touches_reserved}
-use Rattle.sbx_sound.specs.LowFields.{LowOperand, LowThree}
+use Rattle.sbx_sound.specs.LowFields.{LowThree}
 use Rattle.sbx_sound.specs.Running.{tests, window_of}
 use Rattle.sbx_sound.specs.Shared.{KnownParts, Lent, Shared, Shows, Window, with_location}
 use Rattle.sbx_sound.proofs.Addresses.{IsInData, lies_in_data}
 use Rattle.sbx_sound.proofs.DataWords.{ReachesData, is_aligned, loads_data, number_same, stores_data}
 use Rattle.sbx_sound.proofs.Effects.{IsFewer, Reaches, moved_on, reaches_by, takes_one, with_word_known, writes_reach}
 use Rattle.sbx_sound.proofs.Frames.{IsFree, write_shows}
-use Rattle.sbx_sound.proofs.Moves.{moves_one, operand_of, register_shown, second_read}
+use Rattle.sbx_sound.proofs.Moves.{operand_of, register_shown, second_read}
 use Rattle.sbx_sound.proofs.Read.{free_register, read_free, read_known, second_shown, write_allowed}
 use Rattle.sbx_sound.proofs.Safe.{ShowsSpot, Spot}
 use Rattle.sbx_sound.proofs.Steps.{Does, and_left, and_right, linked_at, op_of}

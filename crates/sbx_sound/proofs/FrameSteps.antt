@@ -1,8 +1,7 @@
 -- What LD and ST of a frame word do, by the rules.
-use Rattle.std.proofs.Common.{◌≡◌, ◌≢◌, ℕ, ◌+◌, ◌*◌, ◌^◌, ◌<◌, ◌≤◌, ℤ, Bool, true, false, List, [], ◌∷◌, ◌++◌, Option, Some, None, refl, sym, ap, ◌∙◌, subst, arith}
-use Rattle.std.specs.Prelude.{pos, ◌+ℤ◌, ◌==◌, ◌&&◌, ◌||◌, not, slice_get, if◌then◌else◌}
+use Rattle.std.proofs.Common.{◌≡◌, ℕ, ◌+◌, ◌*◌, ◌^◌, ◌<◌, ◌≤◌, ℤ, Bool, true, false, [], ◌∷◌, ◌++◌, Some, None, refl, sym, ap, ◌∙◌, subst, arith}
+use Rattle.std.specs.Prelude.{pos, ◌+ℤ◌, ◌==◌, ◌&&◌, not, slice_get, if◌then◌else◌}
 use Rattle.std.proofs.lemmas.Bool.Decides.{nat_tests}
-use Rattle.std.proofs.lemmas.Int.{ints}
 use Rattle.v8_word.specs.declared.Size.TheVariants as sizes
 use Rattle.v8_formats.specs.declared.instr.Operand.{Operand}
 use Rattle.v8_formats.specs.declared.instr.Operand.TheVariants.{Register, Immediate}
@@ -18,22 +17,20 @@ use Rattle.sbx_image.specs.declared.parts.Function.{Function}
 use Rattle.sbx_image.specs.declared.parts.Parts.{Parts}
 use Rattle.sbx_flat.specs.Effects.{address_in}
 use Rattle.sbx_flat.specs.States.{State, reg}
-use Rattle.sbx_domain.specs.declared.entry.Entry.{Entry}
 use Rattle.sbx_domain.specs.Known.{Known, with_entry}
 use Rattle.sbx_domain.specs.Results.{address_of, operand_entry, register_entry}
 use Rattle.sbx_domain.specs.Transfer.{frame_word_of, offset_from_sp, transferred, with_moved, word_at_offset}
 use Rattle.sbx_fits.specs.Held.{Held}
 use Rattle.sbx_fits.proofs.Memory.{frame_words_keep_fitting}
-use Rattle.sbx_rules.specs.Operations.{Access, access_of, address_reads, frame_offset, frame_word_read, is_framed, moved_reads, moves_word, reads_of, writes_of}
+use Rattle.sbx_rules.specs.Operations.{Access, access_of, address_reads, frame_offset, frame_word_read, is_framed, moved_reads, reads_of, writes_of}
 use Rattle.sbx_rules.specs.Places.{function_at}
 use Rattle.sbx_rules.specs.Rules.{is_aligned_access, is_aligned_at, is_defined, is_placed_access, is_placed_at, is_undefined_word, reads_undefined, touches_reserved}
 use Rattle.sbx_sound.specs.LowFields.{LowOperand, LowThree}
 use Rattle.sbx_sound.specs.Running.{bytes_of, tests, window_of}
-use Rattle.sbx_sound.specs.Shared.{Lent, Own, Shared, Shows, base_below, stack_start}
+use Rattle.sbx_sound.specs.Shared.{Lent, Own, Shows, base_below, stack_start}
 use Rattle.sbx_sound.proofs.Addresses.{IsWordOffset, by_fp, by_sp, lies_in_frame, word_at}
 use Rattle.sbx_sound.proofs.Effects.{read_sp}
 use Rattle.sbx_sound.proofs.FrameWords.{NamesWord, loads_word, read_fp, stores_word}
-use Rattle.sbx_sound.proofs.Frames.{IsFree}
 use Rattle.sbx_sound.proofs.Moves.{register_shown}
 use Rattle.sbx_sound.proofs.OtherSteps.{base_small}
 use Rattle.sbx_sound.proofs.Read.{free_register, read_known, word_known, write_allowed}

@@ -45,3 +45,5 @@ pub mod Begun
 pub mod Returning
 pub mod Calling
 pub mod Branching
+pub mod EachWord
+pub mod Whole

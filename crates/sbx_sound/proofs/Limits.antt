@@ -1,12 +1,12 @@
 -- What an image keeps of the limits of its format, as far as a run asks for it: ranges with words, counts, and the order of its code.
-use Rattle.std.proofs.Common.{◌≡◌, ℕ, zero, suc, ◌+◌, ◌*◌, ◌^◌, ◌<◌, ◌≤◌, ℤ, Bool, true, false, List, [], ◌∷◌, length, Option, Some, None, Result, Ok, refl, sym, ap, ◌∙◌, subst, arith}
-use Rattle.std.specs.Prelude.{pos, negsuc, ◌≤ℤ◌, ◌==◌, ◌&&◌, not, nat_lt, nat_le, int_lt, if◌then◌else◌, slice_get}
+use Rattle.std.proofs.Common.{◌≡◌, ℕ, zero, suc, ◌+◌, ◌*◌, ◌^◌, ◌<◌, ◌≤◌, ℤ, true, List, [], ◌∷◌, length, Option, Some, None, Result, Ok, refl, sym, subst, arith}
+use Rattle.std.specs.Prelude.{pos, negsuc, ◌≤ℤ◌, not, int_lt, slice_get}
 use Rattle.std.specs.List.{AllByRecursion}
 use Rattle.std.specs.Int.{cast_unsigned, w32}
 use Rattle.std.proofs.lemmas.Bool.Decides.{nat_tests}
 use Rattle.std.proofs.lemmas.Int.{ints}
 use Rattle.v8_alu.specs.Results.{signed}
-use Rattle.sbx_image.specs.Rules.{block_keeps, cell_keeps, code_start, each, function_keeps, is_fuel, parts_keep, range_keeps, ranges_keep, term_keeps, Place}
+use Rattle.sbx_image.specs.Rules.{block_keeps, cell_keeps, code_start, each, function_keeps, is_fuel, parts_keep, range_keeps, ranges_keep, Place}
 use Rattle.sbx_image.specs.Spelling.{IsTyped, IsTypedBlock, IsTypedCell, IsTypedFunction, IsTypedRange, IsTypedTerm}
 use Rattle.sbx_image.specs.Order as order
 use Rattle.sbx_image.specs.declared.fault.ImageFault.{ImageFault}
@@ -17,7 +17,6 @@ use Rattle.sbx_image.specs.declared.parts.Cell.{Cell}
 use Rattle.sbx_image.specs.declared.parts.Function.{Function}
 use Rattle.sbx_image.specs.declared.parts.Parts.{Parts}
 use Rattle.sbx_image.specs.declared.parts.Range.{Range}
-use Rattle.sbx_image.specs.declared.parts.Term.{Term}
 use Rattle.sbx_image.proofs.Fields.{bind_ok, is_between}
 use Rattle.sbx_image.proofs.Limits.{block_kept, cell_kept, function_kept, location_kept, parts_kept, range_kept, words_within}
 use Rattle.sbx_image.proofs.Ordered.{in_order}
@@ -26,9 +25,8 @@ use Rattle.sbx_range.specs.Ranges.{InInterval}
 use Rattle.sbx_domain.specs.Known.{is_location}
 use Rattle.sbx_rules.specs.Places.{address_of, block_at, function_at, no_block, no_function, or_block, or_function, words_in}
 use Rattle.sbx_rules.specs.Ways.{cells_at, out_cells}
-use Rattle.sbx_sound.specs.Order.{HasWords, IsOrdered}
+use Rattle.sbx_sound.specs.Order.{IsOrdered}
 use Rattle.sbx_sound.proofs.Onward.{HaveResults}
-use Rattle.sbx_sound.proofs.Positive.{HasWord}
 
 -- what each item keeps with its fields, each item of a list keeps
 each_good : {A S : Type 0} (keeps : S → A → Result S ImageFault) (P Q : A → Type 0) (one : (s : S) (a : A) (t : S) → keeps s a ≡ Ok t → P a → Q a) (xs : List A) (s t : S) → each keeps s xs ≡ Ok t → AllByRecursion P xs → AllByRecursion Q xs

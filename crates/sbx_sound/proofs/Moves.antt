@@ -1,6 +1,6 @@
 -- What SETHI, RDY, WRY, divisions and the tagged operations that may trap do, by the rules.
-use Rattle.std.proofs.Common.{◌≡◌, ◌≢◌, ℕ, ◌<◌, ◌^◌, Bool, true, false, List, [], ◌∷◌, Option, Some, None, refl, sym, ap, ◌∙◌, subst, arith}
-use Rattle.std.specs.Prelude.{◌==◌, ◌&&◌, ◌||◌, not, nat_lt, slice_get, if◌then◌else◌, bit_xor, int_lt, pos}
+use Rattle.std.proofs.Common.{◌≡◌, ◌≢◌, ℕ, ◌<◌, ◌^◌, Bool, true, false, ◌∷◌, Option, Some, None, refl, sym, ap, ◌∙◌, subst, arith}
+use Rattle.std.specs.Prelude.{◌==◌, ◌&&◌, ◌||◌, not, slice_get, if◌then◌else◌, bit_xor, int_lt, pos}
 use Rattle.std.proofs.lemmas.Bool.Decides.{nat_tests}
 use Rattle.v8_word.specs.declared.Icc.{Icc}
 use Rattle.v8_formats.specs.declared.instr.Operand.{Operand}
@@ -22,10 +22,8 @@ use Rattle.sbx_image.specs.declared.parts.Function.{Function}
 use Rattle.sbx_image.specs.declared.parts.Parts.{Parts}
 use Rattle.sbx_image.specs.declared.parts.Range.{Range}
 use Rattle.sbx_range.specs.Laws.{AreIn, is_some as is_there}
-use Rattle.sbx_range.specs.Ranges.{IsAligned}
-use Rattle.sbx_range.specs.Rows.{excludes_zero}
 use Rattle.sbx_range.proofs.Alignments.{divisions_have_results, tagged_operations_have_results}
-use Rattle.sbx_flat.specs.Effects.{does, high_word, operand_value, writes, writes_result, writes_some}
+use Rattle.sbx_flat.specs.Effects.{does, high_word, operand_value, writes, writes_some}
 use Rattle.sbx_flat.specs.Registers.{Fresh, written}
 use Rattle.sbx_flat.specs.Runs.{reached_by}
 use Rattle.sbx_flat.specs.declared.path.Wrong.TheVariants.{TagOverflow, ZeroDivisor}
@@ -51,7 +49,7 @@ use Rattle.sbx_sound.proofs.Frames.{IsFree}
 use Rattle.sbx_sound.proofs.Read.{free_register, read_known, second_shown, write_allowed, y_known}
 use Rattle.sbx_sound.proofs.Safe.{ShowsSpot, Spot}
 use Rattle.sbx_sound.proofs.Steps.{Does, linked_at, op_of}
-use Rattle.sbx_sound.proofs.Writing.{Leaves, entry_defined, keeps_codes, keeps_y, then_knows, writes_one}
+use Rattle.sbx_sound.proofs.Writing.{entry_defined, keeps_codes, keeps_y, then_knows, writes_one}
 use Rattle.sbx_sound.proofs.Written.{entry_codes, entry_y, fits_shown, other_defined}
 
 undone : (x : Bool) → not x ≡ false → x ≡ true

@@ -1,6 +1,6 @@
 -- What each word does that neither transfers control, nor changes frames, nor ends the run, by the rules.
-use Rattle.std.proofs.Common.{◌≡◌, ℕ, zero, suc, ◌<◌, ◌≤◌, ℤ, Bool, true, false, length, Option, Some, None, refl, sym, ap, ◌∙◌, subst, arith}
-use Rattle.std.specs.Prelude.{◌==◌, ◌&&◌, not, nat_le, if◌then◌else◌}
+use Rattle.std.proofs.Common.{◌≡◌, ℕ, ◌<◌, ◌≤◌, ℤ, Bool, true, false, length, Option, Some, None, refl, arith}
+use Rattle.std.specs.Prelude.{◌==◌, ◌&&◌, not, if◌then◌else◌}
 use Rattle.std.proofs.lemmas.Bool.Decides.{nat_tests}
 use Rattle.v8_word.specs.declared.Size.TheVariants as sizes
 use Rattle.v8_meaning.specs.Admitted.{is_admitted}
@@ -15,23 +15,23 @@ use Rattle.sbx_image.specs.declared.parts.Parts.{Parts}
 use Rattle.sbx_domain.specs.Known.{Known}
 use Rattle.sbx_domain.specs.Transfer.{offset_from_sp}
 use Rattle.sbx_rules.specs.Operations.{access_of, frame_offset, is_framed, is_restore, is_save, is_transfer, moves_word}
-use Rattle.sbx_rules.specs.Places.{IsPlace, ends_run, function_at, is_exit, op_at, service_asked, word_of_place}
+use Rattle.sbx_rules.specs.Places.{ends_run, function_at, op_at, service_asked, word_of_place}
 use Rattle.sbx_rules.specs.Rules.{is_aligned_access, is_declared, is_entry, is_frame_size, is_placed_access, is_save_of, may_divide_by_zero, may_overflow, reads_undefined, touches_reserved}
 use Rattle.sbx_rules.specs.Verdicts.{Checked}
 use Rattle.sbx_sound.specs.LowFields.{LowFields}
 use Rattle.sbx_sound.specs.Order.{IsOrdered}
 use Rattle.sbx_sound.specs.Running.{bytes_of, window_of}
-use Rattle.sbx_sound.specs.Shared.{Lent, Own, Window}
+use Rattle.sbx_sound.specs.Shared.{Lent}
 use Rattle.sbx_sound.proofs.Asked.{admitted, asks_declared, divides_well, enters, fits_tagged, keeps_reserved, reaches_aligned, reaches_placed, reads_known}
 use Rattle.sbx_sound.proofs.DataSteps.{accesses, exchanges_data, loads, stores}
-use Rattle.sbx_sound.proofs.FrameSteps.{AccessesFrame, HasFrame, loads_frame_word, stores_frame_word}
+use Rattle.sbx_sound.proofs.FrameSteps.{HasFrame, loads_frame_word, stores_frame_word}
 use Rattle.sbx_sound.proofs.Goes.{begin_place}
 use Rattle.sbx_sound.proofs.LowFields.{low_fields}
 use Rattle.sbx_sound.proofs.Moves.{divides, reads_the_y, sets_high, tags, writes_the_y}
 use Rattle.sbx_sound.proofs.Read.{computes_checked}
 use Rattle.sbx_sound.proofs.Safe.{Spot}
 use Rattle.sbx_sound.proofs.Served.{serves}
-use Rattle.sbx_sound.proofs.Steps.{Does, and_left, and_right, op_of}
+use Rattle.sbx_sound.proofs.Steps.{Does, and_right, op_of}
 use Rattle.sbx_sound.proofs.Straight.{inside, lent_leaf, own_inside}
 use Rattle.sbx_sound.proofs.Wells.{enters_framed}
 

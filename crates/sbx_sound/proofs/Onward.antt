@@ -1,11 +1,11 @@
 -- From words in the intervals at a place of a checked image the run ends there, goes on to the next word, or to another block.
-use Rattle.std.proofs.Common.{◌≡◌, ℕ, zero, suc, ◌+◌, ◌-◌, ◌<◌, Bool, true, false, List, [], ◌∷◌, length, Option, Some, None, refl, sym, ap, ◌∙◌, subst, inl, inr, ⊎_elim, arith}
+use Rattle.std.proofs.Common.{◌≡◌, ℕ, zero, suc, ◌+◌, ◌<◌, Bool, true, false, List, [], ◌∷◌, length, Option, Some, None, refl, ap, ◌∙◌, subst, inl, inr, ⊎_elim, arith}
 use Rattle.std.specs.Prelude.{◌⊎◌, ◌==◌, ◌&&◌, not, nat_lt, nat_le, if◌then◌else◌, slice_get}
 use Rattle.std.proofs.lemmas.Bool.Decides.{nat_tests}
 use Rattle.v8_word.specs.Conditions.{holds}
 use Rattle.v8_formats.specs.declared.instr.Branch.{Branch}
 use Rattle.v8_meaning.specs.declared.operation.Operation.{Operation}
-use Rattle.v8_meaning.specs.declared.operation.Operation.TheVariants.{BranchOnCondition, Call, JumpAndLink}
+use Rattle.v8_meaning.specs.declared.operation.Operation.TheVariants.{BranchOnCondition, JumpAndLink}
 use Rattle.v8_meaning.specs.Operands.{target}
 use Rattle.sbx_image.specs.declared.parts.Block.{Block}
 use Rattle.sbx_image.specs.declared.parts.Parts.{Parts}
@@ -16,8 +16,6 @@ use Rattle.sbx_form.specs.Forms.{Cells}
 use Rattle.sbx_domain.specs.Fits.{HasInterval, Near}
 use Rattle.sbx_domain.specs.Known.{Known, range_at, range_of_entry, started}
 use Rattle.sbx_fits.proofs.Branches.{refinement_keeps_fitting, starts_fit}
-use Rattle.sbx_fits.specs.Held.{Held}
-use Rattle.sbx_rules.specs.Fuel.{InCells}
 use Rattle.sbx_rules.specs.Operations.{is_call, is_transfer}
 use Rattle.sbx_rules.specs.Places.{IsPlace, address_of, callee_before, ends_run, find_block, function_at, op_at, op_before, word_of_place, words_in}
 use Rattle.sbx_rules.specs.Rules.{has_cells, is_back, is_inner_edge, is_past, now}
@@ -35,7 +33,7 @@ use Rattle.sbx_sound.proofs.LowFields.{low_fields}
 use Rattle.sbx_sound.proofs.NearWords.{HasNear, near_after}
 use Rattle.sbx_sound.proofs.Positive.{EndsHere, HasWord, NextBlock, NextWord, Point, near_after_call}
 use Rattle.sbx_sound.proofs.Transfers.{return_visit}
-use Rattle.sbx_sound.proofs.Visits.{IsWay, is_return_visit, visit_is_return, visit_is_straight, visit_is_way}
+use Rattle.sbx_sound.proofs.Visits.{is_return_visit, visit_is_return, visit_is_straight, visit_is_way}
 
 -- ---- blocks by address
 

@@ -12,7 +12,7 @@ use Rattle.sbx_flat.proofs.Turns.{operation_weighs}
 use Rattle.sbx_rules.specs.Fuel.{InCells, IsEnough, IsPaid}
 use Rattle.sbx_domain.specs.Fits.{HasForm, HasInterval, Near}
 use Rattle.sbx_domain.specs.Known.{Known, form_of_entry, plain_entry_of, range_of_entry}
-use Rattle.sbx_domain.specs.Forms.{Form, form_value}
+use Rattle.sbx_domain.specs.Forms.{form_value}
 use Rattle.sbx_rules.specs.Ways.{Visit, fuel_at, state_at, weight_to}
 use Rattle.sbx_rules.specs.Places.{IsPlace, op_at}
 use Rattle.sbx_sound.specs.Running.{IsVisit, left_at}

@@ -1,6 +1,6 @@
 -- Returns, from the rules: `ret` and `retl` where an open call waits, and their slots, after which the caller goes on.
-use Rattle.std.proofs.Common.{◌≡◌, ◌≢◌, ℕ, zero, suc, ◌+◌, ◌-◌, ◌%◌, ◌^◌, ◌<◌, ◌≤◌, Bool, true, false, List, [], ◌∷◌, length, Option, Some, None, refl, sym, ap, ◌∙◌, subst, inl, inr, arith}
-use Rattle.std.specs.Prelude.{◌⊎◌, ◌==◌, ◌&&◌, ◌||◌, not, nat_lt, nat_le, slice_get, if◌then◌else◌}
+use Rattle.std.proofs.Common.{◌≡◌, ◌≢◌, ℕ, suc, ◌+◌, ◌-◌, ◌%◌, ◌^◌, ◌<◌, ◌≤◌, Bool, true, false, List, [], ◌∷◌, length, Some, refl, sym, ap, ◌∙◌, subst, arith}
+use Rattle.std.specs.Prelude.{◌==◌, ◌&&◌, ◌||◌, not, nat_lt, nat_le, slice_get, if◌then◌else◌}
 use Rattle.std.proofs.lemmas.Bool.Decides.{nat_tests}
 use Rattle.v8_formats.specs.declared.instr.Operand.{Operand}
 use Rattle.v8_formats.specs.declared.instr.Operand.TheVariants.{Register, Immediate}
@@ -15,20 +15,19 @@ use Rattle.sbx_image.specs.declared.parts.Kind.TheVariants.{Framed, Leaf}
 use Rattle.sbx_image.specs.declared.parts.Parts.{Parts}
 use Rattle.sbx_flat.specs.States.{State, reg}
 use Rattle.sbx_form.specs.Forms.{Cells}
-use Rattle.sbx_domain.specs.Fits.{Fits, Words}
-use Rattle.sbx_domain.specs.Known.{Known}
-use Rattle.sbx_domain.specs.Transfer.{is_global, is_out, transferred}
+use Rattle.sbx_domain.specs.Fits.{Words}
+use Rattle.sbx_domain.specs.Transfer.{is_out, transferred}
 use Rattle.sbx_fits.proofs.Frames.{frames_keep_fitting}
 use Rattle.sbx_fits.specs.Held.{AreRestored, Held, IsOperand}
 use Rattle.sbx_rules.specs.Operations.{is_call, is_framed, is_framed_return, is_restore, is_return, is_save, is_transfer, is_trap, may_write, reads_of, second_reads, writes_of}
 use Rattle.sbx_rules.specs.Places.{IsPlace, address_of, callee_at, callee_of, ends_run, function_at, op_at, op_before, word_of_place, words_in}
-use Rattle.sbx_rules.specs.Rules.{has_outs, is_defined, is_entry, now, reads_undefined, same_test, suits, touches_reserved}
+use Rattle.sbx_rules.specs.Rules.{has_outs, is_defined, is_entry, reads_undefined, same_test, suits, touches_reserved}
 use Rattle.sbx_rules.specs.Verdicts.{Checked}
-use Rattle.sbx_rules.specs.Ways.{Next, Past, To, Visit, falls, falls_to, state_at}
+use Rattle.sbx_rules.specs.Ways.{Next, Past, To, falls, falls_to, state_at}
 use Rattle.sbx_sound.specs.LowFields.{LowFields, LowOperand, LowThree}
 use Rattle.sbx_sound.specs.Order.{IsOrdered}
-use Rattle.sbx_sound.specs.Running.{AreOpen, At, Follows, IsOpen, IsVisit, known_after, straight_visit, tests, window_of}
-use Rattle.sbx_sound.specs.Shared.{Lent, Open, Own, Shared, Window, with_location}
+use Rattle.sbx_sound.specs.Running.{AreOpen, At, Follows, IsOpen, known_after, straight_visit, tests, window_of}
+use Rattle.sbx_sound.specs.Shared.{Lent, Open, Own, Shared, Window}
 use Rattle.sbx_sound.proofs.Arrivals.{after_no_call, goes_straight}
 use Rattle.sbx_sound.proofs.Asked.{admitted, has_results, has_shape, keeps_reserved, no_return, reads_known, restores_in_slot, slot_follows, suits_kind}
 use Rattle.sbx_sound.proofs.Effects.{read_shown}
@@ -41,7 +40,7 @@ use Rattle.sbx_sound.proofs.Read.{read_known, second_shown, write_allowed}
 use Rattle.sbx_sound.proofs.ReturnSteps.{GoesOn, leaf_slot, restore_slot, ret_word, retl_word}
 use Rattle.sbx_sound.proofs.Returns.{ReturnsWell}
 use Rattle.sbx_sound.proofs.Safe.{ShowsSpot, Spot, Steps}
-use Rattle.sbx_sound.proofs.Steps.{Does, IsWord}
+use Rattle.sbx_sound.proofs.Steps.{Does}
 use Rattle.sbx_sound.proofs.Straight.{inside, same_bytes, word_is}
 use Rattle.sbx_sound.proofs.Transfers.{ComesStraight, return_visit}
 use Rattle.sbx_sound.proofs.Visits.{is_return_visit}

@@ -14,7 +14,7 @@ use Rattle.sbx_rules.specs.Rules.{has_outs, has_range}
 use Rattle.sbx_rules.specs.Operations.{is_call, is_return}
 use Rattle.sbx_domain.specs.Fits.{Fits, HasAlignment, HasForm, HasInterval, Relates}
 use Rattle.sbx_domain.specs.Known.{Known, range_at, form_at}
-use Rattle.sbx_domain.specs.Forms.{Form, form_value}
+use Rattle.sbx_domain.specs.Forms.{form_value}
 use Rattle.sbx_rules.specs.Ways.{Visit, Way, after_call, falls, fuel_at, state_at, weight_to}
 use Rattle.sbx_rules.specs.Places.{address_of, callee_at, function_at, op_at}
 use Rattle.sbx_sound.specs.Running.{After, AreOpen, At, Follows, GoesTo, IsOpen, back_of, known_after, left_to, left_to_all}

@@ -1,5 +1,5 @@
 -- What the services get and put do, by the rules.
-use Rattle.std.proofs.Common.{◌≡◌, ℕ, zero, suc, ◌-◌, ◌^◌, ◌<◌, Bool, true, false, List, [], ◌∷◌, Option, Some, None, refl, sym, ap, ◌∙◌, subst, arith}
+use Rattle.std.proofs.Common.{◌≡◌, ℕ, zero, suc, Bool, true, false, List, [], ◌∷◌, Option, Some, None, refl, sym, ap, ◌∙◌, subst, arith}
 use Rattle.std.specs.Prelude.{◌==◌, ◌&&◌, slice_get, if◌then◌else◌}
 use Rattle.v8_formats.specs.declared.instr.Operand.{Operand}
 use Rattle.v8_formats.specs.declared.instr.Operand.TheVariants.{Register, Immediate}
@@ -10,7 +10,7 @@ use Rattle.v8_meaning.specs.declared.operation.Operation.TheVariants.{TrapOnCond
 use Rattle.sbx_image.specs.declared.parts.Function.{Function}
 use Rattle.sbx_image.specs.declared.parts.Parts.{Parts}
 use Rattle.sbx_range.specs.Rows.{byte_or_end}
-use Rattle.sbx_flat.specs.Effects.{declares, service_in, service_of}
+use Rattle.sbx_flat.specs.Effects.{service_in, service_of}
 use Rattle.sbx_flat.specs.Runs.{AreBytes}
 use Rattle.sbx_domain.specs.declared.entry.Entry.{Entry}
 use Rattle.sbx_domain.specs.Fits.{Fits}

@@ -5,7 +5,6 @@ use Rattle.std.specs.Prelude.{◌==◌, ◌&&◌, ◌||◌, not, if◌then◌els
 use Rattle.std.proofs.lemmas.Bool.Decides.{nat_tests}
 use Rattle.v8_meaning.specs.declared.operation.Operation.{Operation}
 use Rattle.v8_meaning.specs.Admitted.{is_admitted}
-use Rattle.v8_meaning.specs.Operands.{following}
 use Rattle.sbx_image.specs.declared.parts.Cell.{Cell}
 use Rattle.sbx_image.specs.declared.parts.Parts.{Parts}
 use Rattle.sbx_image.specs.declared.parts.Range.{Range}
@@ -21,7 +20,7 @@ use Rattle.sbx_rules.specs.Rules.{has_cells, has_range, is_defined, is_some}
 use Rattle.sbx_rules.specs.Operations.{is_call, is_return}
 use Rattle.sbx_domain.specs.Fits.{Fits}
 use Rattle.sbx_domain.specs.Known.{Known, started, range_of_entry}
-use Rattle.sbx_rules.specs.Ways.{Next, To, cells_at, falls, fuel_at, state_at, weight_to}
+use Rattle.sbx_rules.specs.Ways.{Next, To, cells_at, fuel_at, state_at, weight_to}
 use Rattle.sbx_rules.specs.Places.{address_of, function_at, op_at, op_before, word_of_place}
 use Rattle.sbx_sound.specs.Running.{After, IsThere, straight_visit, tests, window_of, bytes_of}
 use Rattle.sbx_sound.specs.Shared.{AreStored, KnownParts, Shared, Shows, Window}
