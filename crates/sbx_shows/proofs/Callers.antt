@@ -2,6 +2,7 @@
 use Rattle.std.proofs.Common.{◌≡◌, ◌≢◌, ℕ, suc, ◌+◌, ◌-◌, ◌*◌, ◌%◌, ◌^◌, ◌<◌, ◌≤◌, Bool, true, false, List, [], ◌∷◌, Some, None, refl, ap, ◌∙◌, subst, arith}
 use Rattle.std.specs.Prelude.{◌==◌, ◌&&◌, ◌||◌}
 use Rattle.std.proofs.lemmas.Bool.Decides.{nat_tests}
+use Rattle.v8_map.specs.declared.TheConstants.{STACK_END}
 use Rattle.v8_core.specs.Three.{Three}
 use Rattle.v8_core.specs.Admitted.{is_admitted}
 use Rattle.v8_core.specs.Operands.{address}
@@ -66,7 +67,7 @@ module _ (n : ℕ) (parts : Parts) (mmu : MmuRegs) (x : World n Device) (s : Sta
       let top : base s.registers 0 ≡ reg s 14 = refl in
       let aligned : b % 8 ≡ 0 = grind (arith, nat_tests, well_placed) in
       let under : b + 64 ≤ reg s 14 = grind (arith, nat_tests, well_placed) in
-      let low : 0x100000 - 4096 * parts.stack_pages ≤ b = grind (arith, nat_tests, well_placed) in
+      let low : STACK_END - 4096 * parts.stack_pages ≤ b = grind (arith, nat_tests, well_placed) in
       record { aligned = aligned; under = omega arith; low = omega arith }
 
   -- the board in the window below, with the new call as newest

@@ -2,6 +2,7 @@
 use Rattle.std.proofs.Common.{◌≡◌, ℕ, ◌+◌, ◌-◌, ◌*◌, ◌/◌, ◌^◌, ◌<◌, ◌≤◌, inr, Bool, true, List, length, Some, refl, sym, ap, ◌∙◌, subst, arith}
 use Rattle.std.specs.Prelude.{nat_le, if◌then◌else◌}
 use Rattle.std.proofs.lemmas.Bool.Decides.{nat_tests}
+use Rattle.v8_map.specs.declared.TheConstants.{CODE_START, CODE_TABLE, DATA_START, DATA_END, DATA_TABLE}
 use Rattle.v8_core.specs.Size.{Size}
 use Rattle.v8_core.specs.Size.TheVariants.{Byte}
 use Rattle.v8_core.specs.Transfers.{bytes_in}
@@ -20,7 +21,7 @@ use Rattle.sbx_flat.specs.Memory.{number_at, with_number}
 use Rattle.sbx_flat.specs.States.{State}
 use Rattle.sbx_flat.specs.Traffic.{is_own_data_page}
 use Rattle.sbx_shows.specs.Marks.{is_own_page}
-use Rattle.sbx_shows.specs.Shows.{Fits, Shows}
+use Rattle.sbx_shows.specs.Shows.{Fits, Shows, data_area}
 use Rattle.sbx_shows.proofs.Kept.{marked_same}
 use Rattle.sbx_shows.proofs.Numbers.{data_stored, loaded_stored, marks_stored, saved_beside, slots_beside, stack_beside}
 use Rattle.sbx_shows.proofs.Pages.{mark_own}
@@ -29,16 +30,16 @@ use Rattle.sbx_shows.proofs.Users.{OnlyMarks, device_kept}
 -- ---- pages of the data
 
 abbrev pub data_entry_place : ℕ → ℕ
-data_entry_place a = 0x2B00 + 4 * ((a - 0x80000) / 4096)
+data_entry_place a = DATA_TABLE + 4 * ((a - DATA_START) / 4096)
 
-pub data_at : (g : Pages) (va : ℕ) → AreFew g → 0x80000 ≤ va → va < 0x80000 + 4096 * g.data_count → page_at g va ≡ Some (mapped (va - 0x30000) 1 (data_entry_place va))
+pub data_at : (g : Pages) (va : ℕ) → AreFew g → DATA_START ≤ va → va < DATA_START + 4096 * g.data_count → page_at g va ≡ Some (mapped (data_area va) 1 (data_entry_place va))
 unfolding page_at
 data_at g va few low high =
     let code = few.code in
-    rw (outside 0x40000 (0x40000 + 4096 * g.code_count) va (inr (omega arith))) (rw (inside 0x80000 (0x80000 + 4096 * g.data_count) va low high) refl)
+    rw (outside CODE_START (CODE_START + 4096 * g.code_count) va (inr (omega arith))) (rw (inside DATA_START (DATA_START + 4096 * g.data_count) va low high) refl)
 
 -- an address of the data lies in a page that is mapped and the image's own
-pub data_room : (parts : Parts) (a : ℕ) → Fits parts → 0x80000 ≤ a → a < 0x80000 + length parts.bytes → a < 0x80000 + 4096 * (pages_of parts).data_count
+pub data_room : (parts : Parts) (a : ℕ) → Fits parts → DATA_START ≤ a → a < DATA_START + length parts.bytes → a < DATA_START + 4096 * (pages_of parts).data_count
 unfolding pages_of
 data_room parts a fits low high =
     let most = fits.bytes in
@@ -46,18 +47,18 @@ data_room parts a fits low high =
     let count : at_most 64 ((length parts.bytes + 4095) / 4096) ≡ (length parts.bytes + 4095) / 4096 = ap (λ (t : Bool). if t then (length parts.bytes + 4095) / 4096 else 64) few in
     omega (arith, count)
 
-pub data_own : (parts : Parts) (a : ℕ) → 0x80000 ≤ a → a < 0x80000 + length parts.bytes → is_own_data_page parts (a / 4096) ≡ true
+pub data_own : (parts : Parts) (a : ℕ) → DATA_START ≤ a → a < DATA_START + length parts.bytes → is_own_data_page parts (a / 4096) ≡ true
 data_own parts a low high =
     let from : 0x80 ≤ a / 4096 = omega arith in
     let to : 4096 * (a / 4096 - 0x80) < length parts.bytes = omega arith in
     grind (arith, nat_tests, from, to)
 
-pub data_marks : (n : ℕ) (parts : Parts) (old mid : List ℕ) (a : ℕ) (store : Bool) → Fits parts → OnlyMarks n parts old mid → 0x80000 ≤ a → a < 0x80000 + length parts.bytes → OnlyMarks n parts old (marked_ram mid (data_entry_place a) store)
+pub data_marks : (n : ℕ) (parts : Parts) (old mid : List ℕ) (a : ℕ) (store : Bool) → Fits parts → OnlyMarks n parts old mid → DATA_START ≤ a → a < DATA_START + length parts.bytes → OnlyMarks n parts old (marked_ram mid (data_entry_place a) store)
 data_marks n parts old mid a store fits m low high =
     let most = (pages_few parts).data_pages in
     let room = data_room parts a fits low high in
-    let t = 0x5006 + 0x100 * ((a - 0x80000) / 4096) in
-    let can : Markable mid (data_entry_place a) t = data_markable (pages_of parts) mid m.loaded.tables (pages_few parts) ((a - 0x80000) / 4096) (omega arith) in
+    let t = 0x5006 + 0x100 * ((a - DATA_START) / 4096) in
+    let can : Markable mid (data_entry_place a) t = data_markable (pages_of parts) mid m.loaded.tables (pages_few parts) ((a - DATA_START) / 4096) (omega arith) in
     let here = marked_same mid (data_entry_place a) t store can in
     let own = data_own parts a low high in
     record {
@@ -72,13 +73,13 @@ data_marks n parts old mid a store fits m low high =
     owned : (parts : Parts) (page : ℕ) → is_own_data_page parts page ≡ true → is_own_page parts page ≡ true
     owned parts page e = grind (arith, nat_tests, e)
 
-    at_entry : (a k : ℕ) → 0x80000 ≤ a → a < 0xC0000 → data_entry_place a ≡ 0x2A00 + 4 * k → 0x40 + k ≡ a / 4096
+    at_entry : (a k : ℕ) → DATA_START ≤ a → a < DATA_END → data_entry_place a ≡ CODE_TABLE + 4 * k → 0x40 + k ≡ a / 4096
     at_entry a k low high e = omega arith
 
 -- ---- all that is shown
 
 pub data_stored_shows : (n : ℕ) (parts : Parts) (x : World n Device) (s : State) (r a old v : ℕ) (size : Size) → Fits parts → Shows n parts x s r → number_at s.memory a (bytes_in size) ≡ Some old → (size ≡ Byte → v < 2 ^ 8) →
-    Shows n parts (world n x.cpu (board_with x.memory.ram (a - 0x30000) size v) x.memory.device) (record s { memory = with_number s.memory a (bytes_in size) v }) r
+    Shows n parts (world n x.cpu (board_with x.memory.ram (data_area a) size v) x.memory.device) (record s { memory = with_number s.memory a (bytes_in size) v }) r
 data_stored_shows n parts x s r a old v size fits h found small =
     let few = (pages_few parts).stack in
     let count = (pages_of parts).stack_count in

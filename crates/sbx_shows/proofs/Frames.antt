@@ -2,6 +2,8 @@
 use Rattle.std.proofs.Common.{◌≡◌, ◌≢◌, ℕ, zero, suc, ◌+◌, ◌-◌, ◌*◌, ◌%◌, ◌^◌, ◌<◌, ◌≤◌, Bool, true, false, List, ◌∷◌, length, Some, None, refl, sym, ap, ◌∙◌, arith}
 use Rattle.std.specs.Prelude.{slice_index, ◌==◌, ◌&&◌, nat_lt, nat_le, if◌then◌else◌}
 use Rattle.std.proofs.lemmas.Bool.Decides.{nat_tests}
+use Rattle.v8_loaded.specs.Areas.{area_of}
+use Rattle.v8_map.specs.declared.TheConstants.{STACK_LOWEST, STACK_END, RAM}
 use Rattle.v8_core.specs.Ram.{entry_of}
 use Rattle.v8_core.specs.Windows.{Windows, IsFile, above, below, moved, with_reg, word_at}
 use Rattle.v8_windows.proofs.AfterWrites.{written_at, written_current}
@@ -75,22 +77,22 @@ abbrev pub found_fresh : ℕ → Windows → List ℕ → Fresh
 found_fresh n v ram = record {
   locals = λ q. word_at v (below n v.current) (q - 8);
   outs = λ q. word_at v (below n v.current) (q - 8);
-  slots = λ a. if nat_le 0xF0000 a && (nat_lt a 0x100000 && (a % 4 == 0)) then word_in ram (a - 0x60000) else 0;
+  slots = λ a. if nat_le STACK_LOWEST a && (nat_lt a STACK_END && (a % 4 == 0)) then word_in ram (area_of a) else 0;
 }
 
-pub found_is_fresh : (n : ℕ) (v : Windows) (ram : List ℕ) → IsFile n v → length ram ≡ 0x100000 → HasStack ram → IsFresh (found_fresh n v ram)
+pub found_is_fresh : (n : ℕ) (v : Windows) (ram : List ℕ) → IsFile n v → length ram ≡ RAM → HasStack ram → IsFresh (found_fresh n v ram)
 found_is_fresh n v ram f size stack = record {
   locals = λ q. f.rows.fit (below n v.current) (q - 8);
   outs = λ q. f.rows.fit (below n v.current) (q - 8);
-  slots = λ a. by_place a (nat_le 0xF0000 a && (nat_lt a 0x100000 && (a % 4 == 0))) refl;
+  slots = λ a. by_place a (nat_le STACK_LOWEST a && (nat_lt a STACK_END && (a % 4 == 0))) refl;
 }
   where
-    by_place : (a : ℕ) (t : Bool) → (nat_le 0xF0000 a && (nat_lt a 0x100000 && (a % 4 == 0))) ≡ t → (if t then word_in ram (a - 0x60000) else 0) < 2 ^ 32
+    by_place : (a : ℕ) (t : Bool) → (nat_le STACK_LOWEST a && (nat_lt a STACK_END && (a % 4 == 0))) ≡ t → (if t then word_in ram (area_of a) else 0) < 2 ^ 32
     by_place a true e =
-        let low : 0xF0000 ≤ a = grind (arith, nat_tests) in
-        let high : a < 0x100000 = grind (arith, nat_tests) in
+        let low : STACK_LOWEST ≤ a = grind (arith, nat_tests) in
+        let high : a < STACK_END = grind (arith, nat_tests) in
         let aligned : a % 4 ≡ 0 = grind (arith, nat_tests) in
-        stack (a - 0x60000) (word_in ram (a - 0x60000)) (omega arith) (word_there ram (a - 0x60000) size (omega arith) (omega arith))
+        stack (area_of a) (word_in ram (area_of a)) (omega arith) (word_there ram (area_of a) size (omega arith) (omega arith))
     by_place a false e = omega arith
 
 cell_begun : (fresh : Fresh) (b : ℕ) (file : Registers) (k j : ℕ) → cell (pushed fresh b file) (suc k) j ≡ cell file k j
@@ -180,7 +182,7 @@ module _ (n : ℕ) (v : Windows) (file : Registers) (r b : ℕ) (ram : List ℕ)
 pub record IsBase (pages : ℕ) (file : Registers) (b : ℕ) : Type 0 where
   pub aligned : b % 8 ≡ 0
   pub under : b + 64 ≤ base file 0
-  pub low : 0x100000 ≤ b + 4096 * pages
+  pub low : STACK_END ≤ b + 4096 * pages
 
 base_new : (begins : Fresh) (b : ℕ) (file : Registers) → base (pushed begins b file) 0 ≡ b
 unfolding cell
@@ -194,11 +196,11 @@ module _ (pages : ℕ) (file : Registers) (fresh : Fresh) (b : ℕ) (st : IsStac
   aligned_begun zero less = ap (λ q. q % 8) (base_new fresh b file) ∙ o.aligned
   aligned_begun (suc k) less = ap (λ q. q % 8) (cell_begun fresh b file k 6) ∙ st.aligned k (omega arith)
 
-  low_begun : (k : ℕ) → k < depth begun → 0x100000 ≤ base begun k + 4096 * pages
+  low_begun : (k : ℕ) → k < depth begun → STACK_END ≤ base begun k + 4096 * pages
   low_begun zero less = let e = base_new fresh b file in let low = o.low in omega arith
   low_begun (suc k) less = let e : base begun (suc k) ≡ base file k = cell_begun fresh b file k 6 in let low = st.low k (omega arith) in omega arith
 
-  high_begun : (k : ℕ) → k < depth begun → base begun k + 64 ≤ 0x100000
+  high_begun : (k : ℕ) → k < depth begun → base begun k + 64 ≤ STACK_END
   high_begun zero less = let e = base_new fresh b file in let under = o.under in let high = st.high 0 (omega arith) in omega arith
   high_begun (suc k) less = let e : base begun (suc k) ≡ base file k = cell_begun fresh b file k 6 in let high = st.high k (omega arith) in omega arith
 
@@ -225,18 +227,18 @@ module _ (pages : ℕ) (file : Registers) (fresh : Fresh) (b : ℕ) (st : IsStac
   pub saved_begun : (r : ℕ) (ram : List ℕ) → ShowsSaved file r ram → ShowsSaved begun (suc r) ram
   saved_begun r ram h = record { locals = saved_locals; ins = saved_ins }
     where
-      saved_locals : (k j : ℕ) → suc r ≤ k → k < depth begun → j < 8 → entry_of ram (base begun k - 0x60000 + 4 * j) ≡ Some (cell begun k (8 + j))
+      saved_locals : (k j : ℕ) → suc r ≤ k → k < depth begun → j < 8 → entry_of ram (area_of (base begun k) + 4 * j) ≡ Some (cell begun k (8 + j))
       saved_locals zero j a d e = absurd (omega arith)
       saved_locals (suc k) j a d e =
-          ap (λ q. entry_of ram (q - 0x60000 + 4 * j)) (cell_begun fresh b file k 6) ∙ h.locals k j (omega arith) (omega arith) e ∙ ap Some (sym (cell_begun fresh b file k (8 + j)))
+          ap (λ q. entry_of ram (area_of q + 4 * j)) (cell_begun fresh b file k 6) ∙ h.locals k j (omega arith) (omega arith) e ∙ ap Some (sym (cell_begun fresh b file k (8 + j)))
 
-      saved_ins : (k j : ℕ) → suc r ≤ k → k < depth begun → j < 8 → entry_of ram (base begun k - 0x60000 + 32 + 4 * j) ≡ Some (cell begun (suc k) j)
+      saved_ins : (k j : ℕ) → suc r ≤ k → k < depth begun → j < 8 → entry_of ram (area_of (base begun k) + 32 + 4 * j) ≡ Some (cell begun (suc k) j)
       saved_ins zero j a d e = absurd (omega arith)
       saved_ins (suc k) j a d e =
-          ap (λ q. entry_of ram (q - 0x60000 + 32 + 4 * j)) (cell_begun fresh b file k 6) ∙ h.ins k j (omega arith) (omega arith) e ∙ ap Some (sym (cell_begun fresh b file (suc k) j))
+          ap (λ q. entry_of ram (area_of q + 32 + 4 * j)) (cell_begun fresh b file k 6) ∙ h.ins k j (omega arith) (omega arith) e ∙ ap Some (sym (cell_begun fresh b file (suc k) j))
 
 -- the new call's slots are the words of the stack between its 64 bytes and its caller's
-module _ (n pages : ℕ) (v : Windows) (file : Registers) (b : ℕ) (ram : List ℕ) (st : IsStacked pages file) (o : IsBase pages file b) (few : pages ≤ 16) (size : length ram ≡ 0x100000) where
+module _ (n pages : ℕ) (v : Windows) (file : Registers) (b : ℕ) (ram : List ℕ) (st : IsStacked pages file) (o : IsBase pages file b) (few : pages ≤ 16) (size : length ram ≡ RAM) where
   abbrev fresh_words : Fresh
   fresh_words = found_fresh n v ram
 
@@ -251,7 +253,7 @@ module _ (n pages : ℕ) (v : Windows) (file : Registers) (b : ℕ) (ram : List 
   unfolding slot
   slot_new a = refl
 
-  found_slot : (a : ℕ) → 0xF0000 ≤ a → a < 0x100000 → a % 4 ≡ 0 → fresh_words.slots a ≡ word_in ram (a - 0x60000)
+  found_slot : (a : ℕ) → STACK_LOWEST ≤ a → a < STACK_END → a % 4 ≡ 0 → fresh_words.slots a ≡ word_in ram (area_of a)
   found_slot a low high aligned = grind (arith, nat_tests)
 
   of_new : (a w : ℕ) (t : Bool) → is_slot b (file.newest.outs 14) a ≡ t → (if t then Some (fresh_words.slots a) else None) ≡ Some w → ShowsSlot begun_file ram 0 a w
@@ -273,7 +275,7 @@ module _ (n pages : ℕ) (v : Windows) (file : Registers) (b : ℕ) (ram : List 
           high = omega arith;
           below = λ i x y. below_older i x y (omega arith);
         };
-        there = word_there ram (a - 0x60000) size (omega arith) (omega arith) ∙ ap Some (sym (found_slot a (omega arith) (omega arith) aligned)) ∙ ap Some value;
+        there = word_there ram (area_of a) size (omega arith) (omega arith) ∙ ap Some (sym (found_slot a (omega arith) (omega arith) aligned)) ∙ ap Some value;
       }
     where
       below_older : (i : ℕ) → 0 < i → i < depth begun_file → a + 4 ≤ base file 0 → a + 4 ≤ base begun_file i

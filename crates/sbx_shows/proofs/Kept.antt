@@ -1,6 +1,8 @@
 -- RAM that is the same above the tables shows the same.
 use Rattle.std.proofs.Common.{◌≡◌, ℕ, ◌+◌, ◌-◌, ◌*◌, ◌≤◌, inr, Bool, List, sym, ◌∙◌, arith}
 use Rattle.std.specs.Prelude.{slice_index}
+use Rattle.v8_loaded.specs.Areas.{area_of}
+use Rattle.v8_map.specs.declared.TheConstants.{RAM, TABLES_END}
 use Rattle.v8_core.specs.Ram.{entry_of}
 use Rattle.v8_core.specs.Paths.{marked_ram}
 use Rattle.v8_layout.proofs.Marks.{Markable, kept_elsewhere}
@@ -9,11 +11,11 @@ use Rattle.sbx_flat.specs.Parts.{Parts}
 use Rattle.sbx_flat.specs.Memory.{Bytes}
 use Rattle.sbx_flat.specs.Registers.{Registers}
 use Rattle.sbx_shows.specs.Calls.{base}
-use Rattle.sbx_shows.specs.Shows.{IsStacked, ShowsSaved, ShowsSlots, ShowsData, HasStack}
+use Rattle.sbx_shows.specs.Shows.{IsStacked, ShowsSaved, ShowsSlots, ShowsData, HasStack, data_area}
 
 pub record SameAbove (old new : List ℕ) : Type 0 where
-  pub words : (p : ℕ) → 0x2E00 ≤ p → entry_of new p ≡ entry_of old p
-  pub bytes : (p : ℕ) → 0x2E00 ≤ p → slice_index new p ≡ slice_index old p
+  pub words : (p : ℕ) → TABLES_END ≤ p → entry_of new p ≡ entry_of old p
+  pub bytes : (p : ℕ) → TABLES_END ≤ p → slice_index new p ≡ slice_index old p
 
 -- a mark
 pub marked_same : (ram : List ℕ) (place t : ℕ) (store : Bool) → Markable ram place t → SameAbove ram (marked_ram ram place store)
@@ -27,8 +29,8 @@ marked_same ram place t store m =
 
 pub saved_kept : (pages r : ℕ) (file : Registers) (old new : List ℕ) → pages ≤ 16 → IsStacked pages file → SameAbove old new → ShowsSaved file r old → ShowsSaved file r new
 saved_kept pages r file old new few st same h = record {
-  locals = λ k j a b d. let low = st.low k b in same.words (base file k - 0x60000 + 4 * j) (omega arith) ∙ h.locals k j a b d;
-  ins = λ k j a b d. let low = st.low k b in same.words (base file k - 0x60000 + 32 + 4 * j) (omega arith) ∙ h.ins k j a b d;
+  locals = λ k j a b d. let low = st.low k b in same.words (area_of (base file k) + 4 * j) (omega arith) ∙ h.locals k j a b d;
+  ins = λ k j a b d. let low = st.low k b in same.words (area_of (base file k) + 32 + 4 * j) (omega arith) ∙ h.ins k j a b d;
 }
 
 pub slots_kept : (pages : ℕ) (file : Registers) (old new : List ℕ) → pages ≤ 16 → IsStacked pages file → SameAbove old new → ShowsSlots file old → ShowsSlots file new
@@ -36,7 +38,7 @@ slots_kept pages file old new few st same h k a w less is =
     let o = h k a w less is in
     let low = st.low k less in
     let above = o.place.low in
-    record { place = o.place; there = same.words (a - 0x60000) (omega arith) ∙ o.there }
+    record { place = o.place; there = same.words (area_of a) (omega arith) ∙ o.there }
 
 pub stack_kept : (old new : List ℕ) → SameAbove old new → HasStack old → HasStack new
 stack_kept old new same h p w above there = h p w above (sym (same.words p (omega arith)) ∙ there)
@@ -45,4 +47,4 @@ pub data_kept : (parts : Parts) (memory : Bytes) (old new : List ℕ) → SameAb
 data_kept parts memory old new same h a b is =
     let o = h a b is in
     let low = o.low in
-    record { low = o.low; high = o.high; small = o.small; there = same.bytes (a - 0x30000) (omega arith) ∙ o.there }
+    record { low = o.low; high = o.high; small = o.small; there = same.bytes (data_area a) (omega arith) ∙ o.there }

@@ -4,6 +4,8 @@ use Rattle.std.specs.Prelude.{slice_index, ◌&&◌, nat_le, nat_lt, if◌then�
 use Rattle.std.specs.Int.{w16, w32, from_be_bytes, to_be_bytes}
 use Rattle.std.proofs.lemmas.Bool.Decides.{nat_tests}
 use Rattle.std.proofs.lemmas.List.{get_or-take, get_or-drop}
+use Rattle.v8_loaded.specs.Areas.{area_of}
+use Rattle.v8_map.specs.declared.TheConstants.{CODE_TABLE, DATA_START, DATA_END, DATA_PLACE, STACK_PLACE, RAM}
 use Rattle.v8_core.specs.Size.{Size}
 use Rattle.v8_core.specs.Size.TheVariants.{Byte, Half, Word, Double}
 use Rattle.v8_core.specs.Transfers.{bytes_in}
@@ -24,7 +26,7 @@ use Rattle.sbx_flat.specs.Memory.{Bytes, byte_of, followed_by, number_at, with_n
 use Rattle.sbx_flat.specs.Registers.{Registers}
 use Rattle.sbx_shows.specs.Marks.{OwnMarks}
 use Rattle.sbx_shows.specs.Calls.{base}
-use Rattle.sbx_shows.specs.Shows.{Fits, IsStacked, ShowsSaved, ShowsSlots, ShowsData, ShowsByte, HasStack}
+use Rattle.sbx_shows.specs.Shows.{Fits, IsStacked, ShowsSaved, ShowsSlots, ShowsData, ShowsByte, HasStack, data_area}
 
 -- ---- numbers of bytes
 
@@ -122,27 +124,27 @@ some_bytes Double = omega arith
 
 -- ---- a store
 
-module _ (n : ℕ) (parts : Parts) (memory : Bytes) (ram : List ℕ) (a v old : ℕ) (size : Size) (small : size ≡ Byte → v < 2 ^ 8) (fits : Fits parts) (h : ShowsData parts memory ram) (is : number_at memory a (bytes_in size) ≡ Some old) (length_is : length ram ≡ 0x100000) where
+module _ (n : ℕ) (parts : Parts) (memory : Bytes) (ram : List ℕ) (a v old : ℕ) (size : Size) (small : size ≡ Byte → v < 2 ^ 8) (fits : Fits parts) (h : ShowsData parts memory ram) (is : number_at memory a (bytes_in size) ≡ Some old) (length_is : length ram ≡ RAM) where
   abbrev count : ℕ
   count = bytes_in size
 
   abbrev at : ℕ
-  at = a - 0x30000
+  at = data_area a
 
   abbrev new : List ℕ
   new = board_with ram at size v
 
   -- the bytes are in the data's pages
-  pub inside : (k : ℕ) → k < count → (0x80000 ≤ a + k) × (a + k < 0x80000 + length parts.bytes)
+  pub inside : (k : ℕ) → k < count → (DATA_START ≤ a + k) × (a + k < DATA_START + length parts.bytes)
   inside k less =
       let b = byte_there memory a count old is k less in
       let o = h (a + k) b.0 b.1 in
       (o.low, o.high)
 
-  pub low : 0x80000 ≤ a
+  pub low : DATA_START ≤ a
   low = let first = (inside 0 (some_bytes size)).0 in omega arith
 
-  pub high : a + count ≤ 0xC0000
+  pub high : a + count ≤ DATA_END
   high =
       let some = some_bytes size in
       let most = fits.bytes in
@@ -159,10 +161,10 @@ module _ (n : ℕ) (parts : Parts) (memory : Bytes) (ram : List ℕ) (a v old : 
   size_kept = same_length ram at v size room
 
   -- words below the data and above it
-  pub words_below : (p : ℕ) → p + 4 ≤ 0x50000 → entry_of new p ≡ entry_of ram p
+  pub words_below : (p : ℕ) → p + 4 ≤ DATA_PLACE → entry_of new p ≡ entry_of ram p
   words_below p less = let from = low in word_kept ram new p size_kept (λ j x y. beside j (inl (omega arith)))
 
-  pub words_above : (p : ℕ) → 0x90000 ≤ p → entry_of new p ≡ entry_of ram p
+  pub words_above : (p : ℕ) → STACK_PLACE ≤ p → entry_of new p ≡ entry_of ram p
   words_above p more = let to = high in let from = low in word_kept ram new p size_kept (λ j x y. beside j (inr (omega arith)))
 
   pub data_stored : ShowsData parts (with_number memory a count v) new
@@ -176,7 +178,7 @@ module _ (n : ℕ) (parts : Parts) (memory : Bytes) (ram : List ℕ) (a v old : 
           let sum : a + (b - a) ≡ b = omega arith in
           let place = inside (b - a) (omega arith) in
           let from = low in
-          let spot : at + (b - a) ≡ b - 0x30000 = omega arith in
+          let spot : at + (b - a) ≡ data_area b = omega arith in
           record {
             low = omega arith;
             high = omega arith;
@@ -187,8 +189,8 @@ module _ (n : ℕ) (parts : Parts) (memory : Bytes) (ram : List ℕ) (a v old : 
           let o = h b c f in
           let from = low in
           let low_b = o.low in
-          let apart : (b - 0x30000 < at) ⊎ (at + count ≤ b - 0x30000) = grind (arith, nat_tests) in
-          record { low = o.low; high = o.high; small = o.small; there = beside (b - 0x30000) apart ∙ o.there }
+          let apart : (data_area b < at) ⊎ (at + count ≤ data_area b) = grind (arith, nat_tests) in
+          record { low = o.low; high = o.high; small = o.small; there = beside (data_area b) apart ∙ o.there }
 
   pub loaded_stored : IsLoaded n (pages_of parts) parts.words ram → IsLoaded n (pages_of parts) parts.words new
   loaded_stored l = loaded_by n (pages_of parts) parts.words ram new (pages_few parts) size_kept words_below l
@@ -196,15 +198,15 @@ module _ (n : ℕ) (parts : Parts) (memory : Bytes) (ram : List ℕ) (a v old : 
   pub marks_stored : OwnMarks parts ram → OwnMarks parts new
   marks_stored own =
       record {
-        referenced = λ k less set. own.referenced k less (ap (λ o. bit_of o 5) (sym (words_below (0x2A00 + 4 * k) (omega arith))) ∙ set);
-        modified = λ k less set. own.modified k less (ap (λ o. bit_of o 6) (sym (words_below (0x2A00 + 4 * k) (omega arith))) ∙ set);
+        referenced = λ k less set. own.referenced k less (ap (λ o. bit_of o 5) (sym (words_below (CODE_TABLE + 4 * k) (omega arith))) ∙ set);
+        modified = λ k less set. own.modified k less (ap (λ o. bit_of o 6) (sym (words_below (CODE_TABLE + 4 * k) (omega arith))) ∙ set);
       }
 
   -- the stack is above the data
   pub saved_beside : (pages r : ℕ) (file : Registers) → pages ≤ 16 → IsStacked pages file → ShowsSaved file r ram → ShowsSaved file r new
   saved_beside pages r file few st s = record {
-    locals = λ k j x y z. let floor = st.low k y in words_above (base file k - 0x60000 + 4 * j) (omega arith) ∙ s.locals k j x y z;
-    ins = λ k j x y z. let floor = st.low k y in words_above (base file k - 0x60000 + 32 + 4 * j) (omega arith) ∙ s.ins k j x y z;
+    locals = λ k j x y z. let floor = st.low k y in words_above (area_of (base file k) + 4 * j) (omega arith) ∙ s.locals k j x y z;
+    ins = λ k j x y z. let floor = st.low k y in words_above (area_of (base file k) + 32 + 4 * j) (omega arith) ∙ s.ins k j x y z;
   }
 
   pub slots_beside : (pages : ℕ) (file : Registers) → pages ≤ 16 → IsStacked pages file → ShowsSlots file ram → ShowsSlots file new
@@ -212,7 +214,7 @@ module _ (n : ℕ) (parts : Parts) (memory : Bytes) (ram : List ℕ) (a v old : 
       let o = s k b w less there in
       let floor = st.low k less in
       let above = o.place.low in
-      record { place = o.place; there = words_above (b - 0x60000) (omega arith) ∙ o.there }
+      record { place = o.place; there = words_above (area_of b) (omega arith) ∙ o.there }
 
   pub stack_beside : HasStack ram → HasStack new
   stack_beside s p w above there = s p w above (sym (words_above p above) ∙ there)
@@ -240,12 +242,12 @@ number_is bytes a count n is = by_parts (number_at bytes a count) (bytes (a + co
 pub nothing_is : (n : ℕ) → Some 0 ≡ Some n → n ≡ 0
 nothing_is n e = cc
 
-module _ (parts : Parts) (memory : Bytes) (ram : List ℕ) (a n : ℕ) (fits : Fits parts) (h : ShowsData parts memory ram) (length_is : length ram ≡ 0x100000) where
+module _ (parts : Parts) (memory : Bytes) (ram : List ℕ) (a n : ℕ) (fits : Fits parts) (h : ShowsData parts memory ram) (length_is : length ram ≡ RAM) where
   abbrev place : ℕ
-  place = a - 0x30000
+  place = data_area a
 
-  shown : (k b count : ℕ) → k < count → memory (a + k) ≡ Some b → 0x80000 ≤ a → get_or (take count (drop place ram)) k 0 ≡ b
-  shown k b count less is low = let spot : place + k ≡ a + k - 0x30000 = omega arith in read_byte ram place count k less ∙ ap (slice_index ram) spot ∙ (h (a + k) b is).there
+  shown : (k b count : ℕ) → k < count → memory (a + k) ≡ Some b → DATA_START ≤ a → get_or (take count (drop place ram)) k 0 ≡ b
+  shown k b count less is low = let spot : place + k ≡ data_area (a + k) = omega arith in read_byte ram place count k less ∙ ap (slice_index ram) spot ∙ (h (a + k) b is).there
 
   pub byte_loads : number_at memory a 1 ≡ Some n → board_number ram place Byte ≡ Some n
   byte_loads is =
@@ -256,7 +258,7 @@ module _ (parts : Parts) (memory : Bytes) (ram : List ℕ) (a n : ℕ) (fits : F
       let top = o.high in
       let most = fits.bytes in
       let sum = first.4 in
-      let spot : place ≡ a + 0 - 0x30000 = omega arith in
+      let spot : place ≡ data_area (a + 0) = omega arith in
       let value : first.1 ≡ n = omega arith in
       has_byte ram place (omega arith) ∙ ap (λ q. Some (slice_index ram q)) spot ∙ ap Some (o.there ∙ value)
 
@@ -324,7 +326,7 @@ halves_of memory a n is =
     (fifth.0, ((fifth.1 * 2 ^ 8 + sixth.1) * 2 ^ 8 + seventh.1) * 2 ^ 8 + eighth.1, fifth.2, two_words memory a fifth.1 sixth.1 seventh.1 eighth.1 fifth.3 sixth.3 seventh.3 eighth.3, omega arith)
 
 -- the number that a load finds is there on the board too
-pub number_there : (parts : Parts) (memory : Bytes) (ram : List ℕ) (a w : ℕ) (size : Size) → Fits parts → ShowsData parts memory ram → length ram ≡ 0x100000 → a % bytes_in size ≡ 0 → number_at memory a (bytes_in size) ≡ Some w → board_number ram (a - 0x30000) size ≡ Some w
+pub number_there : (parts : Parts) (memory : Bytes) (ram : List ℕ) (a w : ℕ) (size : Size) → Fits parts → ShowsData parts memory ram → length ram ≡ RAM → a % bytes_in size ≡ 0 → number_at memory a (bytes_in size) ≡ Some w → board_number ram (data_area a) size ≡ Some w
 number_there parts memory ram a w Byte fits h size whole is = byte_loads parts memory ram a w fits h size is
 number_there parts memory ram a w Half fits h size whole is = half_loads parts memory ram a w fits h size whole is
 number_there parts memory ram a w Word fits h size whole is = word_loads parts memory ram a w fits h size whole is
@@ -333,8 +335,8 @@ number_there parts memory ram a w Double fits h size whole is =
     let sum = both.4 in
     let first = byte_there memory a 8 w is 0 (omega arith) in
     let low = (h (a + 0) first.0 first.1).low in
-    let next : a + 4 - 0x30000 ≡ a - 0x30000 + 4 = omega arith in
-    has_double ram (a - 0x30000) both.0 both.1 (omega arith) (word_loads parts memory ram a both.0 fits h size (omega arith) both.2)
+    let next : data_area (a + 4) ≡ data_area a + 4 = omega arith in
+    has_double ram (data_area a) both.0 both.1 (omega arith) (word_loads parts memory ram a both.0 fits h size (omega arith) both.2)
     (ap (entry_of ram) (sym next) ∙ word_loads parts memory ram (a + 4) both.1 fits h size (omega arith) both.3)
     ∙ ap Some (sym sum)
 

@@ -1,6 +1,7 @@
 -- A SAVE that finds no window: the 24 turns of its trap keep what the board shows, with one call less in windows.
 use Rattle.std.proofs.Common.{◌≡◌, ℕ, suc, ◌+◌, ◌-◌, ◌*◌, ◌/◌, ◌%◌, ◌^◌, ◌<◌, ◌≤◌, ◌⊎◌, inl, inr, List, Some, sym, ap, ◌∙◌, subst, arith}
 use Rattle.std.specs.Prelude.{slice_index}
+use Rattle.v8_map.specs.declared.TheConstants.{STACK_LOWEST, STACK_END, RAM, TABLES_END}
 use Rattle.v8_core.specs.Three.{Three}
 use Rattle.v8_core.specs.Operation.TheVariants.{Save}
 use Rattle.v8_core.specs.Ram.{entry_of}
@@ -10,7 +11,7 @@ use Rattle.v8_core.specs.Windows.{word_at}
 use Rattle.v8_core.specs.Control.{Control}
 use Rattle.v8_core.specs.Accesses.{World}
 use Rattle.v8_loaded.specs.Board.{Device, board}
-use Rattle.v8_loaded.specs.Areas.{HasRoom}
+use Rattle.v8_loaded.specs.Areas.{HasRoom, area_of}
 use Rattle.v8_loaded.specs.Places.{entered_window}
 use Rattle.v8_loaded.specs.Turns.{after}
 use Rattle.v8_loaded.specs.Users.{AsksFor}
@@ -21,7 +22,7 @@ use Rattle.v8_board.proofs.Placed.{pages_few}
 use Rattle.sbx_flat.specs.Parts.{Parts}
 use Rattle.sbx_flat.specs.States.{State}
 use Rattle.sbx_shows.specs.Calls.{base, cell, depth}
-use Rattle.sbx_shows.specs.Shows.{HasStack, Shows, ShowsCalls, ShowsControl, ShowsData, ShowsDevice, ShowsSaved, ShowsSlots, window}
+use Rattle.sbx_shows.specs.Shows.{HasStack, Shows, ShowsCalls, ShowsControl, ShowsData, ShowsDevice, ShowsSaved, ShowsSlots, window, data_area}
 use Rattle.sbx_shows.specs.Steps.{Stands}
 use Rattle.sbx_shows.proofs.Distances.{below_is, same_distance, two_below}
 use Rattle.sbx_shows.proofs.Places.{room as code_within, user}
@@ -55,7 +56,7 @@ module _ (n : ℕ) (parts : Parts) (mmu : MmuRegs) (x : World n Device) (s : Sta
   pub pointer_is : stack_pointer n x.cpu ≡ base s.registers (r - 1)
   pointer_is = ap (λ w. word_at x.cpu.regs w 6) spilled_is ∙ h.calls.outs (r - 1) 6 (omega arith) (omega arith)
 
-  low_base : 0xF0000 ≤ base s.registers (r - 1)
+  low_base : STACK_LOWEST ≤ base s.registers (r - 1)
   low_base = let low = h.stacked.low (r - 1) oldest in let few = (pages_few parts).stack in omega arith
 
   overflows : Overflows n (pages_of parts) parts.words mmu x i
@@ -64,8 +65,8 @@ module _ (n : ℕ) (parts : Parts) (mmu : MmuRegs) (x : World n Device) (s : Sta
   room : HasRoom (pages_of parts) (stack_pointer n x.cpu)
   room = record {
     aligned = ap (λ p. p % 8) pointer_is ∙ h.stacked.aligned (r - 1) oldest;
-    low = subst (λ p. 0x100000 ≤ p + 4096 * (pages_of parts).stack_count) (sym pointer_is) (h.stacked.low (r - 1) oldest);
-    high = subst (λ p. p + 64 ≤ 0x100000) (sym pointer_is) (h.stacked.high (r - 1) oldest);
+    low = subst (λ p. STACK_END ≤ p + 4096 * (pages_of parts).stack_count) (sym pointer_is) (h.stacked.low (r - 1) oldest);
+    high = subst (λ p. p + 64 ≤ STACK_END) (sym pointer_is) (h.stacked.high (r - 1) oldest);
   }
 
   pub handled : Handled n (pages_of parts) parts.words mmu x i
@@ -98,22 +99,22 @@ module _ (n : ℕ) (parts : Parts) (mmu : MmuRegs) (x : World n Device) (s : Sta
 
   -- ---- RAM
 
-  beside : (p : ℕ) → 0x2E00 ≤ p → (p + 4 ≤ base s.registers (r - 1) - 0x60000) ⊎ (base s.registers (r - 1) - 0x60000 + 64 ≤ p) → entry_of end.memory.ram p ≡ entry_of old p
-  beside p above apart = spilled.ram.words p above (inr (subst (λ q. (p + 4 ≤ q - 0x60000) ⊎ (q - 0x60000 + 64 ≤ p)) (sym pointer_is) apart))
+  beside : (p : ℕ) → TABLES_END ≤ p → (p + 4 ≤ area_of (base s.registers (r - 1))) ⊎ (area_of (base s.registers (r - 1)) + 64 ≤ p) → entry_of end.memory.ram p ≡ entry_of old p
+  beside p above apart = spilled.ram.words p above (inr (subst (λ q. (p + 4 ≤ area_of q) ⊎ (area_of q + 64 ≤ p)) (sym pointer_is) apart))
 
-  local_there : (j : ℕ) → j < 8 → entry_of end.memory.ram (base s.registers (r - 1) - 0x60000 + 4 * j) ≡ Some (cell s.registers (r - 1) (8 + j))
+  local_there : (j : ℕ) → j < 8 → entry_of end.memory.ram (area_of (base s.registers (r - 1)) + 4 * j) ≡ Some (cell s.registers (r - 1) (8 + j))
   local_there j small =
       let few = some in
-      ap (λ p. entry_of end.memory.ram (p - 0x60000 + 4 * j)) (sym pointer_is)
+      ap (λ p. entry_of end.memory.ram (area_of p + 4 * j)) (sym pointer_is)
       ∙ spilled.stored.locals j small
       ∙ ap (λ w. Some (word_at x.cpu.regs w (8 + j))) spilled_is
       ∙ ap Some (h.calls.locals (r - 1) (8 + j) (omega arith) (omega arith) (omega arith))
 
-  in_there : (j : ℕ) → j < 8 → entry_of end.memory.ram (base s.registers (r - 1) - 0x60000 + 32 + 4 * j) ≡ Some (cell s.registers (suc (r - 1)) j)
+  in_there : (j : ℕ) → j < 8 → entry_of end.memory.ram (area_of (base s.registers (r - 1)) + 32 + 4 * j) ≡ Some (cell s.registers (suc (r - 1)) j)
   in_there j small =
       let few = some in
       let back : r ≡ suc (r - 1) = omega arith in
-      ap (λ p. entry_of end.memory.ram (p - 0x60000 + 32 + 4 * j)) (sym pointer_is)
+      ap (λ p. entry_of end.memory.ram (area_of p + 32 + 4 * j)) (sym pointer_is)
       ∙ spilled.stored.ins j small
       ∙ ap (λ w. Some (word_at x.cpu.regs w j)) entered_is
       ∙ ap Some (h.calls.outs r j (omega arith) small)
@@ -129,16 +130,16 @@ module _ (n : ℕ) (parts : Parts) (mmu : MmuRegs) (x : World n Device) (s : Sta
             elim split [
               | inl older ↦
                   let e = h.stacked.apart (r - 1) k (omega arith) b in
-                  beside (base s.registers k - 0x60000 + 4 * j) (omega arith) (inr (omega arith)) ∙ h.saved.locals k j older b d
-              | inr same ↦ subst (λ q. entry_of end.memory.ram (base s.registers q - 0x60000 + 4 * j) ≡ Some (cell s.registers q (8 + j))) same (local_there j d)
+                  beside (area_of (base s.registers k) + 4 * j) (omega arith) (inr (omega arith)) ∙ h.saved.locals k j older b d
+              | inr same ↦ subst (λ q. entry_of end.memory.ram (area_of (base s.registers q) + 4 * j) ≡ Some (cell s.registers q (8 + j))) same (local_there j d)
             ];
         ins = λ k j a b d.
             let split : (r ≤ k) ⊎ (r - 1 ≡ k) = search arith in
             elim split [
               | inl older ↦
                   let e = h.stacked.apart (r - 1) k (omega arith) b in
-                  beside (base s.registers k - 0x60000 + 32 + 4 * j) (omega arith) (inr (omega arith)) ∙ h.saved.ins k j older b d
-              | inr same ↦ subst (λ q. entry_of end.memory.ram (base s.registers q - 0x60000 + 32 + 4 * j) ≡ Some (cell s.registers (suc q) j)) same (in_there j d)
+                  beside (area_of (base s.registers k) + 32 + 4 * j) (omega arith) (inr (omega arith)) ∙ h.saved.ins k j older b d
+              | inr same ↦ subst (λ q. entry_of end.memory.ram (area_of (base s.registers q) + 32 + 4 * j) ≡ Some (cell s.registers (suc q) j)) same (in_there j d)
             ];
       }
 
@@ -150,7 +151,7 @@ module _ (n : ℕ) (parts : Parts) (mmu : MmuRegs) (x : World n Device) (s : Sta
       let few = (pages_few parts).stack in
       record {
         place = o.place;
-        there = beside (a - 0x60000) (omega arith) (slot_beside (pages_of parts).stack_count s.registers (r - 1) k a few h.stacked oldest less o.place) ∙ o.there;
+        there = beside (area_of a) (omega arith) (slot_beside (pages_of parts).stack_count s.registers (r - 1) k a few h.stacked oldest less o.place) ∙ o.there;
       }
 
   stack : HasStack end.memory.ram
@@ -158,7 +159,7 @@ module _ (n : ℕ) (parts : Parts) (mmu : MmuRegs) (x : World n Device) (s : Sta
       let low = low_base in
       let e8 = h.stacked.aligned (r - 1) oldest in
       let whole_p = (entry_is end.memory.ram p w there).0.aligned in
-      let b = base s.registers (r - 1) - 0x60000 in
+      let b = area_of (base s.registers (r - 1)) in
       let split : (p + 4 ≤ b) ⊎ (b ≤ p) = search arith in
       let split2 : (p < b + 64) ⊎ (b + 64 ≤ p) = search arith in
       let split3 : (p < b + 32) ⊎ (b + 32 ≤ p) = search arith in
@@ -171,13 +172,13 @@ module _ (n : ℕ) (parts : Parts) (mmu : MmuRegs) (x : World n Device) (s : Sta
                 let j = (p - b) / 4 in
                 let place : b + 4 * j ≡ p = omega arith in
                 let value : Some (word_at x.cpu.regs (spilled_window n x.cpu) (8 + j)) ≡ Some w =
-                sym (spilled.stored.locals j (omega arith)) ∙ ap (λ q. entry_of end.memory.ram (q - 0x60000 + 4 * j)) pointer_is ∙ ap (entry_of end.memory.ram) place ∙ there in
+                sym (spilled.stored.locals j (omega arith)) ∙ ap (λ q. entry_of end.memory.ram (area_of q + 4 * j)) pointer_is ∙ ap (entry_of end.memory.ram) place ∙ there in
                 fits_as (word_at x.cpu.regs (spilled_window n x.cpu) (8 + j)) w value (h.file.rows.fit (spilled_window n x.cpu) (8 + j))
             | inr ins ↦
                 let j = (p - b - 32) / 4 in
                 let place : b + 32 + 4 * j ≡ p = omega arith in
                 let value : Some (word_at x.cpu.regs (entered_window n x.cpu) j) ≡ Some w =
-                sym (spilled.stored.ins j (omega arith)) ∙ ap (λ q. entry_of end.memory.ram (q - 0x60000 + 32 + 4 * j)) pointer_is ∙ ap (entry_of end.memory.ram) place ∙ there in
+                sym (spilled.stored.ins j (omega arith)) ∙ ap (λ q. entry_of end.memory.ram (area_of q + 32 + 4 * j)) pointer_is ∙ ap (entry_of end.memory.ram) place ∙ there in
                 fits_as (word_at x.cpu.regs (entered_window n x.cpu) j) w value (h.file.rows.fit (entered_window n x.cpu) j)
           ]
         ]
@@ -198,7 +199,7 @@ module _ (n : ℕ) (parts : Parts) (mmu : MmuRegs) (x : World n Device) (s : Sta
         low = o.low;
         high = o.high;
         small = o.small;
-        there = spilled.ram.bytes (a - 0x30000) (omega arith) (inr (inl (omega arith))) ∙ o.there;
+        there = spilled.ram.bytes (data_area a) (omega arith) (inr (inl (omega arith))) ∙ o.there;
       }
 
   control : ShowsControl end.cpu.control s

@@ -2,6 +2,7 @@
 use Rattle.std.proofs.Common.{◌≡◌, ℕ, ◌+◌, ◌-◌, ◌*◌, ◌/◌, ◌<◌, ◌≤◌, inl, Bool, true, false, not, List, length, Option, Some, None, Result, Ok, Err, refl, sym, ap, subst, arith}
 use Rattle.std.specs.Prelude.{nat_le, if◌then◌else◌}
 use Rattle.std.proofs.lemmas.Bool.Decides.{nat_tests}
+use Rattle.v8_map.specs.declared.TheConstants.{CODE_START}
 use Rattle.v8_core.specs.Table.{meaning}
 use Rattle.v8_core.specs.Operations.{operation_of}
 use Rattle.v8_core.specs.AccessKind.TheVariants.{Fetch}
@@ -23,14 +24,14 @@ use Rattle.sbx_flat.specs.Traffic.{is_own_code_page}
 use Rattle.sbx_shows.specs.Turns.{IsOwnEvent, IsOwnTurn, ReachesData, StaysBeside, StaysOnWord}
 
 -- the page of a code word
-own_page : (parts : Parts) (pc i : ℕ) → pc ≡ 0x40000 + 4 * i → i < length parts.words → is_own_code_page parts (pc / 4096) ≡ true
+own_page : (parts : Parts) (pc i : ℕ) → pc ≡ CODE_START + 4 * i → i < length parts.words → is_own_code_page parts (pc / 4096) ≡ true
 own_page parts pc i at less =
     let low : 0x40 ≤ pc / 4096 = omega arith in
     let high : 4096 * (pc / 4096 - 0x40) < 4 * length parts.words = omega arith in
     grind (arith, nat_tests, low, high)
 
 -- a turn of user code at a code word
-pub user_own : (n : ℕ) (parts : Parts) (file : Registers) (cpu : Cpu n) (event : Event) (word i : ℕ) (access : Option DataAccess) → cpu.control.s ≡ false → cpu.control.pc ≡ 0x40000 + 4 * i → i < length parts.words →
+pub user_own : (n : ℕ) (parts : Parts) (file : Registers) (cpu : Cpu n) (event : Event) (word i : ℕ) (access : Option DataAccess) → cpu.control.s ≡ false → cpu.control.pc ≡ CODE_START + 4 * i → i < length parts.words →
     IsOwnEvent parts event → ReachesData parts access → IsOwnTurn parts file (turn_of n cpu event (Some word) access)
 user_own n parts file cpu event word i access user at less own reaches =
     let here : StaysBeside parts file true cpu.control.pc access = (own_page parts cpu.control.pc i at less, reaches) in

@@ -2,6 +2,7 @@
 use Rattle.std.proofs.Common.{◌≡◌, ◌≢◌, ℕ, ◌+◌, ◌-◌, ◌*◌, ◌/◌, ◌%◌, ◌^◌, ◌<◌, ◌≤◌, ◌⊎◌, inl, inr, Bool, true, false, cond, List, length, Option, Some, None, refl, sym, ap, ◌∙◌, arith}
 use Rattle.std.specs.Prelude.{◌==◌, ◌&&◌, ◌||◌, nat_le, nat_lt, if◌then◌else◌}
 use Rattle.std.proofs.lemmas.Bool.Decides.{nat_tests}
+use Rattle.v8_map.specs.declared.TheConstants.{CODE_TABLE, RAM, CONTEXT_TABLE, SYSTEM_TABLE}
 use Rattle.v8_core.specs.Ram.{entry_of}
 use Rattle.v8_core.specs.Paths.{marked, marked_ram}
 use Rattle.v8_mmu.proofs.RamLemmas.{entry_is}
@@ -51,11 +52,11 @@ no_bit o w low there none one = let both : w / 2 ^ low % 2 ≡ 1 = sym (ap (λ x
 -- an image that has been placed has no page with R or M
 pub placed_own : (n : ℕ) (parts : Parts) (old new : List ℕ) → IsPlaced n parts old new → OwnMarks parts new
 placed_own n parts old new placed =
-    let there : (k : ℕ) → k < 192 → entry_of new (0x2A00 + 4 * k) ≡ Some (table_word (pages_of parts) (640 + k)) =
-    λ (k : ℕ) (less : k < 192). let same : 0x2A00 + 4 * k ≡ 0x2000 + 4 * (640 + k) = omega arith in ap (entry_of new) same ∙ placed.tables (640 + k) (omega arith) in
+    let there : (k : ℕ) → k < 192 → entry_of new (CODE_TABLE + 4 * k) ≡ Some (table_word (pages_of parts) (640 + k)) =
+    λ (k : ℕ) (less : k < 192). let same : CODE_TABLE + 4 * k ≡ CONTEXT_TABLE + 4 * (640 + k) = omega arith in ap (entry_of new) same ∙ placed.tables (640 + k) (omega arith) in
     record {
-      referenced = λ k less is. let plain = plain_word (pages_of parts) k in absurd (no_bit (entry_of new (0x2A00 + 4 * k)) (table_word (pages_of parts) (640 + k)) 5 (there k less) (omega arith) is);
-      modified = λ k less is. let plain = plain_word (pages_of parts) k in absurd (no_bit (entry_of new (0x2A00 + 4 * k)) (table_word (pages_of parts) (640 + k)) 6 (there k less) (omega arith) is);
+      referenced = λ k less is. let plain = plain_word (pages_of parts) k in absurd (no_bit (entry_of new (CODE_TABLE + 4 * k)) (table_word (pages_of parts) (640 + k)) 5 (there k less) (omega arith) is);
+      modified = λ k less is. let plain = plain_word (pages_of parts) k in absurd (no_bit (entry_of new (CODE_TABLE + 4 * k)) (table_word (pages_of parts) (640 + k)) 6 (there k less) (omega arith) is);
     }
 
 -- ---- marks
@@ -70,7 +71,7 @@ mark_leaves ram place p store apart = by_entry (entry_of ram place) refl
     by_entry (Some w) e = ap (λ r. entry_of r p) (marked_is ram place w store e) ∙ entry_elsewhere ram place p (marked w store) (entry_is ram place w e).0 apart
 
 -- RAM whose entries of pages are as before
-pub own_by : (parts : Parts) (old new : List ℕ) → ((k : ℕ) → k < 192 → entry_of new (0x2A00 + 4 * k) ≡ entry_of old (0x2A00 + 4 * k)) → OwnMarks parts old → OwnMarks parts new
+pub own_by : (parts : Parts) (old new : List ℕ) → ((k : ℕ) → k < 192 → entry_of new (CODE_TABLE + 4 * k) ≡ entry_of old (CODE_TABLE + 4 * k)) → OwnMarks parts old → OwnMarks parts new
 own_by parts old new same own =
     record {
       referenced = λ k less is. own.referenced k less (ap (λ o. bit_of o 5) (sym (same k less)) ∙ is);
@@ -78,11 +79,11 @@ own_by parts old new same own =
     }
 
 -- a mark above the tables of code, data and stack
-pub system_own : (parts : Parts) (ram : List ℕ) (place : ℕ) (store : Bool) → 0x2D00 ≤ place → OwnMarks parts ram → OwnMarks parts (marked_ram ram place store)
-system_own parts ram place store above own = own_by parts ram (marked_ram ram place store) (λ k less. mark_leaves ram place (0x2A00 + 4 * k) store (inl (omega arith))) own
+pub system_own : (parts : Parts) (ram : List ℕ) (place : ℕ) (store : Bool) → SYSTEM_TABLE ≤ place → OwnMarks parts ram → OwnMarks parts (marked_ram ram place store)
+system_own parts ram place store above own = own_by parts ram (marked_ram ram place store) (λ k less. mark_leaves ram place (CODE_TABLE + 4 * k) store (inl (omega arith))) own
 
 pub table_own : (parts : Parts) (ram : List ℕ) → OwnMarks parts ram → OwnMarks parts (table_marked ram)
-table_own parts ram own = system_own parts ram 0x2D00 false (omega arith) own
+table_own parts ram own = system_own parts ram SYSTEM_TABLE false (omega arith) own
 
 pub device_own : (parts : Parts) (ram : List ℕ) (store : Bool) → OwnMarks parts ram → OwnMarks parts (device_marked store ram)
 device_own parts ram store own = system_own parts ram 0x2D40 store (omega arith) own
@@ -102,27 +103,27 @@ modified_by parts page w v false is stored before one = before (sym is ∙ one)
 
 -- A mark on the entry of an own page, for a store that of an own data page, or of no page of code, data or stack.
 pub mark_own : (parts : Parts) (ram : List ℕ) (place t : ℕ) (store : Bool) → Markable ram place t →
-    ((k : ℕ) → k < 192 → place ≡ 0x2A00 + 4 * k → is_own_page parts (0x40 + k) ≡ true) →
-    ((k : ℕ) → k < 192 → place ≡ 0x2A00 + 4 * k → store ≡ true → is_own_data_page parts (0x40 + k) ≡ true) →
+    ((k : ℕ) → k < 192 → place ≡ CODE_TABLE + 4 * k → is_own_page parts (0x40 + k) ≡ true) →
+    ((k : ℕ) → k < 192 → place ≡ CODE_TABLE + 4 * k → store ≡ true → is_own_data_page parts (0x40 + k) ≡ true) →
     OwnMarks parts ram → OwnMarks parts (marked_ram ram place store)
 mark_own parts ram place t store can is_own is_own_data own =
     let w = can.entry.word in
     let m = marks_of ram place w store can.entry.there (entry_fits w t can.entry.is can.small) in
-    let elsewhere : (k : ℕ) → place ≢ 0x2A00 + 4 * k → entry_of (marked_ram ram place store) (0x2A00 + 4 * k) ≡ entry_of ram (0x2A00 + 4 * k) =
-    λ (k : ℕ) (other : place ≢ 0x2A00 + 4 * k). mark_leaves ram place (0x2A00 + 4 * k) store (sides (0x2A00 + 4 * k) place (omega arith) can.aligned (λ e. other (sym e))) in
+    let elsewhere : (k : ℕ) → place ≢ CODE_TABLE + 4 * k → entry_of (marked_ram ram place store) (CODE_TABLE + 4 * k) ≡ entry_of ram (CODE_TABLE + 4 * k) =
+    λ (k : ℕ) (other : place ≢ CODE_TABLE + 4 * k). mark_leaves ram place (CODE_TABLE + 4 * k) store (sides (CODE_TABLE + 4 * k) place (omega arith) can.aligned (λ e. other (sym e))) in
     record {
       referenced = λ k less is.
-          let split : (place ≡ 0x2A00 + 4 * k) ⊎ (place ≢ 0x2A00 + 4 * k) = search arith in
+          let split : (place ≡ CODE_TABLE + 4 * k) ⊎ (place ≢ CODE_TABLE + 4 * k) = search arith in
           elim split [
             | inl here ↦ is_own k less here
             | inr other ↦ own.referenced k less (ap (λ o. bit_of o 5) (sym (elsewhere k other)) ∙ is)
           ];
       modified = λ k less is.
-          let split : (place ≡ 0x2A00 + 4 * k) ⊎ (place ≢ 0x2A00 + 4 * k) = search arith in
+          let split : (place ≡ CODE_TABLE + 4 * k) ⊎ (place ≢ CODE_TABLE + 4 * k) = search arith in
           elim split [
             | inl here ↦
-                let now : bit_of (entry_of (marked_ram ram place store) (0x2A00 + 4 * k)) 6 ≡ marked w store / 2 ^ 6 % 2 = ap (λ p. bit_of (entry_of (marked_ram ram place store) p) 6) (sym here) ∙ ap (λ o. bit_of o 6) m.entry in
-                let was : bit_of (entry_of ram (0x2A00 + 4 * k)) 6 ≡ w / 2 ^ 6 % 2 = ap (λ p. bit_of (entry_of ram p) 6) (sym here) ∙ ap (λ o. bit_of o 6) can.entry.there in
+                let now : bit_of (entry_of (marked_ram ram place store) (CODE_TABLE + 4 * k)) 6 ≡ marked w store / 2 ^ 6 % 2 = ap (λ p. bit_of (entry_of (marked_ram ram place store) p) 6) (sym here) ∙ ap (λ o. bit_of o 6) m.entry in
+                let was : bit_of (entry_of ram (CODE_TABLE + 4 * k)) 6 ≡ w / 2 ^ 6 % 2 = ap (λ p. bit_of (entry_of ram p) 6) (sym here) ∙ ap (λ o. bit_of o 6) can.entry.there in
                 modified_by parts (0x40 + k) w (marked w store / 2 ^ 6 % 2) store m.modified (is_own_data k less here) (λ set. own.modified k less (was ∙ set)) (sym now ∙ is)
             | inr other ↦ own.modified k less (ap (λ o. bit_of o 6) (sym (elsewhere k other)) ∙ is)
           ];
@@ -138,7 +139,7 @@ at_most_is most n = by_test (nat_le n most) refl
     by_test false e = grind (arith, nat_tests)
 
 -- the code words up to the end of the last code page that is mapped lie in pages with a code word of the image's
-own_code : (parts : Parts) (i k : ℕ) → i < 1024 * (pages_of parts).code_count → 0x2A00 + 4 * (i / 1024) ≡ 0x2A00 + 4 * k → is_own_page parts (0x40 + k) ≡ true
+own_code : (parts : Parts) (i k : ℕ) → i < 1024 * (pages_of parts).code_count → CODE_TABLE + 4 * (i / 1024) ≡ CODE_TABLE + 4 * k → is_own_page parts (0x40 + k) ≡ true
 unfolding pages_of
 own_code parts i k within at =
     let fits = at_most_is 64 ((length parts.words + 1023) / 1024) in
@@ -149,7 +150,7 @@ own_code parts i k within at =
 -- a fetch of the code word i
 pub code_own : (n : ℕ) (parts : Parts) (ram : List ℕ) (i : ℕ) → IsLoaded n (pages_of parts) parts.words ram → i < 1024 * (pages_of parts).code_count → OwnMarks parts ram → OwnMarks parts (code_marked i ram)
 code_own n parts ram i loaded within own =
-    mark_own parts ram (0x2A00 + 4 * (i / 1024)) (0x1012 + 0x100 * (i / 1024)) false (code_markable (pages_of parts) ram loaded.tables (pages_few parts) (i / 1024) (omega arith))
+    mark_own parts ram (CODE_TABLE + 4 * (i / 1024)) (0x1012 + 0x100 * (i / 1024)) false (code_markable (pages_of parts) ram loaded.tables (pages_few parts) (i / 1024) (omega arith))
     (λ k less at. own_code parts i k within at)
     (λ k less at set. absurd (cc))
     own

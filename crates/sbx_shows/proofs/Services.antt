@@ -2,6 +2,7 @@
 use Rattle.std.proofs.Common.{◌≡◌, ◌≢◌, ℕ, zero, suc, ◌+◌, ◌-◌, ◌%◌, ◌^◌, ◌<◌, ◌≤◌, inl, inr, Bool, true, false, List, [], ◌∷◌, ◌++◌, length, Some, None, refl, sym, ap, ◌∙◌, subst, arith}
 use Rattle.std.specs.Prelude.{slice_get, if◌then◌else◌}
 use Rattle.std.specs.List.{AllByRecursion}
+use Rattle.v8_map.specs.declared.TheConstants.{RAM, SYSTEM_TABLE}
 use Rattle.v8_core.specs.Admitted.{is_admitted}
 use Rattle.v8_core.specs.Operands.{following}
 use Rattle.v8_core.specs.Windows.{IsFile, Windows, below, can_enter, reg_of, with_word, word_at}
@@ -150,7 +151,7 @@ module _ (n : ℕ) (v : Windows) (file : Registers) (r pc npc : ℕ) (f : IsFile
 -- ---- in RAM it marks system pages
 
 table_same : (n : ℕ) (parts : Parts) (ram : List ℕ) → IsLoaded n (pages_of parts) parts.words ram → SameAbove ram (table_marked ram)
-table_same n parts ram loaded = marked_same ram 0x2D00 0x1A false (system_markable (pages_of parts) ram loaded.tables 0 0x1A (omega arith) refl refl (omega arith))
+table_same n parts ram loaded = marked_same ram SYSTEM_TABLE 0x1A false (system_markable (pages_of parts) ram loaded.tables 0 0x1A (omega arith) refl refl (omega arith))
 
 device_same : (n : ℕ) (parts : Parts) (ram : List ℕ) (store : Bool) → IsLoaded n (pages_of parts) parts.words ram → SameAbove ram (device_marked store ram)
 device_same n parts ram store loaded = marked_same ram 0x2D40 0x1000001E store (system_markable (pages_of parts) ram loaded.tables 16 0x1000001E (omega arith) refl refl (omega arith))

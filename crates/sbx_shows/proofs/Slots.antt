@@ -2,6 +2,8 @@
 use Rattle.std.proofs.Common.{◌≡◌, ◌≢◌, ℕ, zero, suc, ◌+◌, ◌-◌, ◌*◌, ◌/◌, ◌%◌, ◌^◌, ◌<◌, ◌≤◌, ◌⊎◌, inl, inr, Bool, true, false, List, length, Some, refl, sym, ap, ◌∙◌, subst, arith}
 use Rattle.std.specs.Prelude.{◌==◌, if◌then◌else◌}
 use Rattle.std.proofs.lemmas.Bool.Decides.{nat_tests}
+use Rattle.v8_loaded.specs.Areas.{area_of}
+use Rattle.v8_map.specs.declared.TheConstants.{CODE_TABLE, DATA_END, STACK_LOWEST, STACK_END, RAM}
 use Rattle.v8_core.specs.Ram.{entry_of, with_entry}
 use Rattle.v8_core.specs.Paths.{marked_ram}
 use Rattle.v8_mmu.proofs.RamLemmas.{Within, entry_is, entry_of-with_entry}
@@ -18,7 +20,7 @@ use Rattle.sbx_flat.specs.States.{State}
 use Rattle.sbx_flat.specs.Traffic.{is_own_data_page}
 use Rattle.sbx_shows.specs.Calls.{base, cell, slot}
 use Rattle.sbx_shows.specs.Marks.{is_own_page}
-use Rattle.sbx_shows.specs.Shows.{Fits, HasStack, IsSlot, IsStacked, Shows, ShowsSaved, ShowsSlots}
+use Rattle.sbx_shows.specs.Shows.{Fits, HasStack, IsSlot, IsStacked, Shows, ShowsSaved, ShowsSlots, data_area}
 use Rattle.sbx_shows.proofs.Kept.{marked_same}
 use Rattle.sbx_shows.proofs.Pages.{mark_own, own_by}
 use Rattle.sbx_shows.proofs.Stacks.{stack_own}
@@ -39,21 +41,21 @@ slot_newest : (a w : ℕ) (file : Registers) (b : ℕ) → slot (with_slot a w f
 unfolding slot
 slot_newest a w file b = refl
 
-module _ (pages r : ℕ) (file : Registers) (ram : List ℕ) (a w : ℕ) (few : pages ≤ 16) (size : length ram ≡ 0x100000) (st : IsStacked pages file) (o : IsSlot file 0 a) (small : w < 2 ^ 32) where
+module _ (pages r : ℕ) (file : Registers) (ram : List ℕ) (a w : ℕ) (few : pages ≤ 16) (size : length ram ≡ RAM) (st : IsStacked pages file) (o : IsSlot file 0 a) (small : w < 2 ^ 32) where
   abbrev stored : List ℕ
-  stored = with_entry ram (a - 0x60000) w
+  stored = with_entry ram (area_of a) w
 
   abbrev file_stored : Registers
   file_stored = with_slot a w file
 
-  low : 0xF0000 ≤ a
+  low : STACK_LOWEST ≤ a
   low = let base_low = st.low 0 (omega arith) in let above = o.low in omega arith
 
-  there : Within ram (a - 0x60000)
+  there : Within ram (area_of a)
   there = let from = low in let to = o.high in let four = o.aligned in record { aligned = omega arith; fits = omega arith }
 
-  beside_word : (p : ℕ) → (p + 4 ≤ a - 0x60000) ⊎ (a - 0x60000 + 4 ≤ p) → entry_of stored p ≡ entry_of ram p
-  beside_word p apart = entry_elsewhere ram (a - 0x60000) p w there apart
+  beside_word : (p : ℕ) → (p + 4 ≤ area_of a) ⊎ (area_of a + 4 ≤ p) → entry_of stored p ≡ entry_of ram p
+  beside_word p apart = entry_elsewhere ram (area_of a) p w there apart
 
   pub stacked_stored : IsStacked pages file_stored
   stacked_stored = record {
@@ -70,10 +72,10 @@ module _ (pages r : ℕ) (file : Registers) (ram : List ℕ) (a w : ℕ) (few : 
       record {
         locals = λ k j x y z.
             let under = o.below k (omega arith) y in
-            ap (λ q. entry_of stored (q - 0x60000 + 4 * j)) (cell_slot a w file k 6) ∙ beside_word (base file k - 0x60000 + 4 * j) (inr (omega arith)) ∙ h.locals k j x y z ∙ ap Some (sym (cell_slot a w file k (8 + j)));
+            ap (λ q. entry_of stored (area_of q + 4 * j)) (cell_slot a w file k 6) ∙ beside_word (area_of (base file k) + 4 * j) (inr (omega arith)) ∙ h.locals k j x y z ∙ ap Some (sym (cell_slot a w file k (8 + j)));
         ins = λ k j x y z.
             let under = o.below k (omega arith) y in
-            ap (λ q. entry_of stored (q - 0x60000 + 32 + 4 * j)) (cell_slot a w file k 6) ∙ beside_word (base file k - 0x60000 + 32 + 4 * j) (inr (omega arith)) ∙ h.ins k j x y z ∙ ap Some (sym (cell_slot a w file (suc k) j));
+            ap (λ q. entry_of stored (area_of q + 32 + 4 * j)) (cell_slot a w file k 6) ∙ beside_word (area_of (base file k) + 32 + 4 * j) (inr (omega arith)) ∙ h.ins k j x y z ∙ ap Some (sym (cell_slot a w file (suc k) j));
       }
 
   place_stored : (k b : ℕ) → IsSlot file k b → IsSlot file_stored k b
@@ -91,7 +93,7 @@ module _ (pages r : ℕ) (file : Registers) (ram : List ℕ) (a w : ℕ) (few : 
             let value : Some w ≡ Some u = sym (ap (λ (t : Bool). if t then Some w else slot file 0 b) test) ∙ sym (slot_newest a w file b) ∙ is in
             record {
               place = place_stored 0 b (subst (λ q. IsSlot file 0 q) (sym same) o);
-              there = ap (λ q. entry_of stored (q - 0x60000)) same ∙ entry_of-with_entry ram (a - 0x60000) w there small ∙ value;
+              there = ap (λ q. entry_of stored (area_of q)) same ∙ entry_of-with_entry ram (area_of a) w there small ∙ value;
             }
         | inr other ↦
             let test : (b == a) ≡ false = grind (arith, nat_tests) in
@@ -103,7 +105,7 @@ module _ (pages r : ℕ) (file : Registers) (ram : List ℕ) (a w : ℕ) (few : 
             let apart = sides b a p.place.aligned o.aligned other in
             record {
               place = place_stored 0 b p.place;
-              there = beside_word (b - 0x60000) (elim apart [ inl x ↦ inl (omega arith) | inr x ↦ inr (omega arith) ]) ∙ p.there;
+              there = beside_word (area_of b) (elim apart [ inl x ↦ inl (omega arith) | inr x ↦ inr (omega arith) ]) ∙ p.there;
             }
       ]
   slots_stored h (suc k) b u less is =
@@ -111,31 +113,31 @@ module _ (pages r : ℕ) (file : Registers) (ram : List ℕ) (a w : ℕ) (few : 
       let under = o.below (suc k) (omega arith) less in
       let from = low in
       let mine = p.place.low in
-      record { place = place_stored (suc k) b p.place; there = beside_word (b - 0x60000) (inr (omega arith)) ∙ p.there }
+      record { place = place_stored (suc k) b p.place; there = beside_word (area_of b) (inr (omega arith)) ∙ p.there }
 
   pub stack_stored : HasStack ram → HasStack stored
   stack_stored h p u above is =
       let from = low in
-      let split : (p ≡ a - 0x60000) ⊎ (p ≢ a - 0x60000) = search arith in
+      let split : (p ≡ area_of a) ⊎ (p ≢ area_of a) = search arith in
       let whole_p = (entry_is stored p u is).0.aligned in
       elim split [
         | inl same ↦
-            let value : Some w ≡ Some u = sym (entry_of-with_entry ram (a - 0x60000) w there small) ∙ ap (entry_of stored) (sym same) ∙ is in
+            let value : Some w ≡ Some u = sym (entry_of-with_entry ram (area_of a) w there small) ∙ ap (entry_of stored) (sym same) ∙ is in
             let e : w ≡ u = cc in
             subst (λ q. q < 2 ^ 32) e small
-        | inr other ↦ h p u above (sym (beside_word p (sides p (a - 0x60000) whole_p there.aligned other)) ∙ is)
+        | inr other ↦ h p u above (sym (beside_word p (sides p (area_of a) whole_p there.aligned other)) ∙ is)
       ]
 
 -- ---- pages of the stack
 
-at_stack_entry : (parts : Parts) (a k : ℕ) → 0xF0000 ≤ a → a < 0x100000 → stack_entry_place a ≡ 0x2A00 + 4 * k → 0x40 + k ≡ a / 4096
+at_stack_entry : (parts : Parts) (a k : ℕ) → STACK_LOWEST ≤ a → a < STACK_END → stack_entry_place a ≡ CODE_TABLE + 4 * k → 0x40 + k ≡ a / 4096
 at_stack_entry parts a k low high e = omega arith
 
-pub stack_marks : (n : ℕ) (parts : Parts) (old mid : List ℕ) (a : ℕ) (store : Bool) → Fits parts → OnlyMarks n parts old mid → 0x100000 ≤ a + 4096 * (pages_of parts).stack_count → a < 0x100000 → OnlyMarks n parts old (marked_ram mid (stack_entry_place a) store)
+pub stack_marks : (n : ℕ) (parts : Parts) (old mid : List ℕ) (a : ℕ) (store : Bool) → Fits parts → OnlyMarks n parts old mid → STACK_END ≤ a + 4096 * (pages_of parts).stack_count → a < STACK_END → OnlyMarks n parts old (marked_ram mid (stack_entry_place a) store)
 stack_marks n parts old mid a store fits m low high =
     let few = (pages_few parts).stack in
-    let t = 0x9006 + 0x100 * ((a - 0xC0000) / 4096 - 48) in
-    let can : Markable mid (stack_entry_place a) t = stack_markable (pages_of parts) mid m.loaded.tables (pages_few parts) ((a - 0xC0000) / 4096) (omega arith) (omega arith) in
+    let t = 0x9006 + 0x100 * ((a - DATA_END) / 4096 - 48) in
+    let can : Markable mid (stack_entry_place a) t = stack_markable (pages_of parts) mid m.loaded.tables (pages_few parts) ((a - DATA_END) / 4096) (omega arith) (omega arith) in
     let here = marked_same mid (stack_entry_place a) t store can in
     let own = stack_own parts a fits low high in
     record {
@@ -153,7 +155,7 @@ stack_marks n parts old mid a store fits m low high =
 -- ---- all that is shown
 
 pub slot_stored_shows : (n : ℕ) (parts : Parts) (x : World n Device) (s : State) (r a old v : ℕ) → Fits parts → Shows n parts x s r → slot s.registers 0 a ≡ Some old → v < 2 ^ 32 →
-    Shows n parts (world n x.cpu (with_entry x.memory.ram (a - 0x60000) v) x.memory.device) (record s { registers = with_slot a v s.registers }) r
+    Shows n parts (world n x.cpu (with_entry x.memory.ram (area_of a) v) x.memory.device) (record s { registers = with_slot a v s.registers }) r
 slot_stored_shows n parts x s r a old v fits h held small =
     let few = (pages_few parts).stack in
     let count = (pages_of parts).stack_count in
@@ -165,7 +167,7 @@ slot_stored_shows n parts x s r a old v fits h held small =
     let ram = x.memory.ram in
     let size = h.loaded.tables.size in
     let most = fits.bytes in
-    let there : Within ram (a - 0x60000) = record { aligned = omega arith; fits = omega arith } in
+    let there : Within ram (area_of a) = record { aligned = omega arith; fits = omega arith } in
     let t = record s { registers = with_slot a v s.registers } in
     record {
       file = h.file;
@@ -186,10 +188,10 @@ slot_stored_shows n parts x s r a old v fits h held small =
           let o = h.bytes q b is in
           let from = o.low in
           let to = o.high in
-          record { low = o.low; high = o.high; small = o.small; there = byte_beside_entry ram (a - 0x60000) v (q - 0x30000) (omega arith) (inl (omega arith)) ∙ o.there };
+          record { low = o.low; high = o.high; small = o.small; there = byte_beside_entry ram (area_of a) v (data_area q) (omega arith) (inl (omega arith)) ∙ o.there };
       control = record { pc = h.control.pc; npc = h.control.npc; npc_word = h.control.npc_word; npc_whole = h.control.npc_whole; annul = h.control.annul; icc = h.control.icc; y = h.control.y; y_word = h.control.y_word; user = h.control.user; traps = h.control.traps; sane = h.control.sane; table = h.control.table };
       device = device_kept x.memory.device s t refl refl h.device;
       going = h.going;
-      loaded = store_keeps n (pages_of parts) parts.words ram (a - 0x60000) v (pages_few parts) h.loaded (omega arith) (omega arith) (omega arith);
-      marks = own_by parts ram (with_entry ram (a - 0x60000) v) (λ k less. entry_elsewhere ram (a - 0x60000) (0x2A00 + 4 * k) v there (inl (omega arith))) h.marks;
+      loaded = store_keeps n (pages_of parts) parts.words ram (area_of a) v (pages_few parts) h.loaded (omega arith) (omega arith) (omega arith);
+      marks = own_by parts ram (with_entry ram (area_of a) v) (λ k less. entry_elsewhere ram (area_of a) (CODE_TABLE + 4 * k) v there (inl (omega arith))) h.marks;
     }

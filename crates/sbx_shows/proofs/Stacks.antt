@@ -2,6 +2,7 @@
 use Rattle.std.proofs.Common.{◌≡◌, ◌≢◌, ℕ, ◌+◌, ◌-◌, ◌*◌, ◌/◌, ◌%◌, ◌<◌, ◌≤◌, ◌⊎◌, inl, inr, Bool, true, List, length, sym, ap, ◌∙◌, subst, arith}
 use Rattle.std.specs.Prelude.{nat_le, if◌then◌else◌}
 use Rattle.std.proofs.lemmas.Bool.Decides.{nat_tests}
+use Rattle.v8_map.specs.declared.TheConstants.{CODE_TABLE, STACK_LOWEST, STACK_END, STACK_PLACE, RAM, SYSTEM_TABLE}
 use Rattle.v8_core.specs.Ram.{entry_of}
 use Rattle.v8_loaded.specs.Layout.{IsLoaded}
 use Rattle.v8_loaded.specs.Areas.{HasRoom, area_of}
@@ -34,7 +35,7 @@ base_up pages file i k st most less =
 
 -- a slot lies beside the 64 bytes of each call
 pub slot_beside : (pages : ℕ) (file : Registers) (i k a : ℕ) → pages ≤ 16 → IsStacked pages file → i < depth file → k < depth file → IsSlot file k a →
-    (a - 0x60000 + 4 ≤ base file i - 0x60000) ⊎ (base file i - 0x60000 + 64 ≤ a - 0x60000)
+    (area_of a + 4 ≤ area_of (base file i)) ⊎ (area_of (base file i) + 64 ≤ area_of a)
 slot_beside pages file i k a few st less there o =
     let low = st.low i less in
     let low_k = st.low k there in
@@ -45,7 +46,7 @@ slot_beside pages file i k a few st less there o =
       | inr older ↦ let e = base_up pages file i k st older there in inr (omega arith)
     ]
 
-pub stack_own : (parts : Parts) (va : ℕ) → Fits parts → 0x100000 ≤ va + 4096 * (pages_of parts).stack_count → va < 0x100000 → is_own_data_page parts (va / 4096) ≡ true
+pub stack_own : (parts : Parts) (va : ℕ) → Fits parts → STACK_END ≤ va + 4096 * (pages_of parts).stack_count → va < STACK_END → is_own_data_page parts (va / 4096) ≡ true
 stack_own parts va fits low high =
     let count = stack_count parts fits in
     let few = fits.stack in
@@ -56,7 +57,7 @@ stack_own parts va fits low high =
 
 -- RAM whose entries of code, data and stack pages are those after a fetch of the code word i, but for the pages of 64 bytes of stack
 pub handled_own : (n : ℕ) (parts : Parts) (old new : List ℕ) (i sp : ℕ) → Fits parts → IsLoaded n (pages_of parts) parts.words old → i < 1024 * (pages_of parts).code_count → HasRoom (pages_of parts) sp →
-    ((p : ℕ) → p < 0x2D00 → p % 4 ≡ 0 → ((j : ℕ) → j < 16 → p ≢ stack_entry_place (area_of sp + 0x60000 + 4 * j)) → entry_of new p ≡ entry_of (code_marked i old) p) →
+    ((p : ℕ) → p < SYSTEM_TABLE → p % 4 ≡ 0 → ((j : ℕ) → j < 16 → p ≢ stack_entry_place (area_of sp + (STACK_LOWEST - STACK_PLACE) + 4 * j)) → entry_of new p ≡ entry_of (code_marked i old) p) →
     OwnMarks parts old → OwnMarks parts new
 handled_own n parts old new i sp fits loaded within room same own =
     let few = fits.stack in
@@ -68,9 +69,9 @@ handled_own n parts old new i sp fits loaded within room same own =
     let after : OwnMarks parts mid = code_own n parts old i loaded within own in
     let first_own = stack_own parts sp fits low (omega arith) in
     let last_own = stack_own parts (sp + 60) fits (omega arith) (omega arith) in
-    let beside : (k : ℕ) → k < 192 → 0x40 + k ≢ sp / 4096 → 0x40 + k ≢ (sp + 60) / 4096 → entry_of new (0x2A00 + 4 * k) ≡ entry_of mid (0x2A00 + 4 * k) =
+    let beside : (k : ℕ) → k < 192 → 0x40 + k ≢ sp / 4096 → 0x40 + k ≢ (sp + 60) / 4096 → entry_of new (CODE_TABLE + 4 * k) ≡ entry_of mid (CODE_TABLE + 4 * k) =
     λ (k : ℕ) (less : k < 192) (a : 0x40 + k ≢ sp / 4096) (b : 0x40 + k ≢ (sp + 60) / 4096).
-    same (0x2A00 + 4 * k) (omega arith) (omega arith) (λ j small e. apart_by k j sp (omega arith) (omega arith) small a b e) in
+    same (CODE_TABLE + 4 * k) (omega arith) (omega arith) (λ j small e. apart_by k j sp (omega arith) (omega arith) small a b e) in
     record {
       referenced = λ k less is.
           let one : (0x40 + k ≡ sp / 4096) ⊎ (0x40 + k ≢ sp / 4096) = search arith in
@@ -98,7 +99,7 @@ handled_own n parts old new i sp fits loaded within room same own =
     owned parts page e = grind (arith, nat_tests, e)
 
     -- the 64 bytes lie in the page of the first one and in that of the last word
-    apart_by : (k j sp : ℕ) → 0xF0000 ≤ sp → sp + 64 ≤ 0x100000 → j < 16 → 0x40 + k ≢ sp / 4096 → 0x40 + k ≢ (sp + 60) / 4096 → 0x2A00 + 4 * k ≡ stack_entry_place (sp - 0x60000 + 0x60000 + 4 * j) → ⊥
+    apart_by : (k j sp : ℕ) → STACK_LOWEST ≤ sp → sp + 64 ≤ STACK_END → j < 16 → 0x40 + k ≢ sp / 4096 → 0x40 + k ≢ (sp + 60) / 4096 → CODE_TABLE + 4 * k ≡ stack_entry_place (area_of sp + (STACK_LOWEST - STACK_PLACE) + 4 * j) → ⊥
     apart_by k j sp low high small a b e = omega arith
 
 -- a code word lies in its page

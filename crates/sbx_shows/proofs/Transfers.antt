@@ -2,6 +2,8 @@
 use Rattle.std.proofs.Common.{◌≡◌, ℕ, ◌+◌, ◌-◌, ◌*◌, ◌/◌, ◌%◌, ◌^◌, ◌<◌, ◌≤◌, Bool, true, false, not, List, length, Option, Some, None, Ok, refl, sym, ap, ◌∙◌, subst, arith}
 use Rattle.std.specs.Prelude.{◌==◌, ◌&&◌, nat_lt, if◌then◌else◌}
 use Rattle.std.proofs.lemmas.Bool.Decides.{nat_tests}
+use Rattle.v8_loaded.specs.Areas.{area_of}
+use Rattle.v8_map.specs.declared.TheConstants.{DATA_START, STACK_END, RAM}
 use Rattle.v8_core.specs.Size.{Size}
 use Rattle.v8_core.specs.Size.TheVariants as sizes
 use Rattle.v8_core.specs.Operand.{Operand}
@@ -53,7 +55,7 @@ use Rattle.sbx_flat.specs.Turns.{IsWrong}
 use Rattle.sbx_flat.specs.declared.path.Wrong.TheVariants.{Misaligned, OutsideData, StackPointer}
 use Rattle.sbx_flat.proofs.Law.{still_is_fresh}
 use Rattle.sbx_shows.specs.Calls.{slot}
-use Rattle.sbx_shows.specs.Shows.{Shows}
+use Rattle.sbx_shows.specs.Shows.{Shows, data_area}
 use Rattle.sbx_shows.specs.Steps.{OneTurn, Stands}
 use Rattle.sbx_shows.proofs.Data.{data_at, data_entry_place, data_marks, data_own, data_room, data_stored_shows}
 use Rattle.sbx_shows.proofs.Fields.{MemoryIn}
@@ -81,7 +83,7 @@ may_move : (store : Bool) → permits (rights_of 1 true) (data_kind store) ≡ t
 may_move true = refl
 may_move false = refl
 
-in_ram : (pa : ℕ) → pa < 0x100000 → nat_lt pa device_base ≡ true
+in_ram : (pa : ℕ) → pa < RAM → nat_lt pa device_base ≡ true
 in_ram pa less = grind (arith, nat_tests)
 
 module _ (n : ℕ) (parts : Parts) (mmu : MmuRegs) (x : World n Device) (s : State) (r i : ℕ) (h : Stands n parts mmu x s r i) (good : IsWrong parts s → ⊥)
@@ -175,15 +177,15 @@ module _ (n : ℕ) (parts : Parts) (mmu : MmuRegs) (x : World n Device) (s : Sta
 
   -- ---- in the data
 
-  data_walk : 0x80000 ≤ a → a < 0x80000 + length parts.bytes → walked ram (root_of mmu) a (access_by_user (writes_memory t)) ≡ Ok (page (a - 0x30000) (data_entry_place a))
+  data_walk : DATA_START ≤ a → a < DATA_START + length parts.bytes → walked ram (root_of mmu) a (access_by_user (writes_memory t)) ≡ Ok (page (data_area a) (data_entry_place a))
   data_walk low high =
       let most = h.fits.bytes in
-      walk_at (pages_of parts) ram mmu a (access_by_user (writes_memory t)) (a - 0x30000) 1 (data_entry_place a) (marks n parts mmu x s r i h).loaded.tables (pages_few parts) h.root (omega arith)
+      walk_at (pages_of parts) ram mmu a (access_by_user (writes_memory t)) (data_area a) 1 (data_entry_place a) (marks n parts mmu x s r i h).loaded.tables (pages_few parts) h.root (omega arith)
       (data_at (pages_of parts) a (pages_few parts) low (data_room parts a h.fits low high)) (may_move (writes_memory t))
 
   -- what is shown once the number has gone out
   data_left : (mid : List ℕ) (number : ℕ) (b : Bool) → writes_memory t ≡ b → number_at s.memory a (bytes_in size) ≡ Some number → Shows n parts (world n c mid x.memory.device) s r →
-      Shows n parts (world n c (left t mid (a - 0x30000) v) x.memory.device) (leaves_in_data t a v s) r
+      Shows n parts (world n c (left t mid (data_area a) v) x.memory.device) (leaves_in_data t a v s) r
   data_left mid number false e found shown = rw e shown
   data_left mid number true e found shown = rw e (data_stored_shows n parts (world n c mid x.memory.device) s r a number v size h.fits shown found (sent_byte (reg s) t rd))
 
@@ -191,8 +193,8 @@ module _ (n : ℕ) (parts : Parts) (mmu : MmuRegs) (x : World n Device) (s : Sta
   in_data number whole none found =
       let some = some_bytes size in
       let first = inside n parts s.memory x.memory.ram a 0 number size (λ e. omega arith) h.fits h.shows.bytes found h.shows.loaded.tables.size 0 (omega arith) in
-      let low : 0x80000 ≤ a = (let f = first.0 in omega arith) in
-      let high : a < 0x80000 + length parts.bytes = (let f = first.1 in omega arith) in
+      let low : DATA_START ≤ a = (let f = first.0 in omega arith) in
+      let high : a < DATA_START + length parts.bytes = (let f = first.1 in omega arith) in
       let most = h.fits.bytes in
       let m = data_marks n parts x.memory.ram ram a (writes_memory t) h.fits (marks n parts mmu x s r i h) low high in
       let shown = marked_shows n parts x s r (marked (data_entry_place a)) h.shows m in
@@ -202,8 +204,8 @@ module _ (n : ℕ) (parts : Parts) (mmu : MmuRegs) (x : World n Device) (s : Sta
       ap (λ (b : Bool). if b then transfers_in t rd a (slot_of t s a) s else Fails Misaligned) whole
       ∙ ap (λ p. transfers_in t rd a p s) none
       ∙ ap (λ p. transfers_data t rd a p s) found in
-      ends (a - 0x30000) (data_entry_place a) number (left t (marked (data_entry_place a)) (a - 0x30000) v) (leaves_in_data t a v s) whole (data_walk low high)
-      (answers_ram (marked (data_entry_place a)) x.memory.device (a - 0x30000) v number (in_ram (a - 0x30000) (omega arith)) t there)
+      ends (data_area a) (data_entry_place a) number (left t (marked (data_entry_place a)) (data_area a) v) (leaves_in_data t a v s) whole (data_walk low high)
+      (answers_ram (marked (data_entry_place a)) x.memory.device (data_area a) v number (in_ram (data_area a) (omega arith)) t there)
       (data_own parts a low high) goes (data_left (marked (data_entry_place a)) number (writes_memory t) refl found shown) (number_fits parts s.memory x.memory.ram a number size h.shows.bytes found)
 
   -- ---- in a slot
@@ -234,9 +236,9 @@ module _ (n : ℕ) (parts : Parts) (mmu : MmuRegs) (x : World n Device) (s : Sta
   sent_word (Exchange exchanges.Register) e = subst (λ q. q < 2 ^ 32) (same_reg n parts mmu x s r i h rd less) (reads_word n c.regs rd h.shows.file)
   sent_word (Exchange exchanges.Ones) e = absurd (cc)
 
-  slot_walk : 0x100000 ≤ a + 4096 * (pages_of parts).stack_count → a < 0x100000 → walked ram (root_of mmu) a (access_by_user (writes_memory t)) ≡ Ok (page (a - 0x60000) (stack_entry_place a))
+  slot_walk : STACK_END ≤ a + 4096 * (pages_of parts).stack_count → a < STACK_END → walked ram (root_of mmu) a (access_by_user (writes_memory t)) ≡ Ok (page (area_of a) (stack_entry_place a))
   slot_walk low high =
-      walk_at (pages_of parts) ram mmu a (access_by_user (writes_memory t)) (a - 0x60000) 1 (stack_entry_place a) (marks n parts mmu x s r i h).loaded.tables (pages_few parts) h.root (omega arith)
+      walk_at (pages_of parts) ram mmu a (access_by_user (writes_memory t)) (area_of a) 1 (stack_entry_place a) (marks n parts mmu x s r i h).loaded.tables (pages_few parts) h.root (omega arith)
       (stack_at (pages_of parts) a (pages_few parts) (omega arith) high) (may_move (writes_memory t))
 
   held_at : (old : ℕ) → s.registers.newest.slots a ≡ Some old → slot s.registers 0 a ≡ Some old
@@ -244,7 +246,7 @@ module _ (n : ℕ) (parts : Parts) (mmu : MmuRegs) (x : World n Device) (s : Sta
   held_at old e = e
 
   slot_left : (mid : List ℕ) (old : ℕ) (b : Bool) → writes_memory t ≡ b → size ≡ sizes.Word → slot s.registers 0 a ≡ Some old → Shows n parts (world n c mid x.memory.device) s r →
-      Shows n parts (world n c (left t mid (a - 0x60000) v) x.memory.device) (leaves_in_slot t a v s) r
+      Shows n parts (world n c (left t mid (area_of a) v) x.memory.device) (leaves_in_slot t a v s) r
   slot_left mid old false e four held shown = rw e shown
   slot_left mid old true e four held shown = rw e (rw four (slot_stored_shows n parts (world n c mid x.memory.device) s r a old v h.fits shown held (sent_word t four)))
 
@@ -257,18 +259,18 @@ module _ (n : ℕ) (parts : Parts) (mmu : MmuRegs) (x : World n Device) (s : Sta
       let above = p.place.low in
       let top = p.place.high in
       let few = (pages_few parts).stack in
-      let low : 0x100000 ≤ a + 4096 * (pages_of parts).stack_count = omega arith in
-      let high : a < 0x100000 = omega arith in
+      let low : STACK_END ≤ a + 4096 * (pages_of parts).stack_count = omega arith in
+      let high : a < STACK_END = omega arith in
       let m = stack_marks n parts x.memory.ram ram a (writes_memory t) h.fits (marks n parts mmu x s r i h) low high in
       let shown = marked_shows n parts x s r (marked (stack_entry_place a)) h.shows m in
-      let word_there : entry_of (marked (stack_entry_place a)) (a - 0x60000) ≡ Some old = (shown.slots 0 a old (omega arith) held).there in
-      let number : board_number (marked (stack_entry_place a)) (a - 0x60000) size ≡ Some old = subst (λ z. board_number (marked (stack_entry_place a)) (a - 0x60000) z ≡ Some old) (sym which.0) word_there in
-      let small : old < limit_of size = subst (λ z. old < limit_of z) (sym which.0) (h.shows.stack (a - 0x60000) old (omega arith) p.there) in
+      let word_there : entry_of (marked (stack_entry_place a)) (area_of a) ≡ Some old = (shown.slots 0 a old (omega arith) held).there in
+      let number : board_number (marked (stack_entry_place a)) (area_of a) size ≡ Some old = subst (λ z. board_number (marked (stack_entry_place a)) (area_of a) z ≡ Some old) (sym which.0) word_there in
+      let small : old < limit_of size = subst (λ z. old < limit_of z) (sym which.0) (h.shows.stack (area_of a) old (omega arith) p.there) in
       let goes : does parts still op s ≡ takes (received t rd old) (leaves_in_slot t a v s) =
       ap (λ (b : Bool). if b then transfers_in t rd a (slot_of t s a) s else Fails Misaligned) whole
       ∙ ap (λ p. transfers_in t rd a p s) there in
-      ends (a - 0x60000) (stack_entry_place a) old (left t (marked (stack_entry_place a)) (a - 0x60000) v) (leaves_in_slot t a v s) whole (slot_walk low high)
-      (answers_ram (marked (stack_entry_place a)) x.memory.device (a - 0x60000) v old (in_ram (a - 0x60000) (omega arith)) t number)
+      ends (area_of a) (stack_entry_place a) old (left t (marked (stack_entry_place a)) (area_of a) v) (leaves_in_slot t a v s) whole (slot_walk low high)
+      (answers_ram (marked (stack_entry_place a)) x.memory.device (area_of a) v old (in_ram (area_of a) (omega arith)) t number)
       (stack_own parts a h.fits low high) goes (slot_left (marked (stack_entry_place a)) old (writes_memory t) refl which.0 held shown) small
 
   -- ---- wherever it is

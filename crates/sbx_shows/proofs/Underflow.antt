@@ -1,6 +1,7 @@
 -- A RESTORE that finds its window marked: the 24 turns of its trap keep what the board shows, with one call more in windows.
 use Rattle.std.proofs.Common.{◌≡◌, ℕ, zero, suc, ◌+◌, ◌-◌, ◌*◌, ◌%◌, ◌^◌, ◌<◌, ◌≤◌, inl, List, Some, refl, sym, ap, ◌∙◌, subst, arith}
 use Rattle.std.specs.Prelude.{slice_index}
+use Rattle.v8_map.specs.declared.TheConstants.{STACK_LOWEST, STACK_END, RAM, TABLES_END}
 use Rattle.v8_core.specs.Three.{Three}
 use Rattle.v8_core.specs.Operation.TheVariants.{Restore}
 use Rattle.v8_core.specs.Ram.{entry_of}
@@ -9,7 +10,7 @@ use Rattle.v8_core.specs.Windows.{word_at}
 use Rattle.v8_core.specs.Control.{Control}
 use Rattle.v8_core.specs.Accesses.{World}
 use Rattle.v8_loaded.specs.Board.{Device, board}
-use Rattle.v8_loaded.specs.Areas.{HasFrame}
+use Rattle.v8_loaded.specs.Areas.{HasFrame, area_of}
 use Rattle.v8_loaded.specs.Places.{entered_window}
 use Rattle.v8_loaded.specs.Turns.{after}
 use Rattle.v8_loaded.specs.Users.{AsksFor}
@@ -20,7 +21,7 @@ use Rattle.v8_board.proofs.Placed.{pages_few}
 use Rattle.sbx_flat.specs.Parts.{Parts}
 use Rattle.sbx_flat.specs.States.{State}
 use Rattle.sbx_shows.specs.Calls.{base, cell, depth}
-use Rattle.sbx_shows.specs.Shows.{HasStack, Shows, ShowsCalls, ShowsControl, ShowsData, ShowsDevice, ShowsSaved, ShowsSlots, window}
+use Rattle.sbx_shows.specs.Shows.{HasStack, Shows, ShowsCalls, ShowsControl, ShowsData, ShowsDevice, ShowsSaved, ShowsSlots, window, data_area}
 use Rattle.sbx_shows.specs.Steps.{Stands}
 use Rattle.sbx_shows.proofs.Distances.{below_is, same_distance, window_above}
 use Rattle.sbx_shows.proofs.Places.{room as code_within, user}
@@ -48,7 +49,7 @@ module _ (n : ℕ) (parts : Parts) (mmu : MmuRegs) (x : World n Device) (s : Sta
   pub pointer_is : stack_pointer n x.cpu ≡ base s.registers 1
   pointer_is = h.calls.outs 1 6 (omega arith) (omega arith)
 
-  low_base : 0xF0000 ≤ base s.registers 1
+  low_base : STACK_LOWEST ≤ base s.registers 1
   low_base = let low = h.stacked.low 1 (omega arith) in let few = (pages_few parts).stack in omega arith
 
   underflows : Underflows n (pages_of parts) parts.words mmu x i
@@ -60,10 +61,10 @@ module _ (n : ℕ) (parts : Parts) (mmu : MmuRegs) (x : World n Device) (s : Sta
       record {
         room = record {
           aligned = ap (λ p. p % 8) pointer_is ∙ h.stacked.aligned 1 (omega arith);
-          low = subst (λ p. 0x100000 ≤ p + 4096 * (pages_of parts).stack_count) (sym pointer_is) (h.stacked.low 1 (omega arith));
-          high = subst (λ p. p + 64 ≤ 0x100000) (sym pointer_is) (h.stacked.high 1 (omega arith));
+          low = subst (λ p. STACK_END ≤ p + 4096 * (pages_of parts).stack_count) (sym pointer_is) (h.stacked.low 1 (omega arith));
+          high = subst (λ p. p + 64 ≤ STACK_END) (sym pointer_is) (h.stacked.high 1 (omega arith));
         };
-        words = λ j w small there. let e = pointer_is in h.stack (stack_pointer n x.cpu - 0x60000 + 4 * j) w (omega arith) there;
+        words = λ j w small there. let e = pointer_is in h.stack (area_of (stack_pointer n x.cpu) + 4 * j) w (omega arith) there;
       }
 
   pub handled : Handled n (pages_of parts) parts.words mmu x i
@@ -89,13 +90,13 @@ module _ (n : ℕ) (parts : Parts) (mmu : MmuRegs) (x : World n Device) (s : Sta
   local_there : (j : ℕ) → j < 8 → word_at end.cpu.regs (window n c 1) (8 + j) ≡ cell s.registers 1 (8 + j)
   local_there j small =
       same_word (word_at end.cpu.regs (window n c 1) (8 + j)) (cell s.registers 1 (8 + j))
-      (sym (refilled.window.locals j small) ∙ ap (λ p. entry_of old (p - 0x60000 + 4 * j)) pointer_is ∙ h.saved.locals 1 j (omega arith) (omega arith) small)
+      (sym (refilled.window.locals j small) ∙ ap (λ p. entry_of old (area_of p + 4 * j)) pointer_is ∙ h.saved.locals 1 j (omega arith) (omega arith) small)
 
   in_there : (j : ℕ) → j < 8 → word_at end.cpu.regs (window n c 2) j ≡ cell s.registers 2 j
   in_there j small =
       ap (λ w. word_at end.cpu.regs w j) (sym next_is)
       ∙ same_word (word_at end.cpu.regs (next_window n x.cpu) j) (cell s.registers 2 j)
-      (sym (refilled.window.ins j small) ∙ ap (λ p. entry_of old (p - 0x60000 + 32 + 4 * j)) pointer_is ∙ h.saved.ins 1 j (omega arith) (omega arith) small)
+      (sym (refilled.window.ins j small) ∙ ap (λ p. entry_of old (area_of p + 32 + 4 * j)) pointer_is ∙ h.saved.ins 1 j (omega arith) (omega arith) small)
 
   outs_there : (k j : ℕ) → k ≤ 2 → j < 8 → word_at end.cpu.regs (window n end.cpu.regs.current k) j ≡ cell s.registers k j
   outs_there zero j less small = let few = h.file.few in window_kept 0 j (omega arith) (λ e. small) (λ e. absurd (omega arith)) (λ e. small) ∙ h.calls.outs 0 j (omega arith) small
@@ -126,15 +127,15 @@ module _ (n : ℕ) (parts : Parts) (mmu : MmuRegs) (x : World n Device) (s : Sta
 
   -- ---- RAM
 
-  same : (p : ℕ) → 0x2E00 ≤ p → entry_of end.memory.ram p ≡ entry_of old p
+  same : (p : ℕ) → TABLES_END ≤ p → entry_of end.memory.ram p ≡ entry_of old p
   same p high = refilled.ram.words p high (inl refl)
 
   saved : ShowsSaved s.registers 2 end.memory.ram
   saved =
       let few = (pages_few parts).stack in
       record {
-        locals = λ k j a b d. let low = h.stacked.low k b in same (base s.registers k - 0x60000 + 4 * j) (omega arith) ∙ h.saved.locals k j (omega arith) b d;
-        ins = λ k j a b d. let low = h.stacked.low k b in same (base s.registers k - 0x60000 + 32 + 4 * j) (omega arith) ∙ h.saved.ins k j (omega arith) b d;
+        locals = λ k j a b d. let low = h.stacked.low k b in same (area_of (base s.registers k) + 4 * j) (omega arith) ∙ h.saved.locals k j (omega arith) b d;
+        ins = λ k j a b d. let low = h.stacked.low k b in same (area_of (base s.registers k) + 32 + 4 * j) (omega arith) ∙ h.saved.ins k j (omega arith) b d;
       }
 
   slots : ShowsSlots s.registers end.memory.ram
@@ -143,7 +144,7 @@ module _ (n : ℕ) (parts : Parts) (mmu : MmuRegs) (x : World n Device) (s : Sta
       let low = h.stacked.low k less in
       let above_base = o.place.low in
       let few = (pages_few parts).stack in
-      record { place = o.place; there = same (a - 0x60000) (omega arith) ∙ o.there }
+      record { place = o.place; there = same (area_of a) (omega arith) ∙ o.there }
 
   stack : HasStack end.memory.ram
   stack p w above_place there =
@@ -153,7 +154,7 @@ module _ (n : ℕ) (parts : Parts) (mmu : MmuRegs) (x : World n Device) (s : Sta
   bytes a b there =
       let o = h.bytes a b there in
       let low = o.low in
-      record { low = o.low; high = o.high; small = o.small; there = refilled.ram.bytes (a - 0x30000) (omega arith) (inl refl) ∙ o.there }
+      record { low = o.low; high = o.high; small = o.small; there = refilled.ram.bytes (data_area a) (omega arith) (inl refl) ∙ o.there }
 
   control : ShowsControl end.cpu.control s
   control =

@@ -1,5 +1,6 @@
 -- A turn of user code that writes a register, whatever it loads: both machines go on.
 use Rattle.std.proofs.Common.{◌≡◌, ◌≢◌, ℕ, ◌+◌, ◌*◌, ◌/◌, ◌%◌, ◌^◌, ◌<◌, Bool, false, List, refl, sym, ap, ◌∙◌, subst, arith}
+use Rattle.v8_map.specs.declared.TheConstants.{CODE_START, CODE_TABLE, RAM, CONTEXT_TABLE}
 use Rattle.v8_core.specs.Icc.{Icc}
 use Rattle.v8_core.specs.Operands.{following}
 use Rattle.v8_core.specs.Windows.{with_reg}
@@ -38,12 +39,12 @@ pub record OnlyMarks (n : ℕ) (parts : Parts) (old new : List ℕ) : Type 0 whe
 -- a fetch of the code word i
 pub fetch_marks : (n : ℕ) (parts : Parts) (ram : List ℕ) (i : ℕ) → IsLoaded n (pages_of parts) parts.words ram → OwnMarks parts ram → i < 1024 * (pages_of parts).code_count → OnlyMarks n parts ram (code_marked i ram)
 fetch_marks n parts ram i loaded own within = record {
-  same = marked_same ram (0x2A00 + 4 * (i / 1024)) (0x1012 + 0x100 * (i / 1024)) false (code_markable (pages_of parts) ram loaded.tables (pages_few parts) (i / 1024) (omega arith));
+  same = marked_same ram (CODE_TABLE + 4 * (i / 1024)) (0x1012 + 0x100 * (i / 1024)) false (code_markable (pages_of parts) ram loaded.tables (pages_few parts) (i / 1024) (omega arith));
   loaded = code_kept n (pages_of parts) parts.words ram (pages_few parts) loaded i within;
   marks = code_own n parts ram i loaded within own;
 }
 
-pub runs_user : (n : ℕ) (parts : Parts) (mmu : MmuRegs) (x : World n Device) (s : State) (r i : ℕ) → Shows n parts x s r → root_of mmu ≡ 0x2000 → s.annulled ≡ false → s.pc ≡ 0x00040000 + 4 * i → i < 1024 * (pages_of parts).code_count → RunsUser n (pages_of parts) parts.words mmu x i
+pub runs_user : (n : ℕ) (parts : Parts) (mmu : MmuRegs) (x : World n Device) (s : State) (r i : ℕ) → Shows n parts x s r → root_of mmu ≡ CONTEXT_TABLE → s.annulled ≡ false → s.pc ≡ CODE_START + 4 * i → i < 1024 * (pages_of parts).code_count → RunsUser n (pages_of parts) parts.words mmu x i
 runs_user n parts mmu x s r i h root straight at within =
     record {
       file = h.file;

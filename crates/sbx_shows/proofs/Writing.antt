@@ -3,6 +3,7 @@ use Rattle.std.proofs.Common.{◌≡◌, ◌≢◌, ℕ, zero, suc, ◌+◌, ◌
 use Rattle.std.specs.Prelude.{slice_index, slice_set, ◌==◌, ◌&&◌, nat_lt, if◌then◌else◌}
 use Rattle.std.proofs.lemmas.Bool.Decides.{nat_tests}
 use Rattle.std.proofs.lemmas.List.{get_or-set_same, get_or-set_other}
+use Rattle.v8_loaded.specs.Areas.{area_of}
 use Rattle.v8_core.specs.Ram.{entry_of}
 use Rattle.v8_core.specs.Windows.{Windows, IsFile, above, with_reg, word_at}
 use Rattle.v8_windows.proofs.AfterWrites.{written_at, written_current}
@@ -279,8 +280,8 @@ pub saved_same : (r : ℕ) (ram : List ℕ) (old new : Registers) → 1 ≤ r �
 saved_same r ram old new some s h =
     let deep = s.deep in
     record {
-      locals = λ k j a b d. ap (λ q. entry_of ram (q - 0x60000 + 4 * j)) (s.bases k) ∙ h.locals k j a (omega arith) d ∙ ap Some (sym (s.locals k (8 + j) (omega arith) (omega arith)));
-      ins = λ k j a b d. ap (λ q. entry_of ram (q - 0x60000 + 32 + 4 * j)) (s.bases k) ∙ h.ins k j a (omega arith) d ∙ ap Some (sym (s.outs (suc k) j (omega arith)));
+      locals = λ k j a b d. ap (λ q. entry_of ram (area_of q + 4 * j)) (s.bases k) ∙ h.locals k j a (omega arith) d ∙ ap Some (sym (s.locals k (8 + j) (omega arith) (omega arith)));
+      ins = λ k j a b d. ap (λ q. entry_of ram (area_of q + 32 + 4 * j)) (s.bases k) ∙ h.ins k j a (omega arith) d ∙ ap Some (sym (s.outs (suc k) j (omega arith)));
     }
 
 pub slots_same : (ram : List ℕ) (old new : Registers) → SameCalls old new → ShowsSlots old ram → ShowsSlots new ram

@@ -70,12 +70,16 @@ ShowsSlots file ram = (k a w : ℕ) → k < depth file → slot file k a ≡ Som
 abbrev pub HasStack : List ℕ → Type 0
 HasStack ram = (p w : ℕ) → STACK_PLACE ≤ p → entry_of ram p ≡ Some w → w < 2 ^ 32
 
+-- where the data lies in physical memory
+abbrev pub data_area : ℕ → ℕ
+data_area a = lowered DATA_START DATA_PLACE a
+
 -- A byte of the data is the byte of RAM at its address.
 pub record ShowsByte (parts : Parts) (ram : List ℕ) (a b : ℕ) : Type 0 where
   pub low : DATA_START ≤ a
   pub high : a < DATA_START + length parts.bytes
   pub small : b < 2 ^ 8
-  pub there : slice_index ram (lowered DATA_START DATA_PLACE a) ≡ b
+  pub there : slice_index ram (data_area a) ≡ b
 
 abbrev pub ShowsData : Parts → Bytes → List ℕ → Type 0
 ShowsData parts memory ram = (a b : ℕ) → memory a ≡ Some b → ShowsByte parts ram a b

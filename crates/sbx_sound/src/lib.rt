@@ -1,12 +1,12 @@
-//! Why checked images are safe on the flat machine, as far as it is proved.
+//! Why checked images are safe on the flat machine.
 //!
-//! What all runs of an image over one input share stands in `specs/Shared.antt`, and where a run may stand, with its open calls
-//! and its ledger of fuel, in `specs/Running.antt`. `proofs/Start.antt` concludes: an image is flat-safe if each place steps on,
-//! fuel is positive at each place, and it starts well. From the rules there are so far the start, SAVE, CALL, branches, the exit
-//! and the results that every pair of operands has (`proofs/Straight.antt`).
+//! The two laws: an image that breaks no rule is flat-safe, and some of a block's fuel is left before each of its words.
 //!
-//! Not there yet, from the rules: returns, the slots of calls and branches, loads and stores, divisions, tagged results, Y, get
-//! and put; and that fuel is positive at each place. No contract stands on these lemmas.
+//! How they are proved: what all runs of an image over one input share stands in `specs/Shared.antt`, and where a run may stand,
+//! with its open calls and its ledger of fuel, in `specs/Running.antt`. From each such place a run comes to another one, or ends:
+//! by words that control comes to straight (`proofs/EachWord.antt`), and the slots of calls, returns and branches
+//! (`proofs/Calling.antt`, `proofs/Returning.antt`, `proofs/Branching.antt`). Fuel is positive since it falls along a run of
+//! numbers that looks at no multiples (`proofs/Onward.antt`), and is bounded below (`proofs/Bounded.antt`).
 #![tactic(auto)]
 
 pub mod laws;

@@ -3,6 +3,7 @@ use Rattle.std.proofs.Common.{◌≡◌, ℕ, suc, ◌+◌, ◌-◌, ◌*◌, �
 use Rattle.std.specs.Prelude.{slice_get, slice_index, ◌==◌, ◌&&◌, nat_le, if◌then◌else◌}
 use Rattle.std.proofs.lemmas.Bool.Decides.{nat_tests}
 use Rattle.std.proofs.lemmas.Option.{slice_get_within}
+use Rattle.v8_map.specs.declared.TheConstants.{CODE_START, CONTEXT_TABLE}
 use Rattle.v8_core.specs.Operation.{Operation}
 use Rattle.v8_core.specs.Operation.TheVariants.{Restore, Save}
 use Rattle.v8_core.specs.Walked.{root_of}
@@ -33,7 +34,7 @@ use Rattle.sbx_windows.proofs.Start.{boot, flat_start, is_flat_start, start_show
 
 record Located (words : List ℕ) (pc : ℕ) : Type 0 where
   index : ℕ
-  place : pc ≡ 0x40000 + 4 * index
+  place : pc ≡ CODE_START + 4 * index
   within : index < length words
 
 located_by : (words : List ℕ) (pc word : ℕ) (b : Bool) → (nat_le code_start pc && (pc % 4 == 0)) ≡ b → (if b then slice_get words ((pc - code_start) / 4) else None) ≡ Some word → Located words pc
@@ -47,7 +48,7 @@ located : (words : List ℕ) (pc word : ℕ) → word_at words pc ≡ Some word 
 unfolding word_at
 located words pc word e = located_by words pc word (nat_le code_start pc && (pc % 4 == 0)) refl e
 
-module _ (n : ℕ) (parts : Parts) (input earlier : List ℕ) (start : BoardState n) (image : IsImage parts) (safe : FlatSafe parts) (bytes : AreBytes input) (root : root_of start.mmu ≡ 0x2000) where
+module _ (n : ℕ) (parts : Parts) (input earlier : List ℕ) (start : BoardState n) (image : IsImage parts) (safe : FlatSafe parts) (bytes : AreBytes input) (root : root_of start.mmu ≡ CONTEXT_TABLE) where
   abbrev Next : World n Device → State → ℕ → Type 0
   Next x s r = Taken n parts input earlier start safe bytes image.budget_fits x s r
 
@@ -101,7 +102,7 @@ runs_to_its_end n parts input made start image safe bytes any loaded =
     let s = flat_start parts input (boot n made.world.cpu.regs) made.world.cpu.control.y in
     let shown = start_shows n parts input made start image bytes any loaded in
     let flat = is_flat_start n parts input made any in
-    let mmu : root_of start.mmu ≡ 0x2000 = ap root_of loaded.mmu ∙ any.state.root in
+    let mmu : root_of start.mmu ≡ CONTEXT_TABLE = ap root_of loaded.mmu ∙ any.state.root in
     let came : Came n parts input earlier start start.world s 1 = record {
       path = [];
       run = (s, flat, refl);

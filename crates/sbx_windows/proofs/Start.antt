@@ -6,6 +6,7 @@ use Rattle.std.proofs.lemmas.Option.{slice_get_within, get_or_from_slice_get}
 use Rattle.std.proofs.Math.Nat.{mod-eq_of_lt}
 use Rattle.std.proofs.Math.Pow.{pow_mono}
 use Rattle.std.proofs.lemmas.List.{append-nil}
+use Rattle.v8_map.specs.declared.TheConstants.{DATA_START, DATA_PLACE, STACK_END, STACK_START, RAM}
 use Rattle.v8_core.specs.Ram.{entry_of}
 use Rattle.v8_mmu.proofs.RamLemmas.{entry_is}
 use Rattle.v8_core.specs.Windows.{Windows, IsFile, with_reg, word_at}
@@ -25,7 +26,7 @@ use Rattle.sbx_flat.specs.Registers.{Registers}
 use Rattle.sbx_flat.specs.Runs.{AreBytes, IsStart as IsFlatStart, data_at}
 use Rattle.sbx_flat.specs.States.{State}
 use Rattle.sbx_shows.specs.Calls.{base, cell, slot}
-use Rattle.sbx_shows.specs.Shows.{Fits, HasStack, IsStacked, Shows, ShowsByte, ShowsCalls, ShowsData, ShowsSlots, window}
+use Rattle.sbx_shows.specs.Shows.{Fits, HasStack, IsStacked, Shows, ShowsByte, ShowsCalls, ShowsData, ShowsSlots, window, data_area}
 use Rattle.sbx_shows.proofs.Files.{file_written}
 use Rattle.sbx_shows.proofs.Pages.{placed_own}
 use Rattle.sbx_shows.proofs.Stacks.{stack_count}
@@ -34,7 +35,7 @@ use Rattle.sbx_windows.specs.Runs.{IsAnyBoard, IsImage, with_earlier}
 
 -- the registers that booting leaves
 abbrev pub boot : ℕ → Windows → Windows
-boot n v = with_reg n (record v { current = 0; mask = 2 }) 14 0x000FFFC0
+boot n v = with_reg n (record v { current = 0; mask = 2 }) 14 STACK_START
 
 abbrev pub start_file : Windows → Registers
 start_file v = record {
@@ -66,10 +67,10 @@ module _ (n : ℕ) (old : Windows) (f : IsFile n old) where
   empty = let few = f.few in record { few = f.few; many = f.many; current = omega arith; mask = small_mask; globals = f.globals; rows = f.rows }
 
   pub boot_file : IsFile n (boot n old)
-  boot_file = file_written n (record old { current = 0; mask = 2 }) 14 0x000FFFC0 empty (omega arith) (omega arith)
+  boot_file = file_written n (record old { current = 0; mask = 2 }) 14 STACK_START empty (omega arith) (omega arith)
 
   current_is : (boot n old).current ≡ 0
-  current_is = written_current n (record old { current = 0; mask = 2 }) 14 0x000FFFC0
+  current_is = written_current n (record old { current = 0; mask = 2 }) 14 STACK_START
 
   first : window n (boot n old).current 0 ≡ 0
   first = let few = f.few in ap (λ c. window n c 0) current_is ∙ mod-eq_of_lt (omega arith)
@@ -77,8 +78,8 @@ module _ (n : ℕ) (old : Windows) (f : IsFile n old) where
   second : window n (boot n old).current 1 ≡ 1
   second = let few = f.few in ap (λ c. window n c 1) current_is ∙ mod-eq_of_lt (omega arith)
 
-  pub start_base : word_at (boot n old) 0 6 ≡ 0x000FFFC0
-  start_base = written_at n (record old { current = 0; mask = 2 }) 14 0x000FFFC0 0 6 empty (omega arith) (omega arith)
+  pub start_base : word_at (boot n old) 0 6 ≡ STACK_START
+  start_base = written_at n (record old { current = 0; mask = 2 }) 14 STACK_START 0 6 empty (omega arith) (omega arith)
 
   outs_start : (k j : ℕ) → k ≤ 1 → j < 8 → word_at (boot n old) (window n (boot n old).current k) j ≡ cell (start_file (boot n old)) k j
   unfolding cell
@@ -104,7 +105,7 @@ module _ (n : ℕ) (old : Windows) (f : IsFile n old) where
         some = omega arith;
         most = omega arith;
         open_calls = omega arith;
-        mask = mask_kept n (record old { current = 0; mask = 2 }) 14 0x000FFFC0 ∙ ap (λ w. 2 ^ w) (sym second);
+        mask = mask_kept n (record old { current = 0; mask = 2 }) 14 STACK_START ∙ ap (λ w. 2 ^ w) (sym second);
         globals = λ k a b. refl;
         outs = outs_start;
         locals = locals_start;
@@ -116,12 +117,12 @@ module _ (n : ℕ) (old : Windows) (f : IsFile n old) where
       let b = start_base in
       record {
         aligned = λ k less. at_zero k less (λ q. q % 8 ≡ 0) (omega arith);
-        low = λ k less. at_zero k less (λ q. 0x100000 ≤ q + 4096 * pages) (omega arith);
-        high = λ k less. at_zero k less (λ q. q + 64 ≤ 0x100000) (omega arith);
+        low = λ k less. at_zero k less (λ q. STACK_END ≤ q + 4096 * pages) (omega arith);
+        high = λ k less. at_zero k less (λ q. q + 64 ≤ STACK_END) (omega arith);
         apart = λ k i a c. absurd (omega arith);
       }
     where
-      at_zero : (k : ℕ) → k < 1 → (P : ℕ → Type 0) → P 0x000FFFC0 → P (base (start_file (boot n old)) k)
+      at_zero : (k : ℕ) → k < 1 → (P : ℕ → Type 0) → P STACK_START → P (base (start_file (boot n old)) k)
       at_zero zero less P p = subst P (sym start_base) p
       at_zero (suc k) less P p = absurd (omega arith)
 
@@ -132,29 +133,29 @@ module _ (n : ℕ) (old : Windows) (f : IsFile n old) where
 
 -- ---- all of it
 
-data_start_shows : (parts : Parts) (ram : List ℕ) → Fits parts → ((i : ℕ) → slice_index parts.bytes i < 2 ^ 8) → ((i : ℕ) → i < 4096 * (pages_of parts).data_count → slice_index ram (0x50000 + i) ≡ slice_index parts.bytes i) → ShowsData parts (data_at parts.bytes) ram
+data_start_shows : (parts : Parts) (ram : List ℕ) → Fits parts → ((i : ℕ) → slice_index parts.bytes i < 2 ^ 8) → ((i : ℕ) → i < 4096 * (pages_of parts).data_count → slice_index ram (DATA_PLACE + i) ≡ slice_index parts.bytes i) → ShowsData parts (data_at parts.bytes) ram
 unfolding pages_of
-data_start_shows parts ram fits small placed a b is = by_place (nat_lt a 0x80000) refl is
+data_start_shows parts ram fits small placed a b is = by_place (nat_lt a DATA_START) refl is
   where
-    by_place : (t : Bool) → nat_lt a 0x80000 ≡ t → (if t then None else slice_get parts.bytes (a - 0x80000)) ≡ Some b → ShowsByte parts ram a b
+    by_place : (t : Bool) → nat_lt a DATA_START ≡ t → (if t then None else slice_get parts.bytes (a - DATA_START)) ≡ Some b → ShowsByte parts ram a b
     by_place true e f = absurd (cc)
     by_place false e f =
-        let low : 0x80000 ≤ a = grind (arith, nat_tests) in
-        let less = slice_get_within parts.bytes (a - 0x80000) b f in
-        let value : slice_index parts.bytes (a - 0x80000) ≡ b = get_or_from_slice_get parts.bytes (a - 0x80000) b 0 f in
+        let low : DATA_START ≤ a = grind (arith, nat_tests) in
+        let less = slice_get_within parts.bytes (a - DATA_START) b f in
+        let value : slice_index parts.bytes (a - DATA_START) ≡ b = get_or_from_slice_get parts.bytes (a - DATA_START) b 0 f in
         let most = fits.bytes in
         let few : nat_le ((length parts.bytes + 4095) / 4096) 64 ≡ true = grind (arith, nat_tests) in
         let count : at_most 64 ((length parts.bytes + 4095) / 4096) ≡ (length parts.bytes + 4095) / 4096 = ap (λ (t : Bool). if t then (length parts.bytes + 4095) / 4096 else 64) few in
-        let place : a - 0x30000 ≡ 0x50000 + (a - 0x80000) = omega arith in
+        let place : data_area a ≡ DATA_PLACE + (a - DATA_START) = omega arith in
         record {
           low = low;
           high = omega arith;
-          small = subst (λ q. q < 2 ^ 8) value (small (a - 0x80000));
-          there = ap (slice_index ram) place ∙ placed (a - 0x80000) (omega (arith, count)) ∙ value;
+          small = subst (λ q. q < 2 ^ 8) value (small (a - DATA_START));
+          there = ap (slice_index ram) place ∙ placed (a - DATA_START) (omega (arith, count)) ∙ value;
         }
 
 -- the stack of a board that was loaded has words, as its RAM has bytes
-stack_start : (n : ℕ) (parts : Parts) (old new : List ℕ) → IsPlaced n parts old new → length old ≡ 0x100000 → ((i : ℕ) → slice_index old i < 256) → HasStack new
+stack_start : (n : ℕ) (parts : Parts) (old new : List ℕ) → IsPlaced n parts old new → length old ≡ RAM → ((i : ℕ) → slice_index old i < 256) → HasStack new
 stack_start n parts old new placed size bytes p w above there =
     let same : entry_of new p ≡ entry_of old p = word_kept old new p (placed.size ∙ sym size) (λ j low high. placed.stack j (omega arith)) in
     let is = (entry_is old p w (sym same ∙ there)).1 in
