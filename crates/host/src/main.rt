@@ -29,7 +29,7 @@ const NAMES: [(Services, &str); 3] = [
 
 /// Tells what an image asks for.
 fn show<E: Write>(image: &Image, err: &mut E) -> io::Result<()> {
-    write!(err, "asks for")?;
+    write!(err, "services:")?;
     for (service, name) in NAMES {
         if image.services().contains(service) {
             write!(err, " {name}")?;
@@ -37,7 +37,7 @@ fn show<E: Write>(image: &Image, err: &mut E) -> io::Result<()> {
     }
     writeln!(
         err,
-        ", {} turns, {} pages of stack",
+        "; turns: {}; stack pages: {}",
         budget(image),
         image.stack_pages()
     )
@@ -62,15 +62,15 @@ fn input_of(rt: &HostRuntime) -> io::Result<Vec<u8>> {
     Ok(input)
 }
 
-/// Hands the output on, and gives the status of the exit word.
+/// Tells how a run ended, hands its output on, and gives the status of the exit word.
 fn hand_on(rt: &HostRuntime, finished: &Finished) -> io::Result<u8> {
-    rt.stdout().write_all(finished.output.as_slice())?;
     writeln!(
         rt.stderr(),
         "exit word {}, {} turns",
         finished.status,
         finished.turns
     )?;
+    rt.stdout().write_all(finished.output.as_slice())?;
     Ok(u8::from(finished.status != 0))
 }
 

@@ -1,6 +1,5 @@
 pub mod Products
 pub mod Values
-pub mod Deciding
 pub mod Reached
 pub mod Counting
 pub mod Exact

@@ -2,15 +2,14 @@
 use Rattle.std.proofs.Common.{◌≡◌, ℕ, suc, ◌≤◌, List, [], ◌∷◌, Some, None, refl, ap, subst, arith}
 use Rattle.std.specs.Prelude.{Option, ℤ, pos, neg_ℤ, ◌+ℤ◌, ◌-ℤ◌, ◌*ℤ◌, ◌≤ℤ◌}
 use Rattle.std.proofs.lemmas.Int.{ints}
-use Rattle.sbx_image.specs.declared.parts.Range.{Range}
 use Rattle.sbx_form.specs.declared.terms.FormTerm.{FormTerm}
-use Rattle.sbx_form.specs.Forms.{AscendFrom, Cells, Within, add_term, add_terms, terms_value}
+use Rattle.sbx_form.specs.Forms.{AscendFrom, Cells, add_term, add_terms, terms_value}
 use Rattle.sbx_form.proofs.Values.{value-add_terms}
 use Rattle.sbx_form.proofs.Ordered.{sums_stay_in_order}
 use Rattle.sbx_domain.specs.Forms.{Form, form_value}
-use Rattle.sbx_domain.specs.Known.{Known, form_at, range_at}
-use Rattle.sbx_rules.specs.Fuel.{InCells, number_now, numbers_now}
-use Rattle.sbx_fuel.specs.Margins.{AreRanged, constant_left, ends_at, hi_of, less_constant, less_terms, lo_of, open_terms, start_terms, with_open}
+use Rattle.sbx_domain.specs.Known.{Known, form_at}
+use Rattle.sbx_rules.specs.Fuel.{number_now, numbers_now}
+use Rattle.sbx_fuel.specs.Margins.{constant_left, less_constant, less_terms, open_terms, start_terms, with_open}
 use Rattle.sbx_fuel.proofs.Products.{sum_less, times_neg}
 
 -- ---- the value of what is left
@@ -46,47 +45,6 @@ left_is start others now (t ∷ ts) terms z = by_form (form_at now t.location) (
         let u : form_value start g ≡ g.constant +ℤ terms_value start g.terms = form_is start g in
         let w = ap (λ n. n *ℤ t.coefficient) u in
         omega (arith, ints)
-
--- ---- numbers that lie in all ends
-
-abbrev pub filled_at : Option Range → ℤ → ℤ
-filled_at None z = pos 0
-filled_at (Some r) z = z
-
--- the numbers where there are ranges, else 0
-pub filled : Known → Cells → Cells
-filled d numbers l = filled_at (range_at d l) (numbers l)
-
-at_ends : (o : Option Range) (z : ℤ) → ((r : Range) → o ≡ Some r → (r.lo ≤ℤ z) × (z ≤ℤ r.hi)) → (lo_of o ≤ℤ filled_at o z) × (filled_at o z ≤ℤ hi_of o)
-at_ends None z h = (omega (arith, ints), omega (arith, ints))
-at_ends (Some r) z h = h r refl
-
-pub filled_within : (d : Known) (numbers : Cells) → InCells d numbers → Within (ends_at d) (filled d numbers)
-unfolding filled
-filled_within d numbers h = record {
-  low = λ l. (at_ends (range_at d l) (numbers l) (h l)).0;
-  high = λ l. (at_ends (range_at d l) (numbers l) (h l)).1;
-}
-
-pub filled_value : (d : Known) (numbers : Cells) (ts : List FormTerm) → AreRanged d ts → terms_value (filled d numbers) ts ≡ terms_value numbers ts
-unfolding filled
-filled_value d numbers [] h = refl
-filled_value d numbers (t ∷ ts) h =
-    let same : filled_at (range_at d t.location) (numbers t.location) ≡ numbers t.location = ap (λ o. filled_at o (numbers t.location)) h.0.1 in
-    let one = ap (λ v. v *ℤ t.coefficient) same in
-    let rest = filled_value d numbers ts h.1 in
-    omega (arith, ints)
-
-pub within_cells : (d : Known) (numbers : Cells) → Within (ends_at d) numbers → InCells d numbers
-within_cells d numbers w l r e =
-    (subst (λ o. lo_of o ≤ℤ numbers l) e (w.low l), subst (λ o. numbers l ≤ℤ hi_of o) e (w.high l))
-
-ends_some_at : (o : Option Range) → ((r : Range) → o ≡ Some r → r.lo ≤ℤ r.hi) → lo_of o ≤ℤ hi_of o
-ends_some_at None h = omega (arith, ints)
-ends_some_at (Some r) h = h r refl
-
-pub ends_some : (d : Known) → ((l : ℕ) (r : Range) → range_at d l ≡ Some r → r.lo ≤ℤ r.hi) → (l : ℕ) → lo_of (range_at d l) ≤ℤ hi_of (range_at d l)
-ends_some d h l = ends_some_at (range_at d l) (h l)
 
 -- ---- orders
 

@@ -2,7 +2,6 @@
 #![tactic(auto)]
 
 mod edges;
-pub mod laws;
 mod starts;
 mod sums;
 

@@ -47,3 +47,4 @@ pub mod Calling
 pub mod Branching
 pub mod EachWord
 pub mod Whole
+pub mod Formed

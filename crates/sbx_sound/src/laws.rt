@@ -1,5 +1,5 @@
 //! Each law is the contract of a function that does nothing.
-ghost use Rattle.sbx_sound.specs.Law.{CheckedIsSafe};
+ghost use Rattle.sbx_sound.specs.Law.{CheckedIsSafe, WhatIsReadIsFormed};
 ghost use Rattle.sbx_sound.specs.Positive.{FuelStaysPositive};
 
 /// In an image that breaks no rule some of a block's fuel is left before each of its words, for all numbers of the ranges that the
@@ -13,4 +13,9 @@ pub fn fuel_stays_positive()
 /// registers hold at the start and fresh frames hold later.
 pub fn checked_is_safe()
     ensures { CheckedIsSafe }
+{}
+
+/// What is read from bytes is formed: it keeps the limits of the format, and its fields can hold its numbers.
+pub fn what_is_read_is_formed()
+    ensures { WhatIsReadIsFormed }
 {}

@@ -1,6 +1,7 @@
 //! Why checked images are safe on the flat machine.
 //!
-//! The two laws: an image that breaks no rule is flat-safe, and some of a block's fuel is left before each of its words.
+//! Its laws: an image that breaks no rule is flat-safe; some of a block's fuel is left before each of its words; and what is read
+//! from bytes is an image as these laws take it.
 //!
 //! How they are proved: what all runs of an image over one input share stands in `specs/Shared.antt`, and where a run may stand,
 //! with its open calls and its ledger of fuel, in `specs/Running.antt`. From each such place a run comes to another one, or ends:

@@ -10,22 +10,35 @@ use std::alloc::{AllocError, Global};
 use std::process::Abort;
 use std::test::Fail;
 
+fn push_name(text: &mut String, keyword: &str, name: Name) -> Result<(), AllocError> {
+    write!(text, "{keyword} {}-{}", name.start, name.stop)
+}
+
+fn push_number(text: &mut String, keyword: &str, number: u64) -> Result<(), AllocError> {
+    write!(text, "{keyword} {number}")
+}
+
+fn push_fuel(text: &mut String, fuel: i64) -> Result<(), AllocError> {
+    write!(text, "fuel {fuel}")
+}
+
+fn kind_name(kind: Kind) -> &'static str {
+    match kind {
+        Kind::Leaf => " leaf",
+        Kind::Framed => " framed",
+    }
+}
+
 fn push_function(
     text: &mut String,
     name: Name,
     kind: Kind,
     numbers: (u32, u32, u64),
 ) -> Result<(), AllocError> {
-    let kind = match kind {
-        Kind::Leaf => "leaf",
-        Kind::Framed => "framed",
-    };
-    let (frame, room, budget) = numbers;
-    write!(
-        text,
-        "function {}-{} {kind} {frame} {room} {budget}",
-        name.start, name.stop
-    )
+    push_name(text, "function", name)?;
+    push_number(text, kind_name(kind), u64::from(numbers.0))?;
+    push_number(text, "", u64::from(numbers.1))?;
+    push_number(text, "", numbers.2)
 }
 
 fn push_range(text: &mut String, name: &str, range: &Range) -> Result<(), AllocError> {
@@ -53,8 +66,8 @@ fn push_directive(text: &mut String, directive: &Directive) -> Result<(), AllocE
     match directive {
         Directive::Text => text.push_str("text"),
         Directive::Data => text.push_str("data"),
-        Directive::Services(services) => write!(text, "services {}", services.0),
-        Directive::Stack(pages) => write!(text, "stack {pages}"),
+        Directive::Services(services) => push_number(text, "services", u64::from(services.0)),
+        Directive::Stack(pages) => push_number(text, "stack", u64::from(*pages)),
         Directive::Function {
             name,
             kind,
@@ -64,13 +77,13 @@ fn push_directive(text: &mut String, directive: &Directive) -> Result<(), AllocE
         } => push_function(text, *name, *kind, (*frame, *stack_room, *budget)),
         Directive::Param(range) => push_range(text, "param", range),
         Directive::Result(range) => push_range(text, "result", range),
-        Directive::Block(name) => write!(text, "block {}-{}", name.start, name.stop),
+        Directive::Block(name) => push_name(text, "block", *name),
         Directive::Cell(cell) => push_cell(text, cell),
-        Directive::Fuel(fuel) => write!(text, "fuel {fuel}"),
+        Directive::Fuel(fuel) => push_fuel(text, *fuel),
         Directive::Term(term) => push_term(text, term),
-        Directive::Values(width, count) => write!(text, "{} {count}", width_name(*width)),
-        Directive::Skip(count) => write!(text, "skip {count}"),
-        Directive::Align(unit) => write!(text, "align {unit}"),
+        Directive::Values(width, count) => push_number(text, width_name(*width), *count as u64),
+        Directive::Skip(count) => push_number(text, "skip", *count),
+        Directive::Align(unit) => push_number(text, "align", u64::from(*unit)),
     }
 }
 

@@ -290,15 +290,18 @@ fn is_read<R: Abort>(rt: &R, alloc: Global, row: &(&str, &str)) -> Result<(), Fa
     goes_round(rt, alloc, statement)
 }
 
-#[test]
-fn statements(rt: HostRuntime) -> Result<(), Fail> {
-    for row in &ENCODINGS {
-        is_read(&rt, rt.alloc(), row)?;
-    }
-    for row in &BY_HAND {
-        is_read(&rt, rt.alloc(), row)?;
+/// Each row is read. A table is handed over as a slice: a loop over it here would carry its rows along.
+fn are_read<R: Abort>(rt: &R, alloc: Global, rows: &[(&str, &str)]) -> Result<(), Fail> {
+    for row in rows {
+        is_read(rt, alloc, row)?;
     }
     Ok(())
+}
+
+#[test]
+fn statements(rt: HostRuntime) -> Result<(), Fail> {
+    are_read(&rt, rt.alloc(), ENCODINGS.as_slice())?;
+    are_read(&rt, rt.alloc(), BY_HAND.as_slice())
 }
 
 /// What each statement gives where every symbol is worth 0x12345678, at the address 0x40000.

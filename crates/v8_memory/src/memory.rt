@@ -226,7 +226,7 @@ impl<P: Port> Bus for Memory<P> {
             };
         }
         match size {
-            Size::Word => { let _cleared = self.ram.write(0x2000, Size::Word, 0); self.put_word(pa - DEVICE_PLACE, value) }
+            Size::Word => self.put_word(pa - DEVICE_PLACE, value),
             Size::Byte | Size::Half | Size::Double => Err(BusFault::Unanswered),
         }
     }

@@ -1,15 +1,14 @@
-use Rattle.std.proofs.Common.{◌≡◌, ◌∙◌, ◌^◌, ℤ, Bool, List, ap, sym, subst, pos, arith, rules, true, false, to_z, of_z, Some, Option, map, w64}
-use Rattle.std.specs.Prelude.{◌+ℤ◌, ◌-ℤ◌}
+use Rattle.std.proofs.Common.{◌≡◌, ◌∙◌, ◌^◌, ℤ, List, ap, sym, subst, pos, arith, rules, true, false, to_z, of_z, Some, Option, w64}
+use Rattle.std.specs.Prelude.{◌-ℤ◌}
 use Rattle.std.specs.Int.{w128}
 use Rattle.std.proofs.lemmas.Int.{ints, to_z-of_z}
 use mir.Val.{SFits}
 use Rattle.sbx_form.specs.declared.terms.FormTerm.{FormTerm}
 use Rattle.sbx_form.specs.Forms.{AreWithin}
 use Rattle.sbx_form.proofs.Bounds.{wider_bound}
-use Rattle.sbx_domain.specs.Known.{known, range_at}
+use Rattle.sbx_domain.specs.Known.{range_at}
 use Rattle.sbx_fuel.specs.Blocks.{first_of, fuel_of}
-use Rattle.sbx_fuel.specs.Least.{is_natural_sum, least_over, negated, taken_by}
-use Rattle.sbx_fuel.specs.Margins.{start_terms}
+use Rattle.sbx_fuel.specs.Least.{is_natural_sum, least_over}
 use Rattle.sbx_fuel.proofs.Exact as exact
 use Rattle.sbx_fuel.proofs.edges.is_enough_for.Goals as goal
 

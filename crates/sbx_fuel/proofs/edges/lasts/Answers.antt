@@ -1,8 +1,7 @@
-use Rattle.std.proofs.Common.{◌≡◌, ◌∙◌, ap, sym, subst, true, false}
+use Rattle.std.proofs.Common.{sym, subst}
 use Rattle.sbx_domain.specs.Forms.{Form}
 use Rattle.sbx_domain.specs.Known.{Known, known}
-use Rattle.sbx_rules.specs.Fuel.{IsEnough, IsPaid, IsWithinBudget}
-use Rattle.sbx_rules.specs.Places.{function_at}
+use Rattle.sbx_rules.specs.Fuel.{IsPaid}
 use Rattle.sbx_rules.specs.Ways.{fuel_at, state_at}
 use Rattle.sbx_fuel.specs.Blocks.{first_of, fuel_of}
 use Rattle.sbx_fuel.proofs.KeptBlocks.{fuel_is, of_block, of_image, paid_by_none, stands, stands_kept}

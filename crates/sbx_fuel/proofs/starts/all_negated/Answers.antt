@@ -1,4 +1,4 @@
-use Rattle.std.proofs.Common.{◌≡◌, ◌∙◌, ◌^◌, sym, subst, pos, take}
+use Rattle.std.proofs.Common.{◌^◌, sym, subst, pos, take}
 use Rattle.sbx_form.specs.declared.terms.FormTerm.{FormTerm}
 use Rattle.sbx_form.specs.Forms.{AreWithin}
 use Rattle.sbx_form.proofs.Bounds.{within_at}

@@ -1,6 +1,5 @@
-use Rattle.std.proofs.Common.{◌≡◌, ◌^◌, map, take}
+use Rattle.std.proofs.Common.{◌≡◌, map, take}
 use Rattle.arrayvec.specs.ArrayVec.{array_vec_len}
-use Rattle.sbx_form.specs.Forms.{AreWithin}
 use Rattle.sbx_fuel.specs.Least.{negated}
 use Rattle.sbx_fuel.proofs.starts.all_negated.Given as goal
 

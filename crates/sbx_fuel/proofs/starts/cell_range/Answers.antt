@@ -1,6 +1,6 @@
-use Rattle.std.proofs.Common.{◌≡◌, ◌∙◌, pos, ap, sym, drop, get_or, Some, None}
+use Rattle.std.proofs.Common.{◌∙◌, pos, ap, sym}
 use Rattle.sbx_image.specs.declared.parts.Cell.{Cell}
-use Rattle.sbx_domain.specs.Known.{range_of_entry, cell_entry}
+use Rattle.sbx_domain.specs.Known.{range_of_entry}
 use Rattle.sbx_fuel.proofs.Counting.{cell_here, cell_past, cells_done}
 use Rattle.sbx_fuel.proofs.starts.cell_range.Goals as goal
 

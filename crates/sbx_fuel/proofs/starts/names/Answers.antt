@@ -1,4 +1,4 @@
-use Rattle.std.proofs.Common.{◌≡◌, ◌∙◌, ap, sym}
+use Rattle.std.proofs.Common.{◌∙◌, sym}
 use Rattle.sbx_rules.specs.Ways.{cells_of}
 use Rattle.sbx_fuel.proofs.Counting.{names_is}
 use Rattle.sbx_fuel.proofs.starts.names.Goals as goal

@@ -1,4 +1,4 @@
-use Rattle.std.proofs.Common.{◌≡◌, ◌∙◌, ◌+◌, ◌-◌, ap, sym, arith, pos}
+use Rattle.std.proofs.Common.{◌∙◌, ◌-◌, ap, sym, arith, pos}
 use Rattle.std.proofs.lemmas.Option.{slice_get-get_or, slice_get_past}
 use Rattle.sbx_image.specs.declared.parts.Range.{Range}
 use Rattle.sbx_domain.specs.Known.{range_of_entry}

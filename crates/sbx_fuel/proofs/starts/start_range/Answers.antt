@@ -1,4 +1,4 @@
-use Rattle.std.proofs.Common.{◌≡◌, ◌∙◌, ◌<◌, ◌≤◌, ap, sym, arith}
+use Rattle.std.proofs.Common.{◌∙◌, sym, arith}
 use Rattle.sbx_rules.specs.Ways.{cells_of}
 use Rattle.sbx_fuel.proofs.Counting.{no_location_0, no_location_past, not_started, started_at}
 use Rattle.sbx_fuel.proofs.starts.start_range.Goals as goal

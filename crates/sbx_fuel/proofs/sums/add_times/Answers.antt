@@ -1,9 +1,9 @@
-use Rattle.std.proofs.Common.{◌≡◌, ℕ, ℤ, ◌+◌, ◌*◌, ◌*ℤ◌, ◌^◌, ◌≤◌, pos, rules, arith, List, drop, get_or, length, sym, ap, ◌∙◌, subst, to_z, of_z}
+use Rattle.std.proofs.Common.{◌≡◌, ℤ, ◌+◌, ◌*◌, ◌*ℤ◌, ◌^◌, ◌≤◌, pos, arith, List, drop, get_or, length, sym, ap, ◌∙◌, subst, to_z, of_z}
 use Rattle.std.specs.Prelude.{unsigned_abs}
 use Rattle.std.specs.Int.{w128}
 use Rattle.std.proofs.lemmas.Int.{to_z-of_z}
 use Rattle.sbx_form.specs.declared.terms.FormTerm.{FormTerm}
-use Rattle.sbx_form.specs.Forms.{AreWithin, add_term, add_terms}
+use Rattle.sbx_form.specs.Forms.{AreWithin, add_terms}
 use Rattle.sbx_form.proofs.Bounds.{added_within, all_added, more_added, wider_bound, within_at}
 use Rattle.sbx_form.proofs.Ordered.{sums_stay_in_order}
 use Rattle.sbx_fuel.proofs.Counting.{product_within}

@@ -1,4 +1,4 @@
-use Rattle.std.proofs.Common.{◌≡◌, ℕ, ◌+◌, ◌*ℤ◌, ◌^◌, ◌≤◌, unsigned_abs, rules, arith, sym, ap, subst, to_z, of_z}
+use Rattle.std.proofs.Common.{◌≡◌, ◌^◌, rules, arith, to_z, of_z}
 use Rattle.std.specs.Int.{w128}
 use Rattle.std.proofs.lemmas.Int.{to_z-of_z}
 use mir.Val.{SFits}

@@ -1,4 +1,4 @@
-use Rattle.std.proofs.Common.{◌≡◌, ℕ, ◌+◌, ◌*◌, ◌^◌, ◌≤◌, List, drop, arith, sym, ap, ◌∙◌, subst, pos}
+use Rattle.std.proofs.Common.{◌+◌, ◌*◌, ◌^◌, List, drop, arith, ap, ◌∙◌, pos}
 use Rattle.sbx_form.specs.declared.terms.FormTerm.{FormTerm}
 use Rattle.sbx_form.proofs.Bounds.{wider_bound, within_at}
 use Rattle.sbx_domain.specs.Known.{known}

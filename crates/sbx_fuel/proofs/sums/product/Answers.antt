@@ -1,4 +1,4 @@
-use Rattle.std.proofs.Common.{◌≡◌, ℤ, ◌*ℤ◌, ◌^◌, ◌≤◌, arith, unsigned_abs, to_z, of_z}
+use Rattle.std.proofs.Common.{◌≡◌, ◌*ℤ◌, ◌^◌, arith, to_z, of_z}
 use Rattle.std.specs.Int.{w128}
 use Rattle.std.proofs.lemmas.Int.{fits_signed_mul, to_z-of_z}
 use mir.Val.{SFits}
