@@ -1,4 +1,4 @@
-use Rattle.std.proofs.Common.{◌≡◌, ◌∙◌, ap, inl, inr, subst, sym}
+use Rattle.std.proofs.Common.{◌∙◌, ap, inl, inr, subst, sym}
 use Rattle.v8_mmu.specs.Answers.{Rose}
 use Rattle.v8_memory.specs.Board.{Device}
 use Rattle.v8_board.specs.Contains.{Contains}
