@@ -1,7 +1,7 @@
 -- Where a run comes to after a word: the next word, another block, a callee, or back to a caller.
 use Rattle.sbx_domain.specs.declared.entry.Entry.{Entry}
 use Rattle.std.proofs.Common.{◌≡◌, ◌≢◌, ℕ, zero, suc, ◌+◌, ◌-◌, ◌%◌, ◌<◌, Bool, true, false, List, length, Option, Some, None, refl, sym, ap, ◌∙◌, subst, arith}
-use Rattle.std.specs.Prelude.{pos, ◌+ℤ◌, ◌-ℤ◌, ◌≤ℤ◌, ◌&&◌, not, nat_lt, if◌then◌else◌, slice_get}
+use Rattle.std.specs.Prelude.{pos, ◌+ℤ◌, ◌-ℤ◌, ◌≤ℤ◌, ◌&&◌, nat_lt, if◌then◌else◌, slice_get}
 use Rattle.std.proofs.lemmas.Bool.Decides.{nat_tests}
 use Rattle.v8_word.specs.declared.Icc.{Icc}
 use Rattle.v8_meaning.specs.declared.operation.Operation.{Operation}
@@ -49,10 +49,6 @@ falls_within false words blocks b i e = by_words (nat_lt (i + 1) words) refl e
 pub next_there : (parts : Parts) (f b i : ℕ) → falls parts f b i ≡ Next → IsPlace parts f b i → IsPlace parts f b (suc i)
 unfolding falls
 next_there parts f b i e place = record { function = place.function; block = place.block; word = falls_within (ends_run (op_at parts f b i)) (words_in parts f b) (length (function_at parts f).blocks) b i e }
-
--- nor a call
-abbrev pub is_plain : Operation → Bool
-is_plain op = goes_straight op && not (is_call op)
 
 -- The words of the newest frame, codes, Y, memory, input and output as a word leaves them.
 pub record Left : Type 0 where

@@ -16,11 +16,6 @@ use Rattle.sbx_rules.specs.Ways.{To, Visit, cells_at, fuel_at, state_at, visits_
 use Rattle.sbx_rules.specs.Places.{ends_run, function_at, op_at, words_in, address_of}
 use Rattle.sbx_sound.specs.Running.{IsVisit}
 
--- what isn't false is true; for an inequality too
-right_way : (b : Bool) → (b ≡ false → ⊥) → b ≡ true
-right_way true h = refl
-right_way false h = absurd (h refl)
-
 at_most : (a b : ℤ) → ((a ≤ℤ b → ⊥) → ⊥) → a ≤ℤ b
 at_most a b h = by_lt_z b a (λ less. absurd (h (λ le. clash_ℤ less le))) (λ le. le)
 
@@ -51,10 +46,6 @@ any_one test (x ∷ vs) (suc n) v is h = or_right (test x) (list_any test vs) (a
 other_way : (b : Bool) → (b ≡ true → ⊥) → b ≡ false
 other_way true h = absurd (h refl)
 other_way false h = refl
-
-not_false : (b : Bool) → not b ≡ false → b ≡ true
-not_false true h = refl
-not_false false h = absurd (cc)
 
 module _ (parts : Parts) (checked : Checked parts) (f b i : ℕ) (in_f : f < length parts.functions) (in_b : b < length (function_at parts f).blocks) (in_i : i < words_in parts f b) where
   none : (cause : Cause) → Holds parts f b i cause → ⊥

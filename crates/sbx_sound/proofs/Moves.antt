@@ -87,10 +87,6 @@ coded_icc : (t : Bool) (r : Option Relation) (d : Known) → (with_codes t r d).
 coded_icc true r d h e = absurd (cc)
 coded_icc false r d h e = h
 
-coded_y : (t : Bool) (r : Option Relation) (d : Known) → (with_codes t r d).y ≡ d.y
-coded_y true r d = refl
-coded_y false r d = refl
-
 -- a divisor whose range has no 0
 no_zero : (a b : Bool) → (not a && not b) ≡ false → (a || b) ≡ true
 no_zero true b h = refl

@@ -129,9 +129,6 @@ module _ (parts : Parts) where
   arrives n k f b i d way start framed (inl g) a = arrives_next n k f b i d way start framed g a
   arrives n k f b i d way start framed (inr g) a = arrives_block n k f b i d way start framed g a
 
-  follows_on : (f b i : ℕ) (d : Known) (way : Way) (address : ℕ) → GoesOn f b i d way → Follows parts f b i way address → Follows parts f b i way address
-  follows_on f b i d way address g h = h
-
   -- ---- `ret` and `retl`
 
   return_known : (f b i : ℕ) (t : Three) → op_at parts f b i ≡ JumpAndLink t → is_call (op_before parts f b i) ≡ false → state_at parts f b (suc i) ≡ state_at parts f b i
@@ -170,10 +167,6 @@ module _ (parts : Parts) where
 
   -- ---- the slot of a return
 
-  some_false : (o : Option Range) → o ≡ None → is_some o ≡ true → ⊥
-  some_false None e h = cc
-  some_false (Some r) e h = cc
-
   -- what is known of the caller's location after the call
   pub after_high : (f : ℕ) (c : Open) (cs : List Open) (l : ℕ) → IsOpen parts f c cs → nat_le 16 l ≡ true → is_defined (known_after parts c) l ≡ true → c.known l ≡ true
   after_high f c cs l open_call h e = open_call.is_known l h ∙ e
@@ -207,9 +200,6 @@ module _ (parts : Parts) where
 
   high_true : (l : ℕ) → 16 ≤ l → nat_le 16 l ≡ true
   high_true l h = grind (arith, nat_tests)
-
-  low_is : (l : ℕ) → nat_le 16 l ≡ false → l < 16
-  low_is l h = grind (arith, nat_tests)
 
   -- the slot of `retl`: the word's effect, and the caller's window again
   pub leaf_slot : (w : ℕ) (k : Shared) (f b j : ℕ) (c : Open) (cs : List Open) (start : Cells) (at : At parts w k f b (suc j) (return_visit parts f b (suc j)) start)

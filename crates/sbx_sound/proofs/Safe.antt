@@ -5,7 +5,7 @@ use Rattle.sbx_image.specs.declared.parts.Parts.{Parts}
 use Rattle.sbx_flat.specs.Registers.{Fresh, IsFresh, still}
 use Rattle.sbx_flat.specs.declared.path.Place.{Place}
 use Rattle.sbx_flat.specs.Runs.{AreBytes, FlatSafe, IsStart, budget, place_of, weight_at}
-use Rattle.sbx_flat.specs.States.{State, Turn, Goes}
+use Rattle.sbx_flat.specs.States.{State}
 use Rattle.sbx_flat.specs.Turns.{turn}
 use Rattle.sbx_flat.proofs.Law.{Keeps, Moves, safe, still_is_fresh}
 use Rattle.sbx_flat.proofs.Turns.{weighs_some}
@@ -17,9 +17,6 @@ use Rattle.sbx_form.specs.Forms.{Cells}
 use Rattle.sbx_sound.specs.Shared.{Shared, Shows}
 use Rattle.sbx_sound.proofs.Effects.{Reaches}
 use Rattle.sbx_sound.proofs.Ledger.{all_left, within_budget}
-
-same_next : (t : Turn) (a b : State) → t ≡ Goes a → t ≡ Goes b → a ≡ b
-same_next t a b e f = cc
 
 is_open : (o : Option ℕ) (n : ℕ) → o ≡ Some n → o ≡ None → ⊥
 is_open o n e f = cc

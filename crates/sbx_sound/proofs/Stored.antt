@@ -37,9 +37,6 @@ stored_after_store count a size v memory input stored = record {
 pub bytes_after_first : (byte : ℕ) (rest : List ℕ) → AreBytes (byte ∷ rest) → AreBytes rest
 bytes_after_first byte rest are i = are (suc i)
 
-pub first_byte : (byte : ℕ) (rest : List ℕ) → AreBytes (byte ∷ rest) → byte < 2 ^ 8
-first_byte byte rest are = are 0
-
 -- ---- a number within the data
 
 -- a number that is there, and below what so many bytes hold

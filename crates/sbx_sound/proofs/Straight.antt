@@ -3,11 +3,9 @@ use Rattle.std.proofs.Common.{◌≡◌, ◌≢◌, ℕ, suc, ◌+◌, ◌<◌, 
 use Rattle.std.specs.Prelude.{◌==◌, ◌&&◌, not, nat_lt, slice_get, if◌then◌else◌}
 use Rattle.std.proofs.lemmas.Bool.Decides.{nat_tests}
 use Rattle.v8_formats.specs.declared.instr.Branch.{Branch}
-use Rattle.v8_formats.specs.declared.instr.Three.{Three}
 use Rattle.v8_formats.specs.declared.instr.Trap.{Trap}
-use Rattle.v8_alu.specs.declared.Op.{Op}
 use Rattle.v8_meaning.specs.declared.operation.Operation.{Operation}
-use Rattle.v8_meaning.specs.declared.operation.Operation.TheVariants.{BranchOnCondition, Call, Compute, Save, TrapOnCondition}
+use Rattle.v8_meaning.specs.declared.operation.Operation.TheVariants.{BranchOnCondition, Call, Save, TrapOnCondition}
 use Rattle.sbx_image.specs.declared.parts.Function.{Function}
 use Rattle.sbx_image.specs.declared.parts.Parts.{Parts}
 use Rattle.sbx_image.specs.declared.services.Services.{Services}
@@ -15,13 +13,12 @@ use Rattle.sbx_flat.specs.Effects.{declares, service_of}
 use Rattle.sbx_range.specs.Refining.{opposite}
 use Rattle.sbx_range.proofs.Kept.{one_edge_is_left}
 use Rattle.sbx_rules.specs.Operations.{is_call, is_framed, is_return, is_save, is_transfer, reads_of, service_reads}
-use Rattle.sbx_rules.specs.Places.{IsPlace, callee_at, ends_run, function_at, is_exit, op_at, op_before, service_asked, word_of_place, words_in}
+use Rattle.sbx_rules.specs.Places.{IsPlace, callee_at, ends_run, function_at, is_exit, op_at, op_before, service_asked, words_in}
 use Rattle.sbx_rules.specs.Fuel.{IsPaid}
 use Rattle.sbx_rules.specs.Rules.{has_cells, is_declared, is_entry, is_frame_size, is_later, is_save_of, reads_undefined, touches_reserved}
 use Rattle.sbx_rules.specs.Verdicts.{Checked}
 use Rattle.sbx_rules.specs.Ways.{Next, Past, To, cells_at, falls, falls_to, fuel_at, state_at, weight_to}
 use Rattle.sbx_form.specs.Forms.{Cells}
-use Rattle.sbx_sound.specs.LowFields.{LowFields, LowThree}
 use Rattle.sbx_sound.specs.Order.{IsOrdered}
 use Rattle.sbx_sound.specs.Running.{At, IsVisit, bytes_of, straight_visit, window_of}
 use Rattle.sbx_sound.specs.Shared.{Lent, Own, Shared}
@@ -30,10 +27,9 @@ use Rattle.sbx_sound.proofs.Asked.{admitted, asks_declared, calls_later, enters,
 use Rattle.sbx_sound.proofs.CallSteps.{call_word}
 use Rattle.sbx_sound.proofs.FromChecked.{exit_is_paid}
 use Rattle.sbx_sound.proofs.Goes.{goes_on}
-use Rattle.sbx_sound.proofs.LowFields.{low_fields}
 use Rattle.sbx_sound.proofs.Ordered.{code_word, follows, lies_low}
 use Rattle.sbx_sound.proofs.OtherSteps.{branch_word, exit_word, save_word}
-use Rattle.sbx_sound.proofs.Read.{codes_known, computes_checked, read_known}
+use Rattle.sbx_sound.proofs.Read.{codes_known, read_known}
 use Rattle.sbx_sound.proofs.Refined.{looks_at_codes, refines}
 use Rattle.sbx_sound.proofs.ReturnSteps.{GoesOn}
 use Rattle.sbx_sound.proofs.Safe.{Spot, Steps}
@@ -143,20 +139,6 @@ module _ (parts : Parts) (checked : Checked parts) (ordered : IsOrdered parts) (
       by_way (inr g) = plain_edge parts w p g.t word_is refl g.way_is g.some no_link no_return (same_bytes (function_at parts f) b i within) (same_window (function_at parts f) b i g.t 0 within (later_block g.t 0 g.some))
           (subst (λ d. has_cells d (cells_at parts f g.t) ≡ true) then_known g.cells)
           (subst (λ d. IsPaid (state_at parts f b 0) (fuel_at parts f b) (weight_to parts f b (suc i)) d (fuel_at parts f g.t)) then_known g.paid) g.follows does
-
-  -- the results that every pair of operands has
-  pub compute_steps : (w : ℕ) (k : Shared) (start : Cells) (at : At parts w k f b i (straight_visit parts f b i) start) (op : Op) (t : Three)
-      → goes_straight (op_before parts f b i) ≡ true → is_call (op_before parts f b i) ≡ false → is_return (op_before parts f b i) ≡ false → op_at parts f b i ≡ Compute op t
-      → let p : Spot parts w = record { k = k; f = f; b = b; i = i; v = straight_visit parts f b i; start = start; at = at } in
-      Steps parts w p
-  compute_steps w k start at op t before no_link no_return is =
-      let p : Spot parts w = record { k = k; f = f; b = b; i = i; v = straight_visit parts f b i; start = start; at = at } in
-      let visit : IsVisit parts f b i (straight_visit parts f b i) = is_straight_visit parts f b i before in
-      let low : LowThree t.rd t.rs1 t.operand2 = subst LowFields is (low_fields (word_of_place parts f b i)) in
-      let known = subst (λ o. reads_undefined (function_at parts f) o (state_at parts f b i) ≡ false) is (reads_known parts checked f b i place (straight_visit parts f b i) visit refl) in
-      let kept = subst (λ o. touches_reserved (function_at parts f) o ≡ false) is (keeps_reserved parts checked f b i place (straight_visit parts f b i) visit refl) in
-      let does = computes_checked parts w p op t is low known kept (lent_leaf (function_at parts f) b i (inside (ap is_save is))) in
-      straight_steps w k start at before no_link no_return (ap goes_straight is) (ap is_call is) (ap ends_run is) (ap is_save is) does
 
   -- CALL
   pub call_steps : (w : ℕ) (k : Shared) (start : Cells) (at : At parts w k f b i (straight_visit parts f b i) start) (displacement : ℕ)

@@ -4,7 +4,6 @@ use Rattle.v8_meaning.specs.Operands.{following}
 use Rattle.sbx_image.specs.declared.parts.Function.{Function}
 use Rattle.sbx_image.specs.declared.parts.Parts.{Parts}
 use Rattle.sbx_flat.specs.Runs.{budget}
-use Rattle.sbx_flat.specs.States.{State}
 use Rattle.sbx_rules.specs.Fuel.{InCells}
 use Rattle.sbx_rules.specs.Operations.{is_call, is_return, is_framed}
 use Rattle.sbx_domain.specs.Fits.{Fits, HasAlignment, HasForm, HasInterval}
@@ -14,7 +13,7 @@ use Rattle.sbx_domain.specs.Forms.{form_value}
 use Rattle.sbx_rules.specs.Ways.{Next, To, Visit, Way, falls, fuel_at, state_at, visits_at, weight_to}
 use Rattle.sbx_rules.specs.Places.{IsPlace, address_of, callee_at, callee_before, function_at, op_before}
 use Rattle.sbx_form.specs.Forms.{Cells}
-use Rattle.sbx_sound.specs.Shared.{AreStored, KnownParts, Lent, Open, Own, Shared, Shows, Window, base_below}
+use Rattle.sbx_sound.specs.Shared.{AreStored, KnownParts, Lent, Open, Own, Shared, Window, base_below}
 
 -- what a function has in its window: before its SAVE, and in a leaf, its caller's
 abbrev pub window_of : Function → ℕ → ℕ → Window
@@ -145,15 +144,3 @@ module _ (parts : Parts) where
     pub room : stack_bottom parts + (function_at parts f).stack_room ≤ base_below k.calls
     pub stored : AreStored (length parts.bytes) k.memory k.input
     pub ledger : (pos w +ℤ (left_at f b (suc i) start +ℤ left_to_all k.calls)) ≤ℤ pos (budget parts)
-
-  -- the invariant of a state and the calm one beside it
-  pub record Both (w : ℕ) (s calm : State) : Type 0 where
-    pub shared : Shared
-    pub f : ℕ
-    pub b : ℕ
-    pub i : ℕ
-    pub v : Visit
-    pub start : Cells
-    pub at : At w shared f b i v start
-    pub shows : Shows (window_of (function_at parts f) b i) (tests v.known (is_call (op_before parts f b i))) shared s
-    pub calm_shows : Shows (window_of (function_at parts f) b i) (tests v.known (is_call (op_before parts f b i))) shared calm
