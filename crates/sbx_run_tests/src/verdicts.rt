@@ -18,7 +18,7 @@ fn is_refused(alloc: Global, shape: &Shape, words: &[u32], told: &str) -> Result
 
 #[test]
 fn tells_the_first_fault(rt: HostRuntime) -> Result<(), Fail> {
-    let rows: [(Shape, &[u32], &str); 22] = [
+    let rows: [(Shape, &[u32], &str); 21] = [
         (
             Shape {
                 budget: 15,
@@ -39,16 +39,16 @@ fn tells_the_first_fault(rt: HostRuntime) -> Result<(), Fail> {
         ),
         (BARE, &[0x81e8_0020], "refused V1 in function 0 at 00040000"),
         (BARE, &[0xffff_ffff], "refused V1 in function 0 at 00040000"),
-        (BARE, &[0x9de3_bfa0], "refused V2 in function 0 at 00040000"),
+        (BARE, &[0x9de3_bfa0], "refused V3 in function 0 at 00040000"),
         (
             Shape { kind: 1, ..BARE },
             &HELLO,
-            "refused V2 in function 0 at 00040000",
+            "refused V3 in function 0 at 00040000",
         ),
         (
             Shape { params: 1, ..BARE },
             &HELLO,
-            "refused V2 in function 0 at 00040000",
+            "refused V18 in function 0 at 00040000",
         ),
         (
             Shape {
@@ -56,27 +56,22 @@ fn tells_the_first_fault(rt: HostRuntime) -> Result<(), Fail> {
                 ..BARE
             },
             &HELLO,
-            "refused V2 in function 0 at 00040000",
+            "refused V16 in function 0 at 00040000",
         ),
         (
             Shape { blocks: 2, ..BARE },
             &HELLO,
-            "refused V2 in function 0 at 00040000",
-        ),
-        (
-            Shape { results: 1, ..BARE },
-            &HELLO,
-            "refused V2 in function 0 at 00040000",
+            "refused V14 in function 0 at 00040000",
         ),
         (
             Shape { cells: 1, ..BARE },
             &HELLO,
-            "refused V2 in function 0 at 00040000",
+            "refused V13 in function 0 at 00040000",
         ),
         (
             Shape { terms: 1, ..BARE },
             &HELLO,
-            "refused V2 in function 0 at 00040000",
+            "refused V14 in function 0 at 00040000",
         ),
         (
             Shape { frame: 8, ..BARE },
