@@ -30,7 +30,7 @@ use Rattle.sbx_sound.proofs.OtherSteps.{annulled_slot}
 use Rattle.sbx_sound.proofs.Returning.{PlainWordsDo, slot_is_no_save, slot_is_plain, slot_keeps_on}
 use Rattle.sbx_sound.proofs.Safe.{Spot, Steps}
 use Rattle.sbx_sound.proofs.Steps.{plain_edge}
-use Rattle.sbx_sound.proofs.Straight.{same_bytes, same_window, word_is}
+use Rattle.sbx_sound.proofs.Straight.{later_block, same_bytes, same_window, word_is}
 use Rattle.sbx_sound.proofs.Visits.{IsWay}
 
 weighs_one : (op : Operation) → is_save op ≡ false → is_restore op ≡ false → is_trap op ≡ false → weight_of op ≡ 1
@@ -44,9 +44,6 @@ inner_some way t inner e zero_is = let x : is_inner_edge (To 0) ≡ true = subst
 
 slot_inside : (framed : Bool) (b j : ℕ) → (framed && is_entry b (suc j)) ≡ false
 slot_inside framed b j = grind (arith, nat_tests)
-
-later_block : (t i : ℕ) → t ≢ 0 → is_entry t i ≡ false
-later_block t i some = grind (arith, nat_tests)
 
 last_word : (n i : ℕ) → nat_le n (i + 1) ≡ true → nat_lt (i + 1) n ≡ false
 last_word n i h = grind (arith, nat_tests)

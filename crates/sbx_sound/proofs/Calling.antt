@@ -1,5 +1,5 @@
 -- The slot of a CALL, from the rules: the callee begins, and what is left to its caller is positive.
-use Rattle.std.proofs.Common.{◌≡◌, ℕ, suc, ◌≤◌, ℤ, Bool, true, false, Option, Some, None, refl, ap, subst, inl, inr, arith}
+use Rattle.std.proofs.Common.{◌≡◌, ℕ, suc, ◌≤◌, ℤ, Bool, true, false, refl, ap, subst, inl, inr, arith}
 use Rattle.std.specs.Prelude.{pos, ◌+ℤ◌, ◌-ℤ◌, ◌≤ℤ◌}
 use Rattle.std.proofs.lemmas.Int.{ints}
 use Rattle.v8_meaning.specs.declared.operation.Operation.TheVariants.{Call}
@@ -9,7 +9,7 @@ use Rattle.sbx_domain.specs.Forms.{form_value}
 use Rattle.sbx_rules.specs.Fuel.{InCells}
 use Rattle.sbx_rules.specs.Operations.{is_call, is_framed_return, is_restore, is_transfer}
 use Rattle.sbx_rules.specs.Places.{IsPlace, callee_at, ends_run, op_at, op_before}
-use Rattle.sbx_rules.specs.Rules.{is_later, same_test}
+use Rattle.sbx_rules.specs.Rules.{same_test}
 use Rattle.sbx_rules.specs.Verdicts.{Checked}
 use Rattle.sbx_rules.specs.Ways.{falls, fuel_at, state_at, weight_to}
 use Rattle.sbx_sound.specs.Order.{IsOrdered}
@@ -26,12 +26,8 @@ use Rattle.sbx_sound.proofs.Onward.{HaveResults, begins, near_state}
 use Rattle.sbx_sound.proofs.ReturnSteps.{GoesOn}
 use Rattle.sbx_sound.proofs.Returning.{PlainWordsDo, slot_is_no_save, slot_is_plain}
 use Rattle.sbx_sound.proofs.Safe.{Spot, Steps}
-use Rattle.sbx_sound.proofs.Straight.{word_is}
+use Rattle.sbx_sound.proofs.Straight.{some_callee, word_is}
 use Rattle.sbx_sound.proofs.Wells.{calls_well}
-
-some_callee : (parts : Parts) (f b i : ℕ) (o : Option ℕ) → is_later parts f b i o ≡ true → (g : ℕ) × (o ≡ Some g)
-some_callee parts f b i None h = absurd (cc)
-some_callee parts f b i (Some g) h = (g, refl)
 
 paid_left : (fuel next : ℤ) (t : ℕ) → (pos t +ℤ next) ≤ℤ fuel → pos 1 ≤ℤ (next -ℤ pos 0) → pos 1 ≤ℤ (fuel -ℤ pos t)
 paid_left fuel next t paid some = omega (arith, ints)

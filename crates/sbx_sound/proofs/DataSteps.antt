@@ -47,10 +47,11 @@ use Rattle.sbx_sound.proofs.Frames.{IsFree, write_shows}
 use Rattle.sbx_sound.proofs.Moves.{operand_of, register_shown, second_read}
 use Rattle.sbx_sound.proofs.Read.{free_register, read_free, read_known, second_shown, write_allowed}
 use Rattle.sbx_sound.proofs.Safe.{ShowsSpot, Spot}
-use Rattle.sbx_sound.proofs.Steps.{Does, and_left, and_right, linked_at, op_of}
+use Rattle.sbx_sound.proofs.Steps.{Does, linked_at, op_of}
 use Rattle.sbx_sound.proofs.Stored.{IsThere, number_is_there, stored_after_store}
 use Rattle.sbx_sound.proofs.Writing.{entry_defined, is_fewer, keeps_codes, keeps_y, then_knows, unchanged_is_fewer, writes_one}
 use Rattle.sbx_sound.proofs.Written.{entry_codes, entry_y, fits_same, fits_shown, more_tests, other_defined, other_word, same_location}
+use Rattle.sbx_sound.proofs.Tests.{and_left, and_right}
 
 -- ---- the registers that an access reads: those that go out, then those of the address
 

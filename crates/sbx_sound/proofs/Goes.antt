@@ -1,7 +1,6 @@
 -- Where control goes on from a word that comes straight: the next word of the block, or the next block, along an edge that is paid.
 use Rattle.std.proofs.Common.{◌≡◌, ℕ, suc, ◌+◌, ◌<◌, Bool, true, false, length, refl, ap, inl, inr, arith}
 use Rattle.std.specs.Prelude.{◌⊎◌, nat_lt, if◌then◌else◌}
-use Rattle.std.proofs.lemmas.Bool.Decides.{nat_tests}
 use Rattle.sbx_image.specs.declared.parts.Parts.{Parts}
 use Rattle.sbx_rules.specs.Operations.{is_call}
 use Rattle.sbx_rules.specs.Places.{IsPlace, ends_run, function_at, op_at, op_before, words_in}
@@ -14,9 +13,7 @@ use Rattle.sbx_sound.proofs.Arrivals.{goes_straight, is_straight_visit}
 use Rattle.sbx_sound.proofs.FromChecked.{edge_has_cells, edge_is_paid, goes_somewhere}
 use Rattle.sbx_sound.proofs.Ordered.{follows}
 use Rattle.sbx_sound.proofs.ReturnSteps.{GoesNext, GoesOn, GoesToBlock}
-
-less_of : (m n : ℕ) → nat_lt m n ≡ true → m < n
-less_of m n e = grind (arith, nat_tests)
+use Rattle.sbx_sound.proofs.Tests.{less_of}
 
 -- on from word i of a block of so many words, in a function of so many blocks
 pub record FallsNext (words i : ℕ) (way : Way) : Type 0 where

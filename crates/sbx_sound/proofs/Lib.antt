@@ -1,3 +1,4 @@
+pub mod Tests
 pub mod Entries
 pub mod Frames
 pub mod Ledger

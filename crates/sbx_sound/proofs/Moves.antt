@@ -51,10 +51,7 @@ use Rattle.sbx_sound.proofs.Safe.{ShowsSpot, Spot}
 use Rattle.sbx_sound.proofs.Steps.{Does, linked_at, op_of}
 use Rattle.sbx_sound.proofs.Writing.{entry_defined, keeps_codes, keeps_y, then_knows, writes_one}
 use Rattle.sbx_sound.proofs.Written.{entry_codes, entry_y, fits_shown, other_defined}
-
-undone : (x : Bool) → not x ≡ false → x ≡ true
-undone true h = refl
-undone false h = absurd (cc)
+use Rattle.sbx_sound.proofs.Tests.{undone}
 
 -- ---- divisions: the quotient looks at Y, and its codes at nothing else
 

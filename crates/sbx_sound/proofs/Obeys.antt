@@ -31,9 +31,10 @@ use Rattle.sbx_sound.proofs.Moves.{divides, reads_the_y, sets_high, tags, writes
 use Rattle.sbx_sound.proofs.Read.{computes_checked}
 use Rattle.sbx_sound.proofs.Safe.{Spot}
 use Rattle.sbx_sound.proofs.Served.{serves}
-use Rattle.sbx_sound.proofs.Steps.{Does, and_right, op_of}
+use Rattle.sbx_sound.proofs.Steps.{Does, op_of}
 use Rattle.sbx_sound.proofs.Straight.{inside, lent_leaf, own_inside}
 use Rattle.sbx_sound.proofs.Wells.{enters_framed}
+use Rattle.sbx_sound.proofs.Tests.{and_right}
 
 -- ---- which words these are
 

@@ -52,17 +52,9 @@ reaches_on t P Q f r = record { next = r.next; goes = r.goes; is = f r.next r.is
 
 -- ---- what a block's start knows is known on the edge
 
-some_within : (o : Option Entry) (r : Range) → has_range (range_of_entry o) r ≡ true → is_some o ≡ true
+pub some_within : (o : Option Entry) (r : Range) → has_range (range_of_entry o) r ≡ true → is_some o ≡ true
 some_within None r h = absurd (cc)
 some_within (Some s) r h = refl
-
-pub and_left : (a b : Bool) → (a && b) ≡ true → a ≡ true
-and_left true b h = refl
-and_left false b h = absurd (cc)
-
-pub and_right : (a b : Bool) → (a && b) ≡ true → b ≡ true
-and_right true b h = h
-and_right false b h = absurd (cc)
 
 pub cells_defined : (d : Known) (cells : List Cell) (l : ℕ) → has_cells d cells ≡ true → is_defined (started cells) l ≡ true → is_defined d l ≡ true
 cells_defined d cells l h = starts_have d (λ k e. is_some e ≡ true → is_defined d k ≡ true) cells l h (λ e. absurd (cc)) (λ c here e. some_within (d.entry c.location) c.range here)

@@ -34,7 +34,8 @@ use Rattle.sbx_sound.proofs.Refined.{looks_at_codes, refines}
 use Rattle.sbx_sound.proofs.ReturnSteps.{GoesOn}
 use Rattle.sbx_sound.proofs.Safe.{Spot, Steps}
 use Rattle.sbx_sound.proofs.Steps.{Does, IsWord, known_then, plain_edge, plain_next}
-use Rattle.sbx_sound.proofs.Wells.{and_left, call_transfers, enters_framed, framed_of, saves_well}
+use Rattle.sbx_sound.proofs.Wells.{call_transfers, enters_framed, framed_of, saves_well}
+use Rattle.sbx_sound.proofs.Tests.{and_left}
 
 -- ---- a framed function's window, but before its SAVE
 
@@ -85,7 +86,7 @@ own_inside function b i h = by_kind (is_framed function.kind) ((b == 0) && (i ==
 later_word : (b i : ℕ) → is_entry b (suc i) ≡ false
 later_word b i = grind (arith, nat_tests)
 
-later_block : (t i : ℕ) → t ≢ 0 → is_entry t i ≡ false
+pub later_block : (t i : ℕ) → t ≢ 0 → is_entry t i ≡ false
 later_block t i some = grind (arith, nat_tests)
 
 call_is_no_save : (op : Operation) → is_call op ≡ true → is_save op ≡ false
@@ -96,7 +97,7 @@ call_runs_on : (op : Operation) → is_call op ≡ true → ends_run op ≡ fals
 call_runs_on (Call d) h = refl
 call_runs_on _ h = absurd (cc)
 
-some_callee : (parts : Parts) (f b i : ℕ) (o : Option ℕ) → is_later parts f b i o ≡ true → (g : ℕ) × (o ≡ Some g)
+pub some_callee : (parts : Parts) (f b i : ℕ) (o : Option ℕ) → is_later parts f b i o ≡ true → (g : ℕ) × (o ≡ Some g)
 some_callee parts f b i None h = absurd (cc)
 some_callee parts f b i (Some g) h = (g, refl)
 
