@@ -1,7 +1,7 @@
 -- What is least is below all values, and values come as low: where something is least they reach it, else they pass every bound.
-use Rattle.std.proofs.Common.{◌≡◌, ℕ, zero, suc, ◌+◌, ◌≤◌, List, [], ◌∷◌, Some, None, refl, ap, subst, sym, ◌∙◌, inl, inr, arith}
+use Rattle.std.proofs.Common.{◌≡◌, ℕ, zero, suc, ◌+◌, List, [], ◌∷◌, Some, None, refl, ap, subst, ◌∙◌, inl, inr, arith}
 use Rattle.std.proofs.Math.IntN.{*ℤ_comm}
-use Rattle.std.specs.Prelude.{◌⊎◌, Option, ℤ, pos, negsuc, neg_ℤ, ◌+ℤ◌, ◌-ℤ◌, ◌*ℤ◌, ◌≤ℤ◌, unsigned_abs}
+use Rattle.std.specs.Prelude.{◌⊎◌, Option, ℤ, pos, negsuc, neg_ℤ, ◌+ℤ◌, ◌*ℤ◌, ◌≤ℤ◌, unsigned_abs}
 use Rattle.std.specs.Int.{int_min}
 use Rattle.std.proofs.lemmas.Int.{ints, clamps}
 use Rattle.sbx_image.specs.declared.parts.Range.{Range}
@@ -192,7 +192,7 @@ is_left d e ts us z h start others a b =
     omega (arith, ints)
 
 module _ (d e : Known) (ts us : List FormTerm) (z : ℤ) (some_d : AreSome d) (some_e : AreSome e) (ascend : AscendFrom 0 ts) (ascend_others : AscendFrom 0 us)
-         (nonzero : AreNonzero ts) (nonzero_others : AreNonzero us) (left : IsLeft d e ts us z) where
+    (nonzero : AreNonzero ts) (nonzero_others : AreNonzero us) (left : IsLeft d e ts us z) where
   reached : (n : ℕ) → pos 0 ≤ℤ (z +ℤ (least_terms (wide n d) ts +ℤ least_terms (wide n e) us))
   unfolding wide wide_lo wide_hi
   reached n =
