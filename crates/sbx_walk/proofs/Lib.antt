@@ -1,1 +1,1 @@
-pub mod Firsts
+pub mod InOrder

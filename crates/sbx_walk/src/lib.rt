@@ -1,6 +1,9 @@
-//! The verifier's pass over an image: its functions and their blocks in order, up to the first fault.
+//! The walk of the verifier over the functions and blocks of an image, up to the first fault.
 #![tactic(auto)]
 
 mod walk;
 
 pub use walk::first_fault;
+
+#[cfg(test)]
+mod tests;
