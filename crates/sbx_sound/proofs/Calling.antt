@@ -12,10 +12,11 @@ use Rattle.sbx_rules.specs.Places.{IsPlace, callee_at, ends_run, op_at, op_befor
 use Rattle.sbx_rules.specs.Rules.{same_test}
 use Rattle.sbx_rules.specs.Verdicts.{Checked}
 use Rattle.sbx_rules.specs.Ways.{falls, fuel_at, state_at, weight_to}
-use Rattle.sbx_sound.specs.Order.{IsOrdered}
+use Rattle.sbx_sound.proofs.Order.{IsOrdered}
 use Rattle.sbx_sound.specs.Positive.{IsPositive}
-use Rattle.sbx_sound.specs.Running.{At, left_at, straight_visit}
-use Rattle.sbx_sound.specs.Shared.{Shared}
+use Rattle.sbx_sound.specs.Positive.{left_at}
+use Rattle.sbx_sound.proofs.Running.{At, straight_visit}
+use Rattle.sbx_sound.proofs.Shared.{Shared}
 use Rattle.sbx_sound.proofs.Arrivals.{goes_straight}
 use Rattle.sbx_sound.proofs.Asked.{calls_later, restores_in_slot}
 use Rattle.sbx_sound.proofs.CallSteps.{call_slot}

@@ -24,9 +24,9 @@ use Rattle.sbx_domain.specs.Fits.{Fits, HasAlignment, HasInterval}
 use Rattle.sbx_domain.specs.Known.{Known, range_at}
 use Rattle.sbx_rules.specs.Ways.{Next, To, Way, cells_at, falls, fuel_at, state_at, weight_to}
 use Rattle.sbx_rules.specs.Places.{address_of, function_at, op_at, op_before}
-use Rattle.sbx_sound.specs.Running.{After, AreOpen, At, Follows, IsOpen, IsThere, known_after, straight_visit, tests, window_of}
+use Rattle.sbx_sound.proofs.Running.{After, AreOpen, At, Follows, IsOpen, IsThere, known_after, straight_visit, tests, window_of}
 use Rattle.sbx_form.specs.Forms.{Cells}
-use Rattle.sbx_sound.specs.Shared.{KnownParts, Lent, Open, Own, Shared, Shows, ShowsFile, Window, with_location}
+use Rattle.sbx_sound.proofs.Shared.{KnownParts, Lent, Open, Own, Shared, Shows, ShowsFile, Window, with_location}
 use Rattle.sbx_domain.specs.Transfer.{is_out, transferred, called, restored}
 use Rattle.sbx_sound.proofs.Arrivals.{Left, after_edge, after_next, after_no_call, goes_straight, left_by}
 use Rattle.sbx_sound.proofs.CallSteps.{own_window}

@@ -19,9 +19,9 @@ use Rattle.sbx_rules.specs.Rules.{has_cells, is_declared, is_entry, is_frame_siz
 use Rattle.sbx_rules.specs.Verdicts.{Checked}
 use Rattle.sbx_rules.specs.Ways.{Next, Past, To, cells_at, falls, falls_to, fuel_at, state_at, weight_to}
 use Rattle.sbx_form.specs.Forms.{Cells}
-use Rattle.sbx_sound.specs.Order.{IsOrdered}
-use Rattle.sbx_sound.specs.Running.{At, IsVisit, bytes_of, straight_visit, window_of}
-use Rattle.sbx_sound.specs.Shared.{Lent, Own, Shared}
+use Rattle.sbx_sound.proofs.Order.{IsOrdered}
+use Rattle.sbx_sound.proofs.Running.{At, IsVisit, bytes_of, straight_visit, window_of}
+use Rattle.sbx_sound.proofs.Shared.{Lent, Own, Shared}
 use Rattle.sbx_sound.proofs.Arrivals.{after_no_call, goes_straight, is_straight_visit}
 use Rattle.sbx_sound.proofs.Asked.{admitted, asks_declared, calls_later, enters, keeps_reserved, reads_known, slot_follows, suits_kind}
 use Rattle.sbx_sound.proofs.CallSteps.{call_word}
