@@ -13,8 +13,7 @@ use Rattle.sbx_rules.specs.Rules.{same_test}
 use Rattle.sbx_rules.specs.Verdicts.{Checked}
 use Rattle.sbx_rules.specs.Ways.{falls, fuel_at, state_at, weight_to}
 use Rattle.sbx_sound.proofs.Order.{IsOrdered}
-use Rattle.sbx_sound.specs.Positive.{IsPositive}
-use Rattle.sbx_sound.specs.Positive.{left_at}
+use Rattle.sbx_sound.specs.Positive.{IsPositive, left_at}
 use Rattle.sbx_sound.proofs.Running.{At, straight_visit}
 use Rattle.sbx_sound.proofs.Shared.{Shared}
 use Rattle.sbx_sound.proofs.Arrivals.{goes_straight}

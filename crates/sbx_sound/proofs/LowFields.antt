@@ -1,10 +1,10 @@
 -- Each word's register fields are numbers of registers: by the rows of the format table.
-use Rattle.std.specs.Prelude.{ℕ, ◌<◌, ◌^◌, if◌then◌else◌}
+use Rattle.std.proofs.Common.{ℕ, ◌^◌, ◌<◌, Bool, true, false, List, [], ◌∷◌, arith}
+use Rattle.std.specs.Prelude.{if◌then◌else◌}
 use Rattle.v8_formats.specs.declared.instr.Operand.{Operand}
 use Rattle.v8_formats.specs.declared.instr.Operand.TheVariants.{Register, Immediate}
 use Rattle.v8_meaning.specs.declared.operation.Operation.{Operation}
 use Rattle.v8_meaning.specs.declared.operation.Operation.TheVariants.{Compute, Divide, TaggedTrap, SetHigh, ReadY, WriteY, Transfer, Save, Restore, JumpAndLink, TrapOnCondition}
-use Rattle.std.proofs.Common.{ℕ, ◌^◌, ◌<◌, Bool, true, false, List, [], ◌∷◌, arith}
 use Rattle.std.specs.List.{AllByRecursion}
 use Rattle.std.proofs.lemmas.Bool.Decides.{nat_tests}
 use Rattle.v8_word.specs.Word.{bits_of, sign_extend}
@@ -16,6 +16,8 @@ use Rattle.v8_meaning.specs.Operations.{operation_of, second_of}
 use Rattle.sbx_flat.specs.Turns.{asked}
 use Rattle.v8_formats.specs.declared.instr.Operand.TheVariants as operands
 use Rattle.v8_formats.specs.declared.instr.Place.TheVariants as places
+
+-- ---- which fields these are
 
 abbrev pub LowOperand : Operand → Type 0
 LowOperand (Register r) = r < 32
@@ -39,6 +41,8 @@ LowFields (Restore f) = LowThree f.rd f.rs1 f.operand2
 LowFields (JumpAndLink f) = LowThree f.rd f.rs1 f.operand2
 LowFields (TrapOnCondition t) = LowThree 0 t.rs1 t.operand2
 LowFields _ = Unit {0}
+
+-- ---- by the rows
 
 low_bits : (w low : ℕ) → bits_of w low 5 < 32
 low_bits w low = omega arith

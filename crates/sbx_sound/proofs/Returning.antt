@@ -24,7 +24,7 @@ use Rattle.sbx_rules.specs.Places.{IsPlace, address_of, callee_at, callee_of, en
 use Rattle.sbx_rules.specs.Rules.{has_outs, is_defined, is_entry, reads_undefined, same_test, suits, touches_reserved}
 use Rattle.sbx_rules.specs.Verdicts.{Checked}
 use Rattle.sbx_rules.specs.Ways.{Next, Past, To, falls, falls_to, state_at}
-use Rattle.sbx_sound.proofs.LowFields.{LowFields, LowThree}
+use Rattle.sbx_sound.proofs.LowFields.{LowFields, LowThree, low_fields}
 use Rattle.sbx_sound.proofs.Order.{IsOrdered}
 use Rattle.sbx_sound.proofs.Running.{AreOpen, At, Follows, IsOpen, known_after, straight_visit, tests, window_of}
 use Rattle.sbx_sound.proofs.Shared.{Lent, Open, Own, Shared, Window}
@@ -34,7 +34,6 @@ use Rattle.sbx_sound.proofs.Effects.{read_shown}
 use Rattle.sbx_sound.proofs.Frames.{IsFree, given_back}
 use Rattle.sbx_sound.proofs.FromChecked.{return_is_paid}
 use Rattle.sbx_sound.proofs.Goes.{goes_on}
-use Rattle.sbx_sound.proofs.LowFields.{low_fields}
 use Rattle.sbx_sound.proofs.Ordered.{follows, lies_at_four, lies_low}
 use Rattle.sbx_sound.proofs.Moves.{operand_of, second_read}
 use Rattle.sbx_sound.proofs.Read.{read_known, second_shown, write_allowed}

@@ -17,8 +17,7 @@ use Rattle.sbx_rules.specs.Rules.{is_defined, is_some}
 use Rattle.sbx_domain.specs.Forms.{form_value}
 use Rattle.sbx_rules.specs.Places.{IsPlace, address_of, function_at}
 use Rattle.sbx_rules.specs.Ways.{cells_at, falls, fuel_at, state_at, weight_to}
-use Rattle.sbx_sound.specs.Positive.{IsPositive}
-use Rattle.sbx_sound.specs.Positive.{left_at}
+use Rattle.sbx_sound.specs.Positive.{IsPositive, left_at}
 use Rattle.sbx_sound.proofs.Running.{At, Follows, straight_visit, tests}
 use Rattle.sbx_form.specs.Forms.{Cells}
 use Rattle.sbx_sound.proofs.Shared.{Lent, Shared, Shows, ShowsCalls, stack_start}
