@@ -136,10 +136,10 @@ module _ (parts : Parts) (checked : Checked parts) (ordered : IsOrdered parts) (
       within = inside no_save
 
       by_way : GoesOn parts f b i (state_at parts f b (suc i)) (falls parts f b i) → Steps parts w p
-      by_way (inl g) = plain_next parts w p word_is refl g.way_is refl no_link no_return straight no_call (same_bytes (function_at parts f) b i within) (same_window (function_at parts f) b i b (suc i) within (later_word b i)) g.follows does
+      by_way (inl g) = plain_next parts w p word_is refl g.way_is refl no_link no_return straight no_call (same_bytes (function_at parts f) b i within) (same_window (function_at parts f) b i b (suc i) within (later_word b i)) g.there does
       by_way (inr g) = plain_edge parts w p g.t word_is refl g.way_is g.some no_link no_return (same_bytes (function_at parts f) b i within) (same_window (function_at parts f) b i g.t 0 within (later_block g.t 0 g.some))
           (subst (λ d. has_cells d (cells_at parts f g.t) ≡ true) then_known g.cells)
-          (subst (λ d. IsPaid (state_at parts f b 0) (fuel_at parts f b) (weight_to parts f b (suc i)) d (fuel_at parts f g.t)) then_known g.paid) g.follows does
+          (subst (λ d. IsPaid (state_at parts f b 0) (fuel_at parts f b) (weight_to parts f b (suc i)) d (fuel_at parts f g.t)) then_known g.paid) g.there does
 
   -- CALL
   pub call_steps : (w : ℕ) (k : Shared) (start : Cells) (at : At parts w k f b i (straight_visit parts f b i) start) (displacement : ℕ)
