@@ -20,7 +20,7 @@ use Rattle.sbx_rules.specs.Places.{IsPlace, address_of, callee_at, callee_before
 use Rattle.sbx_rules.specs.Rules.{Holds, branches_badly, enters_well, has_bad_shape, has_cells, has_outs, is_aligned_access, is_back, is_declared, is_entry, is_inner_edge, is_last, is_later, is_placed_access, lacks_room, may_divide_by_zero, may_overflow, misses_params, now, params_of, reads_undefined, room_of_callee, runs_with, same_test, suits, touches_reserved}
 use Rattle.sbx_rules.specs.Verdicts.{Checked}
 use Rattle.sbx_rules.specs.Ways.{Visit, branch_way, fuel_at, state_at, visits_at}
-use Rattle.sbx_sound.specs.Running.{IsVisit}
+use Rattle.sbx_sound.proofs.Running.{IsVisit}
 use Rattle.sbx_sound.proofs.Tests.{and_denied, at_most, or_left, or_right, undone}
 
 -- ---- tests

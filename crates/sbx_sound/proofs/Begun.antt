@@ -22,7 +22,7 @@ use Rattle.sbx_rules.specs.Places.{IsPlace, words_in}
 use Rattle.sbx_rules.specs.Verdicts.{Checked}
 use Rattle.sbx_rules.specs.Ways.{Visit, cells_at, state_at}
 use Rattle.sbx_sound.specs.Positive.{FuelStaysPositive, IsPositive}
-use Rattle.sbx_sound.specs.Running.{straight_visit}
+use Rattle.sbx_sound.proofs.Running.{straight_visit}
 use Rattle.sbx_sound.proofs.Arrivals.{is_straight_visit}
 use Rattle.sbx_sound.proofs.Bounded.{IsGoodEntry, entry_good, left_is_bounded, lowest}
 use Rattle.sbx_sound.proofs.Limits.{IsGoodCell, cells_good, have_results, in_written, ordered, words_few, written_in}

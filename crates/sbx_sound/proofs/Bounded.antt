@@ -21,7 +21,7 @@ use Rattle.sbx_domain.specs.Known.{cell_entry, entry_of_cell, is_location, range
 use Rattle.sbx_rules.specs.Fuel.{InCells}
 use Rattle.sbx_rules.specs.Places.{block_at, callee_before, op_at}
 use Rattle.sbx_rules.specs.Ways.{budget_of_callee, cells_at, counted, form_term, fuel_at, names_cell, state_at, weight_to}
-use Rattle.sbx_sound.specs.Running.{left_at}
+use Rattle.sbx_sound.specs.Positive.{left_at}
 use Rattle.sbx_sound.proofs.Limits.{IsGoodCell, IsGoodRange, block_good, cells_good, function_good}
 use Rattle.sbx_sound.proofs.Tests.{equal_numbers}
 

@@ -18,9 +18,9 @@ use Rattle.sbx_rules.specs.Places.{IsPlace, ends_run, function_at, op_at, words_
 use Rattle.sbx_rules.specs.Rules.{has_cells, is_entry, is_inner_edge, is_last, now, same_test}
 use Rattle.sbx_rules.specs.Verdicts.{Checked}
 use Rattle.sbx_rules.specs.Ways.{Past, To, Visit, Way, after_word, branch_way, cells_at, falls, fuel_at, state_at, weight_to}
-use Rattle.sbx_sound.specs.Order.{IsOrdered}
-use Rattle.sbx_sound.specs.Running.{At, IsVisit}
-use Rattle.sbx_sound.specs.Shared.{Shared}
+use Rattle.sbx_sound.proofs.Order.{IsOrdered}
+use Rattle.sbx_sound.proofs.Running.{At, IsVisit}
+use Rattle.sbx_sound.proofs.Shared.{Shared}
 use Rattle.sbx_sound.proofs.Arrivals.{after_no_call}
 use Rattle.sbx_sound.proofs.Asked.{branches_well, has_shape, restores_in_slot}
 use Rattle.sbx_sound.proofs.FromChecked.{edge_has_cells, edge_is_paid, goes_somewhere}

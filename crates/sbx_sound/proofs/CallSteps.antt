@@ -15,9 +15,10 @@ use Rattle.sbx_domain.specs.Known.{Known, started, with_entry}
 use Rattle.sbx_rules.specs.Rules.{is_defined, is_some}
 use Rattle.sbx_rules.specs.Ways.{Visit, cells_at, state_at}
 use Rattle.sbx_rules.specs.Places.{address_of, callee_at, function_at, op_at, op_before}
-use Rattle.sbx_sound.specs.Running.{At, left_at, straight_visit, tests, window_of}
+use Rattle.sbx_sound.specs.Positive.{left_at}
+use Rattle.sbx_sound.proofs.Running.{At, straight_visit, tests, window_of}
 use Rattle.sbx_form.specs.Forms.{Cells}
-use Rattle.sbx_sound.specs.Shared.{Lent, Own, Shared, Shows, Window}
+use Rattle.sbx_sound.proofs.Shared.{Lent, Own, Shared, Shows, Window}
 use Rattle.sbx_domain.specs.Transfer.{transferred}
 use Rattle.sbx_sound.proofs.Arrivals.{Left, after_no_call, left_by}
 use Rattle.sbx_sound.proofs.Calls.{CallsWell, enters, in_slot, kept_entry, opened}

@@ -12,10 +12,10 @@ use Rattle.sbx_rules.specs.Places.{IsPlace, callee_at, ends_run, op_at, op_befor
 use Rattle.sbx_rules.specs.Rules.{same_test}
 use Rattle.sbx_rules.specs.Verdicts.{Checked}
 use Rattle.sbx_rules.specs.Ways.{falls, fuel_at, state_at, weight_to}
-use Rattle.sbx_sound.specs.Order.{IsOrdered}
-use Rattle.sbx_sound.specs.Positive.{IsPositive}
-use Rattle.sbx_sound.specs.Running.{At, left_at, straight_visit}
-use Rattle.sbx_sound.specs.Shared.{Shared}
+use Rattle.sbx_sound.proofs.Order.{IsOrdered}
+use Rattle.sbx_sound.specs.Positive.{IsPositive, left_at}
+use Rattle.sbx_sound.proofs.Running.{At, straight_visit}
+use Rattle.sbx_sound.proofs.Shared.{Shared}
 use Rattle.sbx_sound.proofs.Arrivals.{goes_straight}
 use Rattle.sbx_sound.proofs.Asked.{calls_later, restores_in_slot}
 use Rattle.sbx_sound.proofs.CallSteps.{call_slot}
@@ -43,14 +43,14 @@ module _ (parts : Parts) (checked : Checked parts) (ordered : IsOrdered parts) (
   left_after f b i start place begun near before on no_call runs_on = by_way (goes_on parts checked ordered f b i place before on no_call runs_on)
     where
       by_way : GoesOn parts f b i (state_at parts f b (suc i)) (falls parts f b i) → pos 1 ≤ℤ left_at parts f b (suc i) start
-      by_way (inl g) = positive f b (suc i) start g.follows.place begun
+      by_way (inl g) = positive f b (suc i) start g.there.place begun
       by_way (inr g) =
           (let n = near_state parts checked ordered results start f b i near in
           let words = n.held.words in
           let there = begins parts checked ordered results start (state_at parts f b (suc i)) f g.t n g.cells in
           let in_cells = near_in_cells (numbers words) (state_at parts f g.t 0) words n.held.icc n.held.y there in
           let pays = edge_pays (state_at parts f b 0) (state_at parts f b (suc i)) (fuel_at parts f b) (fuel_at parts f g.t) (weight_to parts f b (suc i)) start words n.held.icc n.held.y g.paid begun n.near in
-          paid_left (form_value start (fuel_at parts f b)) (form_value (numbers words) (fuel_at parts f g.t)) (weight_to parts f b (suc i)) pays (positive f g.t 0 (numbers words) g.follows.place in_cells))
+          paid_left (form_value start (fuel_at parts f b)) (form_value (numbers words) (fuel_at parts f g.t)) (weight_to parts f b (suc i)) pays (positive f g.t 0 (numbers words) g.there.place in_cells))
 
   pub call_slots : parts.stack_pages ≤ 16 → PlainWordsDo parts → (w : ℕ) (k : Shared) (f b j displacement : ℕ) (start : Cells) (at : At parts w k f b (suc j) (straight_visit parts f b (suc j)) start) → op_at parts f b j ≡ Call displacement
       → let p : Spot parts w = record { k = k; f = f; b = b; i = suc j; v = straight_visit parts f b (suc j); start = start; at = at } in

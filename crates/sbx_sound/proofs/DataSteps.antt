@@ -37,9 +37,9 @@ use Rattle.sbx_fits.proofs.Memory.{data_keeps_fitting}
 use Rattle.sbx_rules.specs.Operations.{Access, access_of, address_reads, frame_offset, is_framed, is_reserved, moved_reads, moved_writes, reads_of, second_reads, writes_of}
 use Rattle.sbx_rules.specs.Places.{function_at}
 use Rattle.sbx_rules.specs.Rules.{is_aligned_access, is_aligned_at, is_defined, is_placed_access, is_placed_at, is_some, reads_undefined, touches_reserved}
-use Rattle.sbx_sound.specs.LowFields.{LowThree}
-use Rattle.sbx_sound.specs.Running.{tests, window_of}
-use Rattle.sbx_sound.specs.Shared.{KnownParts, Lent, Shared, Shows, Window, with_location}
+use Rattle.sbx_sound.proofs.LowFields.{LowThree}
+use Rattle.sbx_sound.proofs.Running.{tests, window_of}
+use Rattle.sbx_sound.proofs.Shared.{KnownParts, Lent, Shared, Shows, Window, with_location}
 use Rattle.sbx_sound.proofs.Addresses.{IsInData, lies_in_data}
 use Rattle.sbx_sound.proofs.DataWords.{ReachesData, is_aligned, loads_data, number_same, stores_data}
 use Rattle.sbx_sound.proofs.Effects.{IsFewer, Reaches, moved_on, reaches_by, takes_one, with_word_known, writes_reach}

@@ -12,9 +12,9 @@ use Rattle.sbx_rules.specs.Operations.{is_call, is_framed, is_framed_return, is_
 use Rattle.sbx_rules.specs.Places.{ends_run, function_at, is_exit, op_at, op_before}
 use Rattle.sbx_rules.specs.Rules.{is_entry, same_test}
 use Rattle.sbx_rules.specs.Verdicts.{Checked}
-use Rattle.sbx_sound.specs.Order.{IsOrdered}
-use Rattle.sbx_sound.specs.Running.{At, straight_visit}
-use Rattle.sbx_sound.specs.Shared.{Shared}
+use Rattle.sbx_sound.proofs.Order.{IsOrdered}
+use Rattle.sbx_sound.proofs.Running.{At, straight_visit}
+use Rattle.sbx_sound.proofs.Shared.{Shared}
 use Rattle.sbx_sound.proofs.Arrivals.{goes_straight}
 use Rattle.sbx_sound.proofs.Asked.{has_shape, restores_in_slot}
 use Rattle.sbx_sound.proofs.Dispatch.{spot}

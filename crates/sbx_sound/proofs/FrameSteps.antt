@@ -25,9 +25,9 @@ use Rattle.sbx_fits.proofs.Memory.{frame_words_keep_fitting}
 use Rattle.sbx_rules.specs.Operations.{Access, access_of, address_reads, frame_offset, frame_word_read, is_framed, moved_reads, reads_of, writes_of}
 use Rattle.sbx_rules.specs.Places.{function_at}
 use Rattle.sbx_rules.specs.Rules.{is_aligned_access, is_aligned_at, is_defined, is_placed_access, is_placed_at, is_undefined_word, reads_undefined, touches_reserved}
-use Rattle.sbx_sound.specs.LowFields.{LowOperand, LowThree}
-use Rattle.sbx_sound.specs.Running.{bytes_of, tests, window_of}
-use Rattle.sbx_sound.specs.Shared.{Lent, Own, Shows, base_below, stack_start}
+use Rattle.sbx_sound.proofs.LowFields.{LowOperand, LowThree}
+use Rattle.sbx_sound.proofs.Running.{bytes_of, tests, window_of}
+use Rattle.sbx_sound.proofs.Shared.{Lent, Own, Shows, base_below, stack_start}
 use Rattle.sbx_sound.proofs.Addresses.{IsWordOffset, by_fp, by_sp, lies_in_frame, word_at}
 use Rattle.sbx_sound.proofs.Effects.{read_sp}
 use Rattle.sbx_sound.proofs.FrameWords.{NamesWord, loads_word, read_fp, stores_word}

@@ -12,7 +12,7 @@ use Rattle.sbx_domain.specs.Known.{Known}
 use Rattle.sbx_domain.specs.Forms.{Form}
 use Rattle.sbx_rules.specs.Ways.{To, Visit, cells_at, fuel_at, state_at, visits_at, weight_to}
 use Rattle.sbx_rules.specs.Places.{ends_run, function_at, op_at, words_in, address_of}
-use Rattle.sbx_sound.specs.Running.{IsVisit}
+use Rattle.sbx_sound.proofs.Running.{IsVisit}
 use Rattle.sbx_sound.proofs.Tests.{at_most}
 
 -- The three sentences of fuel say "for all numbers", and an inequality: so what isn't refuted holds.

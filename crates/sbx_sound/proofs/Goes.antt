@@ -7,8 +7,8 @@ use Rattle.sbx_rules.specs.Places.{IsPlace, ends_run, function_at, op_at, op_bef
 use Rattle.sbx_rules.specs.Rules.{is_past}
 use Rattle.sbx_rules.specs.Verdicts.{Checked}
 use Rattle.sbx_rules.specs.Ways.{Next, Past, To, Way, falls, falls_to, state_at}
-use Rattle.sbx_sound.specs.Order.{IsOrdered}
-use Rattle.sbx_sound.specs.Running.{IsThere, IsVisit, straight_visit}
+use Rattle.sbx_sound.proofs.Order.{IsOrdered}
+use Rattle.sbx_sound.proofs.Running.{IsThere, IsVisit, straight_visit}
 use Rattle.sbx_sound.proofs.Arrivals.{goes_straight, is_straight_visit}
 use Rattle.sbx_sound.proofs.FromChecked.{edge_has_cells, edge_is_paid, goes_somewhere}
 use Rattle.sbx_sound.proofs.Ordered.{follows}
@@ -61,7 +61,7 @@ module _ (parts : Parts) (checked : Checked parts) (ordered : IsOrdered parts) w
       known = refl;
       straight = on;
       no_call = no_call;
-      follows = there f b (suc i) (record { function = place.function; block = place.block; word = n.within });
+      there = there f b (suc i) (record { function = place.function; block = place.block; word = n.within });
     }
 
     to_block : FallsTo (length (function_at parts f).blocks) b (falls parts f b i) → GoesToBlock parts f b i (state_at parts f b (suc i)) (falls parts f b i)
@@ -72,7 +72,7 @@ module _ (parts : Parts) (checked : Checked parts) (ordered : IsOrdered parts) w
       some = λ e. (let x : b + 1 ≡ 0 = e in omega arith);
       cells = edge_has_cells parts checked f b i place.function place.block place.word (straight_visit parts f b i) (b + 1) visit n.way_is;
       paid = edge_is_paid parts checked f b i place.function place.block place.word (straight_visit parts f b i) (b + 1) visit n.way_is;
-      follows = there f (b + 1) 0 (begin_place f (b + 1) place.function n.within);
+      there = there f (b + 1) 0 (begin_place f (b + 1) place.function n.within);
     }
 
     -- a word that neither transfers control nor ends the run goes on

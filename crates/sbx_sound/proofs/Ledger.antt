@@ -13,7 +13,7 @@ use Rattle.sbx_image.specs.declared.parts.Cell.{Cell}
 use Rattle.sbx_form.specs.declared.terms.FormTerm.{FormTerm}
 use Rattle.sbx_flat.specs.Registers.{Words}
 use Rattle.sbx_form.specs.Forms.{Cells, terms_value}
-use Rattle.sbx_sound.specs.Shared.{Open}
+use Rattle.sbx_sound.proofs.Shared.{Open}
 use Rattle.sbx_domain.specs.Fits.{Fits, HasAlignment, HasForm, HasInterval, Near, Relates}
 use Rattle.sbx_range.specs.Ranges.{InInterval, IsAligned}
 use Rattle.sbx_domain.specs.declared.entry.Entry.{Entry}
@@ -22,7 +22,7 @@ use Rattle.sbx_domain.specs.Forms.{Form, form_of_location, form_value}
 use Rattle.sbx_domain.specs.declared.relation.Relation.{Relation}
 use Rattle.sbx_rules.specs.Fuel.{InCells, IsPaid, number_now, numbers_now}
 use Rattle.sbx_rules.specs.Rules.{has_cells, has_range}
-use Rattle.sbx_sound.specs.Running.{AreOpen, left_to, left_to_all}
+use Rattle.sbx_sound.proofs.Running.{AreOpen, left_to, left_to_all}
 use Rattle.sbx_sound.proofs.Tests.{and_left, and_right, equal_numbers}
 
 -- ---- sums

@@ -11,8 +11,8 @@ use Rattle.sbx_flat.specs.Turns.{word_at}
 use Rattle.sbx_flat.proofs.Turns.{word_at_place}
 use Rattle.sbx_rules.specs.Places.{IsPlace, address_of, address_or_end, block_at, ends_run, function_at, function_end, no_block, op_at, or_block, word_of_place, words_in}
 use Rattle.sbx_rules.specs.Ways.{Next, Past, To, falls, falls_to}
-use Rattle.sbx_sound.specs.Order.{HasWords, IsOrdered}
-use Rattle.sbx_sound.specs.Running.{Follows}
+use Rattle.sbx_sound.proofs.Order.{HasWords, IsOrdered}
+use Rattle.sbx_sound.proofs.Running.{Follows}
 use Rattle.sbx_sound.proofs.Tests.{less_of}
 
 same_quarter : (a k : ℕ) → a ≡ code_start + 4 * k → (a - code_start) / 4 ≡ k

@@ -18,9 +18,9 @@ use Rattle.sbx_fits.specs.Held.{IsOperand}
 use Rattle.sbx_rules.specs.Operations.{frame_word_read, is_framed, is_reserved, may_write, reads_codes, reads_of, reads_y, second_reads, writes_of}
 use Rattle.sbx_rules.specs.Places.{function_at}
 use Rattle.sbx_rules.specs.Rules.{is_defined, is_some, is_undefined_word, reads_undefined, touches_reserved}
-use Rattle.sbx_sound.specs.LowFields.{LowOperand, LowThree}
-use Rattle.sbx_sound.specs.Running.{tests, window_of}
-use Rattle.sbx_sound.specs.Shared.{Lent, Window}
+use Rattle.sbx_sound.proofs.LowFields.{LowOperand, LowThree}
+use Rattle.sbx_sound.proofs.Running.{tests, window_of}
+use Rattle.sbx_sound.proofs.Shared.{Lent, Window}
 use Rattle.sbx_sound.proofs.Effects.{read_shown}
 use Rattle.sbx_sound.proofs.Frames.{IsFree}
 use Rattle.sbx_sound.proofs.Plain.{computes}

@@ -24,9 +24,9 @@ use Rattle.sbx_domain.specs.Fits.{Fits, HasAlignment, HasInterval}
 use Rattle.sbx_domain.specs.Known.{Known, range_at}
 use Rattle.sbx_rules.specs.Ways.{Next, To, Way, cells_at, falls, fuel_at, state_at, weight_to}
 use Rattle.sbx_rules.specs.Places.{address_of, function_at, op_at, op_before}
-use Rattle.sbx_sound.specs.Running.{After, AreOpen, At, Follows, IsOpen, IsThere, known_after, straight_visit, tests, window_of}
+use Rattle.sbx_sound.proofs.Running.{After, AreOpen, At, Follows, IsOpen, IsThere, known_after, straight_visit, tests, window_of}
 use Rattle.sbx_form.specs.Forms.{Cells}
-use Rattle.sbx_sound.specs.Shared.{KnownParts, Lent, Open, Own, Shared, Shows, ShowsFile, Window, with_location}
+use Rattle.sbx_sound.proofs.Shared.{KnownParts, Lent, Open, Own, Shared, Shows, ShowsFile, Window, with_location}
 use Rattle.sbx_domain.specs.Transfer.{is_out, transferred, called, restored}
 use Rattle.sbx_sound.proofs.Arrivals.{Left, after_edge, after_next, after_no_call, goes_straight, left_by}
 use Rattle.sbx_sound.proofs.CallSteps.{own_window}
@@ -65,7 +65,7 @@ module _ (parts : Parts) where
     pub known : d ≡ state_at parts f b (suc i)
     pub straight : goes_straight (op_at parts f b i) ≡ true
     pub no_call : is_call (op_at parts f b i) ≡ false
-    pub follows : IsThere parts f b (suc i)
+    pub there : IsThere parts f b (suc i)
 
   -- control goes to a block
   pub record GoesToBlock (f b i : ℕ) (d : Known) (way : Way) : Type 0 where
@@ -74,7 +74,7 @@ module _ (parts : Parts) where
     pub some : t ≢ 0
     pub cells : has_cells d (cells_at parts f t) ≡ true
     pub paid : IsPaid (state_at parts f b 0) (fuel_at parts f b) (weight_to parts f b (suc i)) d (fuel_at parts f t)
-    pub follows : IsThere parts f t 0
+    pub there : IsThere parts f t 0
 
   -- where it arrives, and that a state which shows what is known shows that
   pub record Arrives (n : ℕ) (k : Shared) (d : Known) (window : Window) : Type 0 where
@@ -84,7 +84,7 @@ module _ (parts : Parts) where
   pub arrives_next : (n : ℕ) (k : Shared) (f b i : ℕ) (d : Known) (way : Way) (start : Cells) → is_framed (function_at parts f).kind ≡ true → GoesNext f b i d way → After parts n k f b i d way start → Arrives n k d (Own (function_at parts f).frame)
   arrives_next n k f b i d way start framed g a =
       let there = subst (λ x. After parts n k f b i (state_at parts f b (suc i)) x start) g.way_is (subst (λ x. After parts n k f b i x way start) g.known a) in
-      let spot : Spot parts n = record { k = k; f = f; b = b; i = suc i; v = straight_visit parts f b (suc i); start = start; at = after_next parts n k f b i start g.straight g.no_call g.follows there } in
+      let spot : Spot parts n = record { k = k; f = f; b = b; i = suc i; v = straight_visit parts f b (suc i); start = start; at = after_next parts n k f b i start g.straight g.no_call g.there there } in
       record {
         spot = spot;
         shows = λ s h. (let h1 = subst (λ x. Shows x (tests parts d false) k s) (sym (own_window (function_at parts f) b i framed)) h in
@@ -103,7 +103,7 @@ module _ (parts : Parts) where
   unfolding state_at
   arrives_block n k f b i d way start framed g a =
       let there = subst (λ x. After parts n k f b i d x start) g.way_is a in
-      let spot : Spot parts n = record { k = k; f = f; b = g.t; i = 0; v = straight_visit parts f g.t 0; start = numbers k.words; at = after_edge parts n k f b i g.t d start g.some g.cells g.paid g.follows there } in
+      let spot : Spot parts n = record { k = k; f = f; b = g.t; i = 0; v = straight_visit parts f g.t 0; start = numbers k.words; at = after_edge parts n k f b i g.t d start g.some g.cells g.paid g.there there } in
       record {
         spot = spot;
         shows = λ s h. (let h1 = subst (λ x. Shows x (tests parts d false) k s) (sym (block_window (function_at parts f) g.t framed g.some)) h in

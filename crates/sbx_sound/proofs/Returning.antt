@@ -24,17 +24,16 @@ use Rattle.sbx_rules.specs.Places.{IsPlace, address_of, callee_at, callee_of, en
 use Rattle.sbx_rules.specs.Rules.{has_outs, is_defined, is_entry, reads_undefined, same_test, suits, touches_reserved}
 use Rattle.sbx_rules.specs.Verdicts.{Checked}
 use Rattle.sbx_rules.specs.Ways.{Next, Past, To, falls, falls_to, state_at}
-use Rattle.sbx_sound.specs.LowFields.{LowFields, LowThree}
-use Rattle.sbx_sound.specs.Order.{IsOrdered}
-use Rattle.sbx_sound.specs.Running.{AreOpen, At, Follows, IsOpen, known_after, straight_visit, tests, window_of}
-use Rattle.sbx_sound.specs.Shared.{Lent, Open, Own, Shared, Window}
+use Rattle.sbx_sound.proofs.LowFields.{LowFields, LowThree, low_fields}
+use Rattle.sbx_sound.proofs.Order.{IsOrdered}
+use Rattle.sbx_sound.proofs.Running.{AreOpen, At, Follows, IsOpen, known_after, straight_visit, tests, window_of}
+use Rattle.sbx_sound.proofs.Shared.{Lent, Open, Own, Shared, Window}
 use Rattle.sbx_sound.proofs.Arrivals.{after_no_call, goes_straight}
 use Rattle.sbx_sound.proofs.Asked.{admitted, has_results, has_shape, keeps_reserved, no_return, reads_known, restores_in_slot, slot_follows, suits_kind}
 use Rattle.sbx_sound.proofs.Effects.{read_shown}
 use Rattle.sbx_sound.proofs.Frames.{IsFree, given_back}
 use Rattle.sbx_sound.proofs.FromChecked.{return_is_paid}
 use Rattle.sbx_sound.proofs.Goes.{goes_on}
-use Rattle.sbx_sound.proofs.LowFields.{low_fields}
 use Rattle.sbx_sound.proofs.Ordered.{follows, lies_at_four, lies_low}
 use Rattle.sbx_sound.proofs.Moves.{operand_of, second_read}
 use Rattle.sbx_sound.proofs.Read.{read_known, second_shown, write_allowed}

@@ -17,9 +17,9 @@ use Rattle.sbx_domain.specs.Known.{Known, range_at, form_at}
 use Rattle.sbx_domain.specs.Forms.{form_value}
 use Rattle.sbx_rules.specs.Ways.{Visit, Way, after_call, falls, fuel_at, state_at, weight_to}
 use Rattle.sbx_rules.specs.Places.{address_of, callee_at, function_at, op_at}
-use Rattle.sbx_sound.specs.Running.{After, AreOpen, At, Follows, GoesTo, IsOpen, back_of, known_after, left_to, left_to_all}
+use Rattle.sbx_sound.proofs.Running.{After, AreOpen, At, Follows, GoesTo, IsOpen, back_of, known_after, left_to, left_to_all}
 use Rattle.sbx_form.specs.Forms.{Cells}
-use Rattle.sbx_sound.specs.Shared.{AreStored, Open, Shared}
+use Rattle.sbx_sound.proofs.Shared.{AreStored, Open, Shared}
 use Rattle.sbx_domain.specs.Transfer.{called, transferred, is_out}
 use Rattle.sbx_sound.proofs.Arrivals.{Left, framed_bytes, left_by, weight_next}
 use Rattle.sbx_sound.proofs.Ledger.{interval_within, multiple_within, one_return, one_word}

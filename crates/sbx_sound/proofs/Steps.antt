@@ -22,8 +22,8 @@ use Rattle.sbx_domain.specs.Fits.{Fits}
 use Rattle.sbx_domain.specs.Known.{Known, started, range_of_entry}
 use Rattle.sbx_rules.specs.Ways.{Next, To, cells_at, fuel_at, state_at, weight_to}
 use Rattle.sbx_rules.specs.Places.{address_of, function_at, op_at, op_before, word_of_place}
-use Rattle.sbx_sound.specs.Running.{After, IsThere, straight_visit, tests, window_of, bytes_of}
-use Rattle.sbx_sound.specs.Shared.{AreStored, KnownParts, Shared, Shows, Window}
+use Rattle.sbx_sound.proofs.Running.{After, IsThere, straight_visit, tests, window_of, bytes_of}
+use Rattle.sbx_sound.proofs.Shared.{AreStored, KnownParts, Shared, Shows, Window}
 use Rattle.sbx_domain.specs.Transfer.{transferred}
 use Rattle.sbx_sound.proofs.Arrivals.{Left, after_edge, after_next, after_no_call, after_plain, goes_straight, left_by}
 use Rattle.sbx_sound.proofs.Effects.{Reaches}

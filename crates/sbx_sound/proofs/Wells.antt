@@ -20,8 +20,8 @@ use Rattle.sbx_rules.specs.Verdicts.{Checked}
 use Rattle.sbx_rules.specs.Ways.{falls, fuel_at, out_cells, state_at}
 use Rattle.sbx_image.specs.declared.parts.Kind.{Kind}
 use Rattle.sbx_image.specs.declared.parts.Kind.TheVariants.{Framed, Leaf}
-use Rattle.sbx_sound.specs.Order.{IsOrdered}
-use Rattle.sbx_sound.specs.Running.{Follows, straight_visit}
+use Rattle.sbx_sound.proofs.Order.{IsOrdered}
+use Rattle.sbx_sound.proofs.Running.{Follows, straight_visit}
 use Rattle.sbx_sound.proofs.Arrivals.{goes_straight, is_straight_visit}
 use Rattle.sbx_sound.proofs.Asked.{enters, has_params, no_params, room_for_callee, room_for_frame, room_of_the_stack, slot_follows, suits_kind, within_budget}
 use Rattle.sbx_sound.proofs.Calls.{CallsWell, in_slot}

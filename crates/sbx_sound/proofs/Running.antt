@@ -1,5 +1,5 @@
 -- The invariant of a run of a checked image: where it stands, what fits there, who called, and what fuel is left.
-use Rattle.std.specs.Prelude.{◌≡◌, ℕ, suc, ◌+◌, ◌-◌, ◌*◌, ◌%◌, ◌^◌, ◌<◌, ◌≤◌, ◌&&◌, ◌||◌, not, Bool, true, false, ◌==◌, nat_le, if◌then◌else◌, List, [], ◌∷◌, Option, Some, None, ℤ, pos, ◌+ℤ◌, ◌-ℤ◌, ◌≤ℤ◌, length, slice_get}
+use Rattle.std.specs.Prelude.{◌≡◌, ℕ, suc, ◌+◌, ◌-◌, ◌*◌, ◌%◌, ◌^◌, ◌<◌, ◌≤◌, ◌&&◌, ◌||◌, not, Bool, true, false, ◌==◌, nat_le, if◌then◌else◌, List, [], ◌∷◌, Option, Some, None, ℤ, pos, ◌+ℤ◌, ◌≤ℤ◌, length, slice_get}
 use Rattle.v8_meaning.specs.Operands.{following}
 use Rattle.sbx_image.specs.declared.parts.Function.{Function}
 use Rattle.sbx_image.specs.declared.parts.Parts.{Parts}
@@ -9,11 +9,11 @@ use Rattle.sbx_rules.specs.Operations.{is_call, is_return, is_framed}
 use Rattle.sbx_domain.specs.Fits.{Fits, HasAlignment, HasForm, HasInterval}
 use Rattle.sbx_domain.specs.Known.{Known, form_at, range_at}
 use Rattle.sbx_rules.specs.Rules.{is_defined, is_some}
-use Rattle.sbx_domain.specs.Forms.{form_value}
-use Rattle.sbx_rules.specs.Ways.{Next, To, Visit, Way, falls, fuel_at, state_at, visits_at, weight_to}
+use Rattle.sbx_rules.specs.Ways.{Next, To, Visit, Way, falls, state_at, visits_at}
 use Rattle.sbx_rules.specs.Places.{IsPlace, address_of, callee_at, callee_before, function_at, op_before}
 use Rattle.sbx_form.specs.Forms.{Cells}
-use Rattle.sbx_sound.specs.Shared.{AreStored, KnownParts, Lent, Open, Own, Shared, Window, base_below}
+use Rattle.sbx_sound.specs.Positive.{left_at}
+use Rattle.sbx_sound.proofs.Shared.{AreStored, KnownParts, Lent, Open, Own, Shared, Window, base_below}
 
 -- what a function has in its window: before its SAVE, and in a leaf, its caller's
 abbrev pub window_of : Function → ℕ → ℕ → Window
@@ -28,16 +28,12 @@ abbrev pub stack_bottom : Parts → ℕ
 stack_bottom parts = 0x100000 - 4096 * parts.stack_pages
 
 module _ (parts : Parts) where
-  -- the fuel that is left before word i of a block
-  abbrev pub left_at : ℕ → ℕ → ℕ → Cells → ℤ
-  left_at f b i start = form_value start (fuel_at parts f b) -ℤ pos (weight_to parts f b i)
-
   -- what is known where a caller goes on, and the fuel that is left to it: after the CALL and its slot
   abbrev pub known_after : Open → Known
   known_after c = state_at parts c.function c.block (suc (suc c.place))
 
   abbrev pub left_to : Open → ℤ
-  left_to c = left_at c.function c.block (suc (suc c.place)) c.start
+  left_to c = left_at parts c.function c.block (suc (suc c.place)) c.start
 
   abbrev pub left_to_all : List Open → ℤ
   left_to_all [] = pos 0
@@ -128,7 +124,7 @@ module _ (parts : Parts) where
     pub room : stack_bottom parts + (function_at parts f).stack_room ≤ base_below k.calls
     pub stored : AreStored (length parts.bytes) k.memory k.input
     -- the ledger: what was used, what is left here, and what is left to each caller
-    pub ledger : (pos w +ℤ (left_at f b i start +ℤ left_to_all k.calls)) ≤ℤ pos (budget parts)
+    pub ledger : (pos w +ℤ (left_at parts f b i start +ℤ left_to_all k.calls)) ≤ℤ pos (budget parts)
 
   -- Right after word i, with d known, on this way: a call before it has come back.
   pub record After (w : ℕ) (k : Shared) (f b i : ℕ) (d : Known) (way : Way) (start : Cells) : Type 0 where
@@ -143,4 +139,4 @@ module _ (parts : Parts) where
     pub eight : k.base % 8 ≡ 0
     pub room : stack_bottom parts + (function_at parts f).stack_room ≤ base_below k.calls
     pub stored : AreStored (length parts.bytes) k.memory k.input
-    pub ledger : (pos w +ℤ (left_at f b (suc i) start +ℤ left_to_all k.calls)) ≤ℤ pos (budget parts)
+    pub ledger : (pos w +ℤ (left_at parts f b (suc i) start +ℤ left_to_all k.calls)) ≤ℤ pos (budget parts)
