@@ -2,8 +2,6 @@
 !
 ! Here the annotations say more than in hello.s: the verifier looks at one block at a time, and what it may take for
 ! granted where a block begins has to be written there.
-!
-! Today's verifier knows neither windows nor a second block, and refuses the image with V2.
 
 .services exit,get,put
 
