@@ -45,9 +45,9 @@ fn first_in_functions(image: &Image, here: &mut State, other: &mut State) -> Opt
 /// The refusal of an image: of the rules that it breaks, the one of least number at the least address. None where it breaks
 /// none. It fails where memory is refused.
 pub fn first_fault(alloc: Global, image: &Image) -> Result<Option<Refusal>, AllocError>
-    requires keeps { parts_keep image.now ≡ Ok tt }
     ensures { IfOk result (λ told. MatchOption told (Checked image.now) (λ refusal. IsFirst image.now refusal)) }
 {
+    image.keeps_its_format();
     let mut here = State::new(alloc)?;
     let mut other = State::new(alloc)?;
     Ok(first_in_functions(image, &mut here, &mut other))
