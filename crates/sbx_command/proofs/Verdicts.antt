@@ -1,13 +1,10 @@
 -- A job that is refused did not deserve to be done.
-use Rattle.std.proofs.Common.{◌≡◌, ap, inl, inr, subst, ℕ, List, Option, None, Some, IfSome, Ok, Err, ◌∙◌, rules}
+use Rattle.std.proofs.Common.{◌≡◌, subst, ℕ, List, Option, None, Some, IfSome, Ok, Err, ◌∙◌, rules}
 use Rattle.std.specs.Io.KnownBytes.{Appends, Keeps}
 use Rattle.sbx_image.specs.declared.fault.ImageFault.{ImageFault}
 use Rattle.sbx_image.specs.declared.parts.Parts.{Parts}
 use Rattle.sbx_image.specs.Reading.{reading}
 use Rattle.sbx_rules.specs.Verdicts.{Checked, IsFirst}
-use Rattle.sbx_rules.specs.declared.cause.Cause.TheVariants.{NoMemory}
-use Rattle.sbx_rules.specs.declared.cause.Refusal.{Refusal}
-use Rattle.sbx_verify.specs.Refusals.{IsRefusal as IsVerdict}
 use Rattle.sbx_command.specs.declared.jobs.Job.{Job}
 use Rattle.sbx_command.specs.declared.jobs.Job.TheVariants.{Asm, Verify, Run, List as Listing, Trace}
 use Rattle.sbx_command.specs.declared.stops.Stop.{Stop}
@@ -31,11 +28,6 @@ fault_is_not_checked parts other bytes refusal read least same checked =
     let equal : parts ≡ other = search rules in
     let kept : Checked parts = rw equal checked in
     kept refusal.function refusal.address refusal.cause least.told
-
--- a refusal that isn't for want of memory names a broken rule
-pub broken_rule : (parts : Parts) (refusal : Refusal) → IsVerdict parts refusal → (refusal.cause ≡ NoMemory → ⊥) → IsFirst parts refusal
-broken_rule parts refusal (inl first) other = first
-broken_rule parts refusal (inr none) other = absurd (other (ap (λ r. r.cause) none))
 
 pub image_stop : (stop : Stop) (bytes : List ℕ) → IsRefusal stop → IsTrueOfImage stop bytes → IsImage bytes → ⊥
 image_stop (Source fault) bytes refuses told image = told
