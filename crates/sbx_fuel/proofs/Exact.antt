@@ -104,7 +104,7 @@ pub record AreTerms (ts : List FormTerm) : Type 0 where
   pub nonzero : AreNonzero ts
 
 module _ (first : Known) (fuel : Form) (weight : ℕ) (now : Known) (next : Form) (some_first : AreSome first) (some_now : AreSome now)
-         (fuel_terms : AreTerms fuel.terms) (next_terms : AreTerms next.terms) where
+    (fuel_terms : AreTerms fuel.terms) (next_terms : AreTerms next.terms) where
   abbrev pub before : ℤ
   before = (fuel.constant -ℤ next.constant) -ℤ pos weight
 

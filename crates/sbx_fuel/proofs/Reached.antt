@@ -192,7 +192,7 @@ is_left d e ts us z h start others a b =
     omega (arith, ints)
 
 module _ (d e : Known) (ts us : List FormTerm) (z : ℤ) (some_d : AreSome d) (some_e : AreSome e) (ascend : AscendFrom 0 ts) (ascend_others : AscendFrom 0 us)
-         (nonzero : AreNonzero ts) (nonzero_others : AreNonzero us) (left : IsLeft d e ts us z) where
+    (nonzero : AreNonzero ts) (nonzero_others : AreNonzero us) (left : IsLeft d e ts us z) where
   reached : (n : ℕ) → pos 0 ≤ℤ (z +ℤ (least_terms (wide n d) ts +ℤ least_terms (wide n e) us))
   unfolding wide wide_lo wide_hi
   reached n =

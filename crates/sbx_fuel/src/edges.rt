@@ -172,12 +172,7 @@ pub fn is_within_budget(image: &Image, f: usize, b: usize) -> bool
     ensures above { result ≡ false → IsWithinBudget (state_at image.now f b 0) (fuel_at image.now f b) (function_at image.now f).budget → ⊥ }
 {
     let function = &image.functions()[f];
-    is_within(
-        function,
-        b,
-        &function.blocks.as_slice()[b],
-        function.budget,
-    )
+    is_within(function, b, &function.blocks.as_slice()[b], function.budget)
 }
 
 /// Whether a term of the fuel of block `b` of function `f` names no cell of the block.

@@ -138,10 +138,7 @@ fn taken(now: &State, term: FormTerm) -> Option<i128>
 {
     let opposite = negated(term);
     match now.form(term.location) {
-        Some(form) => Some(product(
-            opposite.coefficient,
-            i128::from(form.constant()),
-        )),
+        Some(form) => Some(product(opposite.coefficient, i128::from(form.constant()))),
         None => least_in(now.range(term.location), opposite),
     }
 }

@@ -3,9 +3,9 @@ ghost use Rattle.std.specs.Prelude.{◌≡◌, ◌≤◌, length, Ok, All};
 ghost use Rattle.sbx_image.specs.Spelling.{IsCountedFunction, IsTyped};
 ghost use Rattle.sbx_image.specs.Rules.{parts_keep};
 
-use crate::widths::parts_fit;
 use crate::parts::{Function, Parts};
 use crate::services::Services;
+use crate::widths::parts_fit;
 use std::marker::Model;
 
 /// An image: parts that keep every limit and order of the format. Contracts see the parts.

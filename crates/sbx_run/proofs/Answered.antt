@@ -1,12 +1,11 @@
 -- What a run of an accepted image answers.
-use Rattle.std.proofs.Common.{◌≡◌, ℕ, zero, suc, List, [], refl, sym, ap, ◌∙◌, subst}
+use Rattle.std.proofs.Common.{◌≡◌, ℕ, zero, suc, List, [], sym, ap, ◌∙◌, subst}
 use Rattle.v8_memory.specs.Board.{Device}
 use Rattle.v8_loaded.specs.States.{IsState}
 use Rattle.v8_contained.proofs.States.{states_stay}
 use Rattle.v8_board.specs.declared.outcome.Ending.{Ending}
 use Rattle.v8_board.specs.declared.outcome.Ending.TheVariants.{Exit}
 use Rattle.v8_board.specs.declared.outcome.Outcome.{Outcome}
-use Rattle.v8_board.specs.declared.page_use.PageUse.{PageUse}
 use Rattle.v8_board.specs.Marks.{page_use_of}
 use Rattle.v8_board.specs.Runs.{GoesOn, IsCutShort, IsRun, Turns, after, outcome_of}
 use Rattle.v8_board.specs.Seen.{State as BoardState, turned}

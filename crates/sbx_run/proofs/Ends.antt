@@ -1,5 +1,5 @@
 -- What the law of whole runs makes of a board run of a safe image.
-use Rattle.std.proofs.Common.{◌≡◌, ℕ, zero, suc, ◌+◌, ◌^◌, ◌<◌, ◌≤◌, ◌⊎◌, inl, inr, false, List, [], ◌∷◌, ◌++◌, Option, Some, None, refl, sym, ap, ◌∙◌, subst, arith}
+use Rattle.std.proofs.Common.{◌≡◌, ℕ, zero, suc, ◌<◌, ◌≤◌, ◌⊎◌, inl, inr, false, List, [], Option, Some, None, refl, sym, ap, ◌∙◌, subst, arith}
 use Rattle.v8_mmu.specs.declared.bus.Stop.{Stop}
 use Rattle.v8_mmu.specs.declared.bus.Stop.TheVariants as stops
 use Rattle.v8_core.specs.Accesses.{World}
@@ -15,7 +15,7 @@ use Rattle.v8_board.specs.Seen.{State as BoardState, ending_by, ending_of}
 use Rattle.v8_board.specs.Start.{IsStart}
 use Rattle.v8_board.proofs.Running.{Counted}
 use Rattle.sbx_image.specs.declared.parts.Parts.{Parts}
-use Rattle.sbx_flat.specs.Runs.{AreBytes, Behaves, FlatSafe, budget, weight}
+use Rattle.sbx_flat.specs.Runs.{AreBytes, Behaves, FlatSafe, budget}
 use Rattle.sbx_flat.specs.declared.path.Place.{Place}
 use Rattle.sbx_flat.specs.declared.path.Traffic.{Traffic}
 use Rattle.sbx_raw.specs.Outputs.{Alike}

@@ -152,4 +152,4 @@ module _ (parts : Parts) (kept : parts_keep parts ≡ Ok tt) (typed : IsTyped pa
       let block = block_good parts kept typed f b in
       let cells = cells_at parts f b in
       low_sum (block_at parts f b).fuel (terms_value start (counted cells (block_at parts f b).terms)) (2 ^ 31 * 2 ^ 31) (length (block_at parts f b).terms) (weight_to parts f b i) i
-          block.fuel (terms_low cells start (cells_good parts kept typed f b) begun (block_at parts f b).terms block.terms) block.few (weight_small f b i) few
+      block.fuel (terms_low cells start (cells_good parts kept typed f b) begun (block_at parts f b).terms block.terms) block.few (weight_small f b i) few

@@ -1,5 +1,5 @@
 -- The parts that are read from bytes are an image's: each number that is read is one that its field can hold.
-use Rattle.std.proofs.Common.{◌≡◌, ℕ, zero, suc, ◌+◌, ◌-◌, ◌*◌, ◌^◌, ◌<◌, ◌≤◌, ℤ, ltb, eqb, true, List, [], ◌∷◌, ◌++◌, length, Result, Ok, refl, subst, arith}
+use Rattle.std.proofs.Common.{◌≡◌, ℕ, zero, suc, ◌+◌, ◌-◌, ◌*◌, ◌^◌, ◌<◌, ℤ, ltb, eqb, true, List, [], ◌∷◌, ◌++◌, length, Result, Ok, subst, arith}
 use Rattle.std.specs.Prelude.{pos, negsuc, ◌≤ℤ◌, FitsSigned, unsigned_abs}
 use Rattle.std.specs.Int.{cast_signed, w8, w16, w32, w64}
 use Rattle.std.specs.List.{AllByRecursion}
@@ -20,14 +20,14 @@ use Rattle.sbx_image.specs.declared.parts.Parts.{Parts}
 use Rattle.sbx_image.specs.declared.parts.Range.{Range}
 use Rattle.sbx_image.specs.declared.parts.Term.{Term}
 use Rattle.sbx_image.specs.declared.services.Services.{Services}
-use Rattle.sbx_image.specs.Reading.{block_at, block_head_at, bounds_at, bytes_at, cell_at, counts_at, data_length_at, function_at, function_head_at, header_at, items_at, kind_at, location_at, number_at, number_in, parts_at, range_at, reading, services_at, signed_at, term_at}
+use Rattle.sbx_image.specs.Reading.{block_at, block_head_at, bounds_at, cell_at, counts_at, data_length_at, function_at, function_head_at, header_at, items_at, kind_at, location_at, number_at, parts_at, range_at, reading, services_at, signed_at, term_at}
 use Rattle.sbx_image.specs.Rules.{Place, admits, code_start, in_order, is_coefficient, is_fuel, is_known, is_data_length}
 use Rattle.sbx_image.specs.Spelling.{IsBytes, IsTyped, IsTypedBlock, IsTypedCell, IsTypedFunction, IsTypedRange, IsTypedTerm}
-use Rattle.sbx_image.proofs.Fields.{IsWide, bind_ok, bytes_take, number_in_takes, number_takes, ok_is, wanted, wide16, wide32, wide64, wide8}
+use Rattle.sbx_image.proofs.Fields.{bind_ok, bytes_take, number_in_takes, number_takes, ok_is, wanted, wide16, wide32, wide64, wide8}
 use Rattle.sbx_image.proofs.TakesLaws.{reading_takes}
 use Rattle.sbx_range.proofs.Words.{signed-high, signed-low}
 use Rattle.sbx_flat.specs.Runs.{AreBytes}
-use Rattle.sbx_sound.specs.Law.{IsFormed, WhatIsReadIsFormed}
+use Rattle.sbx_sound.specs.Law.{WhatIsReadIsFormed}
 
 -- ---- numbers
 

@@ -48,3 +48,4 @@ pub mod Branching
 pub mod EachWord
 pub mod Whole
 pub mod Formed
+pub mod Examples

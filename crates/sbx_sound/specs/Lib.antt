@@ -4,3 +4,4 @@ pub mod Order
 pub mod LowFields
 pub mod Law
 pub mod Positive
+pub mod Examples

@@ -1,4 +1,5 @@
 //! Each law is the contract of a function that does nothing.
+ghost use Rattle.sbx_sound.specs.Examples.{ExamplesAreSafe};
 ghost use Rattle.sbx_sound.specs.Law.{CheckedIsSafe, WhatIsReadIsFormed};
 ghost use Rattle.sbx_sound.specs.Positive.{FuelStaysPositive};
 
@@ -18,4 +19,9 @@ pub fn checked_is_safe()
 /// What is read from bytes is formed: it keeps the limits of the format, and its fields can hold its numbers.
 pub fn what_is_read_is_formed()
     ensures { WhatIsReadIsFormed }
+{}
+
+/// A loop that puts out what it gets, and a call of a leaf, are safe.
+pub fn examples_are_safe()
+    ensures { ExamplesAreSafe }
 {}

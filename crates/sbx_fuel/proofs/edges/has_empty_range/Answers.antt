@@ -7,7 +7,7 @@ use Rattle.sbx_fuel.proofs.edges.has_empty_range.Goals as goal
 pub returns-then-is_empty_range-clause-empty : goal.returns-then-is_empty_range-clause-empty
 returns-then-is_empty_range-clause-empty c = λ _ some.
     (let e : is_empty_range (range_at (known c.args.now.now) c.loop-location.location) ≡ true =
-        ap is_empty_range (sym c.range.ensures) ∙ (sym c.is_empty_range.ensures ∙ c.if-is_empty_range.true) in
+    ap is_empty_range (sym c.range.ensures) ∙ (sym c.is_empty_range.ensures ∙ c.if-is_empty_range.true) in
     one_empty (known c.args.now.now) c.loop-location.location e some)
 
 pub returns-clause-full : goal.returns-clause-full

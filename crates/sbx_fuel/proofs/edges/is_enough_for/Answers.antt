@@ -27,7 +27,7 @@ sum_is c =
     let v = c.constant_left.ensures.value in
     let number : to_z w128 (of_z w128 c.constant_left.result) ≡ c.args.block.now.fuel -ℤ pos c.args.weight = omega (arith, ints) in
     let least : c.least_at_start.result ≡ least_over (range_at first) (fuel_of c.args.function.now c.args.number c.args.block.now).terms =
-        c.least_at_start.ensures.value ∙ ap (λ (ts : List FormTerm). least_over (range_at first) ts) (c.as_slice.ensures.value ∙ c.fuel_terms-terms.ensures.value) in
+    c.least_at_start.ensures.value ∙ ap (λ (ts : List FormTerm). least_over (range_at first) ts) (c.as_slice.ensures.value ∙ c.fuel_terms-terms.ensures.value) in
     c.is_natural_sum.ensures
     ∙ (ap (λ (z : ℤ). is_natural_sum z c.least_at_start.result (Some (pos 0))) number ∙ ap (λ (o : Option ℤ). is_natural_sum (c.args.block.now.fuel -ℤ pos c.args.weight) o (Some (pos 0))) least)
 
@@ -39,5 +39,5 @@ returns-clause-enough c = λ e.
 pub returns-clause-short : goal.returns-clause-short
 returns-clause-short c = λ e h.
     (let t = exact.enough_is (first_of c.args.function.now c.args.number c.args.block.now) (fuel_of c.args.function.now c.args.number c.args.block.now) c.args.weight
-        c.requires.kept.ranges (record { ascend = c.requires.kept.ascend; nonzero = c.requires.kept.nonzero }) h in
+    c.requires.kept.ranges (record { ascend = c.requires.kept.ascend; nonzero = c.requires.kept.nonzero }) h in
     let s : false ≡ true = sym e ∙ (sum_is c ∙ t) in absurd cc)

@@ -27,9 +27,9 @@ sum_is c =
     let v = c.budget_left.ensures.value in
     let number : to_z w128 (of_z w128 c.budget_left.result) ≡ pos c.args.budget -ℤ c.args.block.now.fuel = omega (arith, ints) in
     let least : c.least_at_start.result ≡ least_over (range_at first) (map negated (fuel_of c.args.function.now c.args.number c.args.block.now).terms) =
-        c.least_at_start.ensures.value
-        ∙ ap (λ (ts : List FormTerm). least_over (range_at first) ts)
-        (c.as_slice-2.ensures.value ∙ (c.all_negated-opposites.ensures.value ∙ ap (λ (ts : List FormTerm). map negated ts) (c.as_slice.ensures.value ∙ c.fuel_terms-terms.ensures.value))) in
+    c.least_at_start.ensures.value
+    ∙ ap (λ (ts : List FormTerm). least_over (range_at first) ts)
+    (c.as_slice-2.ensures.value ∙ (c.all_negated-opposites.ensures.value ∙ ap (λ (ts : List FormTerm). map negated ts) (c.as_slice.ensures.value ∙ c.fuel_terms-terms.ensures.value))) in
     c.is_natural_sum.ensures
     ∙ (ap (λ (z : ℤ). is_natural_sum z c.least_at_start.result (Some (pos 0))) number ∙ ap (λ (o : Option ℤ). is_natural_sum (pos c.args.budget -ℤ c.args.block.now.fuel) o (Some (pos 0))) least)
 
@@ -41,5 +41,5 @@ returns-clause-within c = λ e.
 pub returns-clause-above : goal.returns-clause-above
 returns-clause-above c = λ e h.
     (let t = exact.within_is (first_of c.args.function.now c.args.number c.args.block.now) (fuel_of c.args.function.now c.args.number c.args.block.now) c.args.budget
-        c.requires.kept.ranges (record { ascend = c.requires.kept.ascend; nonzero = c.requires.kept.nonzero }) h in
+    c.requires.kept.ranges (record { ascend = c.requires.kept.ascend; nonzero = c.requires.kept.nonzero }) h in
     let s : false ≡ true = sym e ∙ (sum_is c ∙ t) in absurd cc)

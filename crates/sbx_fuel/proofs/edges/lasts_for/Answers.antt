@@ -32,10 +32,10 @@ sum_is c =
     let items : c.as_slice.result.now ≡ other = c.as_slice.ensures.value ∙ c.fuel_terms-other.ensures.value in
     let others : c.as_slice-3.result.now ≡ other = c.as_slice-3.ensures.value ∙ c.fuel_terms-other.ensures.value in
     let starts : c.less_forms.new.terms.items ≡ start_terms here other own =
-        c.less_forms.ensures.value
-        ∙ (ap (λ (ts : List FormTerm). start_terms here ts c.fuel_terms-terms.result.items) items ∙ ap (λ (ts : List FormTerm). start_terms here other ts) c.fuel_terms-terms.ensures.value) in
+    c.less_forms.ensures.value
+    ∙ (ap (λ (ts : List FormTerm). start_terms here ts c.fuel_terms-terms.result.items) items ∙ ap (λ (ts : List FormTerm). start_terms here other ts) c.fuel_terms-terms.ensures.value) in
     let least : c.least_at_start.result ≡ least_over (range_at first) (start_terms here other own) =
-        c.least_at_start.ensures.value ∙ ap (λ (ts : List FormTerm). least_over (range_at first) ts) (c.as_slice-2.ensures.value ∙ starts) in
+    c.least_at_start.ensures.value ∙ ap (λ (ts : List FormTerm). least_over (range_at first) ts) (c.as_slice-2.ensures.value ∙ starts) in
     let taken : c.taken_by.result ≡ taken_by here other = c.taken_by.ensures.value ∙ ap (λ (ts : List FormTerm). taken_by here ts) others in
     c.is_natural_sum.ensures
     ∙ (ap (λ (z : ℤ). is_natural_sum z c.least_at_start.result c.taken_by.result) number
@@ -52,6 +52,6 @@ returns-clause-paid c = λ e.
 pub returns-clause-unpaid : goal.returns-clause-unpaid
 returns-clause-unpaid c = λ e h.
     (let t = exact.paid_is (first_of c.args.function.now c.args.number c.args.block.now) (fuel_of c.args.function.now c.args.number c.args.block.now) c.args.weight
-        (known c.args.now.now) (fuel_of c.args.function.now c.args.target c.args.next.now) c.requires.kept.ranges c.requires.some
-        (record { ascend = c.requires.kept.ascend; nonzero = c.requires.kept.nonzero }) (record { ascend = c.requires.next_kept.ascend; nonzero = c.requires.next_kept.nonzero }) h in
+    (known c.args.now.now) (fuel_of c.args.function.now c.args.target c.args.next.now) c.requires.kept.ranges c.requires.some
+    (record { ascend = c.requires.kept.ascend; nonzero = c.requires.kept.nonzero }) (record { ascend = c.requires.next_kept.ascend; nonzero = c.requires.next_kept.nonzero }) h in
     let s : false ≡ true = sym e ∙ (sum_is c ∙ t) in absurd cc)

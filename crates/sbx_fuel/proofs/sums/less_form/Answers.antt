@@ -28,7 +28,7 @@ returns-in-Some-clause-within c =
     let v = ap (λ (ts : List FormTerm). length ts) c.as_slice.ensures.value in
     let f = c.terms-more.ensures.few in
     λ m h. subst (AreWithin (m + 2 ^ 66)) (sym c.add_times.ensures)
-        (wider_bound (m + length form * 2 ^ 63) (m + 2 ^ 66) _ (omega arith) (sums_within k form c.args.terms.now.items m small small_form h))
+    (wider_bound (m + length form * 2 ^ 63) (m + 2 ^ 66) _ (omega arith) (sums_within k form c.args.terms.now.items m small small_form h))
 
 pub returns-in_default-clause-within : goal.returns-in_default-clause-within
 returns-in_default-clause-within c = λ m h. wider_bound m (m + 2 ^ 66) c.args.terms.now.items (omega arith) h

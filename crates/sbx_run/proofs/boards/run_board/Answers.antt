@@ -1,4 +1,4 @@
-use Rattle.std.proofs.Common.{◌≡◌, ◌∙◌, ap, inl, inr, subst, sym}
+use Rattle.std.proofs.Common.{◌∙◌, ap, inl, inr, subst, sym, rules}
 use Rattle.v8_mmu.specs.Answers.{Rose}
 use Rattle.v8_memory.specs.Board.{Device}
 use Rattle.v8_board.specs.Contains.{Contains}
@@ -61,7 +61,7 @@ returns-clause-ended g c =
     let limits : IsImage parts = subst IsImage same c.tells_limits.ensures in
     let run : IsRun g.row.N (budget parts) start end = subst (λ k. IsRun g.row.N k start end) (c.budget.ensures ∙ ap budget same) c.in-Ok.ensures.run in
     board_ends g.row.N parts c.args.board.now.state start end limits c.image-image.ensures.safe c.requires loaded c.load.ensures.state run _
-    (ap (λ (e : Ending). record c.in-Ok.outcome { ending = e }) (sym c.in-Exit.is) ∙ c.in-Ok.ensures.told) c.page_use.ensures
+    (ap (λ (e : Ending). record c.in-Ok.outcome { ending = e }) (sym c.in-Exit.is) ∙ c.in-Ok.ensures.told) (search rules)
 
 pub returns-clause-state : goal.returns-clause-state
 returns-clause-state g c =

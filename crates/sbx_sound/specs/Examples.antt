@@ -1,0 +1,8 @@
+-- Images that are safe as the rules say: a loop that puts out what it gets, and a call of a leaf.
+use Rattle.std.specs.Prelude.{pos}
+use Rattle.sbx_flat.specs.Runs.{FlatSafe}
+use Rattle.sbx_rules.specs.Examples.{adding, echo}
+
+pub record ExamplesAreSafe : Type 0 where
+  pub a_loop : FlatSafe echo
+  pub a_call : FlatSafe (adding (pos 254) (pos 255) 39)
