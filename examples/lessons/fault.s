@@ -1,5 +1,5 @@
 ! An access that the page tables forbid: a store into the program's own code.
-! For `trace` alone: today's verifier knows no stores.
+! For `trace` alone: the verifier refuses it.
 
 .services exit
 .function main,leaf,0,0,20

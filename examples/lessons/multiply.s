@@ -1,5 +1,5 @@
 ! 13 times 11 by MULScc: 32 steps, and one that shifts alone.
-! For `trace` alone: today's verifier knows neither MULScc nor Y.
+! For `trace` alone: it has no fuel, and the verifier refuses it.
 
 .services exit
 .function main,leaf,0,0,60

@@ -1,5 +1,5 @@
 ! Window overflow and underflow. A frame after the other is entered, more than a machine of 8 windows holds, and left again.
-! For `trace` alone: today's verifier knows no windows.
+! For `trace` alone: its SAVEs stand in one function, and the verifier refuses it.
 
 .services exit
 .function main,framed,96,4032,1000
