@@ -45,7 +45,7 @@ pub fn image_in(alloc: Global, fields: &[&str]) -> Result<Option<Told>, AllocErr
 /// The text of a verdict as the verifier shows it; none where there is none.
 fn text_of(alloc: Global, told: &Told) -> Result<Option<String>, AllocError> {
     match told {
-        Told::Accepted(_) => Ok(Some(format!(in alloc; "accepted")?)),
+        Told::Accepted(_) => Ok(Some("accepted".to_string(alloc)?)),
         Told::Refused(refusal) => Ok(Some(format!(in alloc; "{refusal}")?)),
         Told::NoImage(_) => Ok(None),
     }

@@ -98,10 +98,13 @@ impl Comparison {
 
     fn line(&mut self, alloc: Global, line: &str) -> Result<Answer, AllocError> {
         let fields = pieces(alloc, line)?;
-        match fields.first() {
-            Some(&"image") => self.image_line(alloc, &fields),
-            Some(&"run") => self.run_line(alloc, &fields),
-            Some(_) | None => Ok(Answer::NotRead),
+        let Some(kind) = fields.first() else {
+            return Ok(Answer::NotRead);
+        };
+        match *kind {
+            "image" => self.image_line(alloc, &fields),
+            "run" => self.run_line(alloc, &fields),
+            _ => Ok(Answer::NotRead),
         }
     }
 }
