@@ -128,8 +128,18 @@ fn a_loop_is_checked(rt: HostRuntime) -> Result<(), AllocError> {
     let byte = range(0, 255);
     let blocks = vec![in alloc;
         bare(alloc, 0x0004_0000, 16_030),
-        block(0x0004_0008, 4, vec![in alloc; cell(16, turns)]?, vec![in alloc; term(16, 16)]?),
-        block(0x0004_0018, -4, vec![in alloc; cell(8, byte), cell(16, turns)]?, vec![in alloc; term(16, 16)]?),
+        block(
+            0x0004_0008,
+            4,
+            vec![in alloc; cell(16, turns)]?,
+            vec![in alloc; term(16, 16)]?
+        ),
+        block(
+            0x0004_0018,
+            -4,
+            vec![in alloc; cell(8, byte), cell(16, turns)]?,
+            vec![in alloc; term(16, 16)]?
+        ),
         bare(alloc, 0x0004_0028, 4),
     ]?;
     let words = Vec::from_array(alloc, ECHO)?;
@@ -138,20 +148,33 @@ fn a_loop_is_checked(rt: HostRuntime) -> Result<(), AllocError> {
     Ok(())
 }
 
-/// A function that passes 32 to a leaf, which asks for at most `param`, adds 1 and promises at most `result`.
-fn adding(alloc: Global, param: i32, result: i32, budget: u32) -> Result<Option<Refusal>, AllocError> {
+/// A function that passes 32 to a leaf, which asks for at most `param`, adds 1 and promises at most `promised`.
+fn adding(
+    alloc: Global,
+    param: i32,
+    promised: i32,
+    budget: u32,
+) -> Result<Option<Refusal>, AllocError> {
     let leaf = Function {
         kind: Kind::Leaf,
         params: Items::new(vec![in alloc; range(0, param)]?),
-        results: Items::new(vec![in alloc; range(1, result)]?),
+        results: Items::new(vec![in alloc; range(1, promised)]?),
         entry: 0x0004_001C,
         frame: 0,
         stack_room: 0,
         budget: 2,
         blocks: Items::new(vec![in alloc; bare(alloc, 0x0004_001C, 2)]?),
     };
-    let first = framed(alloc, u64::from(budget), vec![in alloc; bare(alloc, 0x0004_0000, i64::from(budget))]?);
-    told(alloc, Vec::from_array(alloc, ADDING)?, vec![in alloc; first, leaf]?)
+    let first = framed(
+        alloc,
+        u64::from(budget),
+        vec![in alloc; bare(alloc, 0x0004_0000, i64::from(budget))]?,
+    );
+    told(
+        alloc,
+        Vec::from_array(alloc, ADDING)?,
+        vec![in alloc; first, leaf]?,
+    )
 }
 
 #[test]
@@ -164,7 +187,8 @@ fn calls_are_checked(rt: HostRuntime) -> Result<(), AllocError> {
     Ok(())
 }
 
-/// Two blocks, the second with a cell of each local in a range, and the greatest coefficients of both signs.
+/// Two blocks, the second with a cell of each local in a range, and the greatest coefficients of both signs. A SAVE weighs 25, an
+/// exit 3.
 fn locals(alloc: Global, numbers: Range, fuel: i64) -> Result<Option<Refusal>, AllocError> {
     let mut cells = Vec::new(alloc);
     let mut terms = Vec::new(alloc);
@@ -172,15 +196,24 @@ fn locals(alloc: Global, numbers: Range, fuel: i64) -> Result<Option<Refusal>, A
         cells.push(cell(location, numbers))?;
         terms.push(term(location, if location < 20 { i32::MAX } else { i32::MIN }))?;
     }
-    let blocks = vec![in alloc; bare(alloc, 0x0004_0000, fuel), block(0x0004_0024, 4, cells, terms)]?;
-    told(alloc, Vec::from_array(alloc, LOCALS)?, vec![in alloc; framed(alloc, 13, blocks)]?)
+    let blocks = vec![in alloc;
+        bare(alloc, 0x0004_0000, fuel),
+        block(0x0004_0024, 4, cells, terms),
+    ]?;
+    told(
+        alloc,
+        Vec::from_array(alloc, LOCALS)?,
+        vec![in alloc; framed(alloc, 37, blocks)]?,
+    )
 }
 
 #[test]
 fn greatest_sizes_are_checked(rt: HostRuntime) -> Result<(), AllocError> {
     let alloc = rt.alloc();
-    assert!(rt; locals(alloc, range(0, 0), 13)?.is_none());
-    assert!(rt; locals(alloc, range(0, 0), 12)? == refusal(0, 0x0004_0020, Cause::OutOfFuel));
-    assert!(rt; locals(alloc, range(i32::MIN, i32::MAX), 13)? == refusal(0, 0x0004_0028, Cause::OutOfFuel));
+    assert!(rt; locals(alloc, range(0, 0), 37)?.is_none());
+    assert!(rt; locals(alloc, range(0, 0), 36)? == refusal(0, 0x0004_0020, Cause::OutOfFuel));
+    assert!(rt;
+        locals(alloc, range(i32::MIN, i32::MAX), 37)? == refusal(0, 0x0004_0028, Cause::OutOfFuel)
+    );
     Ok(())
 }
