@@ -65,7 +65,7 @@ module _ (parts : Parts) (keeps : parts_keep parts ≡ Ok tt) where
   -- ---- what is met first
 
   module _ (f : ℕ) (in_functions : f < length parts.functions) (refusal : Refusal) (found : IsFirstOfFunction parts f refusal)
-           (quiet : (g : ℕ) → g < f → IsQuietFunction parts g) where
+      (quiet : (g : ℕ) → g < f → IsQuietFunction parts g) where
     b : ℕ
     b = found.block
 

@@ -128,8 +128,18 @@ fn a_loop_is_checked(rt: HostRuntime) -> Result<(), AllocError> {
     let byte = range(0, 255);
     let blocks = vec![in alloc;
         bare(alloc, 0x0004_0000, 16_030),
-        block(0x0004_0008, 4, vec![in alloc; cell(16, turns)]?, vec![in alloc; term(16, 16)]?),
-        block(0x0004_0018, -4, vec![in alloc; cell(8, byte), cell(16, turns)]?, vec![in alloc; term(16, 16)]?),
+        block(
+            0x0004_0008,
+            4,
+            vec![in alloc; cell(16, turns)]?,
+            vec![in alloc; term(16, 16)]?
+        ),
+        block(
+            0x0004_0018,
+            -4,
+            vec![in alloc; cell(8, byte), cell(16, turns)]?,
+            vec![in alloc; term(16, 16)]?
+        ),
         bare(alloc, 0x0004_0028, 4),
     ]?;
     let words = Vec::from_array(alloc, ECHO)?;
@@ -139,7 +149,12 @@ fn a_loop_is_checked(rt: HostRuntime) -> Result<(), AllocError> {
 }
 
 /// A function that passes 32 to a leaf, which asks for at most `param`, adds 1 and promises at most `result`.
-fn adding(alloc: Global, param: i32, result: i32, budget: u32) -> Result<Option<Refusal>, AllocError> {
+fn adding(
+    alloc: Global,
+    param: i32,
+    result: i32,
+    budget: u32,
+) -> Result<Option<Refusal>, AllocError> {
     let leaf = Function {
         kind: Kind::Leaf,
         params: Items::new(vec![in alloc; range(0, param)]?),
@@ -150,8 +165,16 @@ fn adding(alloc: Global, param: i32, result: i32, budget: u32) -> Result<Option<
         budget: 2,
         blocks: Items::new(vec![in alloc; bare(alloc, 0x0004_001C, 2)]?),
     };
-    let first = framed(alloc, u64::from(budget), vec![in alloc; bare(alloc, 0x0004_0000, i64::from(budget))]?);
-    told(alloc, Vec::from_array(alloc, ADDING)?, vec![in alloc; first, leaf]?)
+    let first = framed(
+        alloc,
+        u64::from(budget),
+        vec![in alloc; bare(alloc, 0x0004_0000, i64::from(budget))]?,
+    );
+    told(
+        alloc,
+        Vec::from_array(alloc, ADDING)?,
+        vec![in alloc; first, leaf]?,
+    )
 }
 
 #[test]
@@ -172,8 +195,15 @@ fn locals(alloc: Global, numbers: Range, fuel: i64) -> Result<Option<Refusal>, A
         cells.push(cell(location, numbers))?;
         terms.push(term(location, if location < 20 { i32::MAX } else { i32::MIN }))?;
     }
-    let blocks = vec![in alloc; bare(alloc, 0x0004_0000, fuel), block(0x0004_0024, 4, cells, terms)]?;
-    told(alloc, Vec::from_array(alloc, LOCALS)?, vec![in alloc; framed(alloc, 13, blocks)]?)
+    let blocks = vec![in alloc;
+        bare(alloc, 0x0004_0000, fuel),
+        block(0x0004_0024, 4, cells, terms),
+    ]?;
+    told(
+        alloc,
+        Vec::from_array(alloc, LOCALS)?,
+        vec![in alloc; framed(alloc, 13, blocks)]?,
+    )
 }
 
 #[test]
@@ -181,6 +211,8 @@ fn greatest_sizes_are_checked(rt: HostRuntime) -> Result<(), AllocError> {
     let alloc = rt.alloc();
     assert!(rt; locals(alloc, range(0, 0), 13)?.is_none());
     assert!(rt; locals(alloc, range(0, 0), 12)? == refusal(0, 0x0004_0020, Cause::OutOfFuel));
-    assert!(rt; locals(alloc, range(i32::MIN, i32::MAX), 13)? == refusal(0, 0x0004_0028, Cause::OutOfFuel));
+    assert!(rt;
+        locals(alloc, range(i32::MIN, i32::MAX), 13)? == refusal(0, 0x0004_0028, Cause::OutOfFuel)
+    );
     Ok(())
 }
