@@ -148,17 +148,17 @@ fn a_loop_is_checked(rt: HostRuntime) -> Result<(), AllocError> {
     Ok(())
 }
 
-/// A function that passes 32 to a leaf, which asks for at most `param`, adds 1 and promises at most `result`.
+/// A function that passes 32 to a leaf, which asks for at most `param`, adds 1 and promises at most `promised`.
 fn adding(
     alloc: Global,
     param: i32,
-    result: i32,
+    promised: i32,
     budget: u32,
 ) -> Result<Option<Refusal>, AllocError> {
     let leaf = Function {
         kind: Kind::Leaf,
         params: Items::new(vec![in alloc; range(0, param)]?),
-        results: Items::new(vec![in alloc; range(1, result)]?),
+        results: Items::new(vec![in alloc; range(1, promised)]?),
         entry: 0x0004_001C,
         frame: 0,
         stack_room: 0,
@@ -187,7 +187,8 @@ fn calls_are_checked(rt: HostRuntime) -> Result<(), AllocError> {
     Ok(())
 }
 
-/// Two blocks, the second with a cell of each local in a range, and the greatest coefficients of both signs.
+/// Two blocks, the second with a cell of each local in a range, and the greatest coefficients of both signs. A SAVE weighs 25, an
+/// exit 3.
 fn locals(alloc: Global, numbers: Range, fuel: i64) -> Result<Option<Refusal>, AllocError> {
     let mut cells = Vec::new(alloc);
     let mut terms = Vec::new(alloc);
@@ -202,17 +203,17 @@ fn locals(alloc: Global, numbers: Range, fuel: i64) -> Result<Option<Refusal>, A
     told(
         alloc,
         Vec::from_array(alloc, LOCALS)?,
-        vec![in alloc; framed(alloc, 13, blocks)]?,
+        vec![in alloc; framed(alloc, 37, blocks)]?,
     )
 }
 
 #[test]
 fn greatest_sizes_are_checked(rt: HostRuntime) -> Result<(), AllocError> {
     let alloc = rt.alloc();
-    assert!(rt; locals(alloc, range(0, 0), 13)?.is_none());
-    assert!(rt; locals(alloc, range(0, 0), 12)? == refusal(0, 0x0004_0020, Cause::OutOfFuel));
+    assert!(rt; locals(alloc, range(0, 0), 37)?.is_none());
+    assert!(rt; locals(alloc, range(0, 0), 36)? == refusal(0, 0x0004_0020, Cause::OutOfFuel));
     assert!(rt;
-        locals(alloc, range(i32::MIN, i32::MAX), 13)? == refusal(0, 0x0004_0028, Cause::OutOfFuel)
+        locals(alloc, range(i32::MIN, i32::MAX), 37)? == refusal(0, 0x0004_0028, Cause::OutOfFuel)
     );
     Ok(())
 }

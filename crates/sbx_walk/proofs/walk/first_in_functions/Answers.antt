@@ -1,4 +1,4 @@
-use Rattle.std.proofs.Common.{◌≡◌, ℕ, ◌<◌, length, arith, below_more}
+use Rattle.std.proofs.Common.{ℕ, arith, below_more}
 use Rattle.sbx_walk.specs.Walks.{IsQuietFunction}
 use Rattle.sbx_walk.proofs.InOrder.{is_checked, is_first}
 use Rattle.sbx_walk.proofs.walk.first_in_functions.Goals as goal
