@@ -1,5 +1,5 @@
 -- A job that is refused did not deserve to be done.
-use Rattle.std.proofs.Common.{◌≡◌, subst, ℕ, List, Option, None, Some, IfSome, Ok, Err, ◌∙◌, rules}
+use Rattle.std.proofs.Common.{◌≡◌, subst, sym, ℕ, List, Option, None, Some, IfSome, Ok, Err, ◌∙◌, rules}
 use Rattle.std.specs.Io.KnownBytes.{Appends, Keeps}
 use Rattle.sbx_image.specs.declared.fault.ImageFault.{ImageFault}
 use Rattle.sbx_image.specs.declared.parts.Parts.{Parts}
@@ -28,6 +28,12 @@ fault_is_not_checked parts other bytes refusal read least same checked =
     let equal : parts ≡ other = search rules in
     let kept : Checked parts = rw equal checked in
     kept refusal.function refusal.address refusal.cause least.told
+
+-- what is accepted of known bytes
+pub accepted_of : (known : Option (List ℕ)) (image accepted : Parts) → IfSome known (λ bytes. reading bytes ≡ Ok image) → (accepted ≡ image) × Checked image
+    → IfSome known (λ bytes. (reading bytes ≡ Ok accepted) × Checked accepted)
+accepted_of None image accepted read verdict = tt
+accepted_of (Some bytes) image accepted read verdict = (subst (λ (p : Parts). reading bytes ≡ Ok p) (sym verdict.0) read, subst Checked (sym verdict.0) verdict.1)
 
 pub image_stop : (stop : Stop) (bytes : List ℕ) → IsRefusal stop → IsTrueOfImage stop bytes → IsImage bytes → ⊥
 image_stop (Source fault) bytes refuses told image = told
