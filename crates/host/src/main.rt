@@ -28,15 +28,15 @@ const NAMES: [(Services, &str); 3] = [
 ];
 
 /// Tells what an image asks for.
-fn show<E: Write>(image: &Image, err: &mut E) -> io::Result<()> {
-    write!(err, "services:")?;
+fn show(rt: &HostRuntime, image: &Image) -> io::Result<()> {
+    write!(rt.stderr(), "services:")?;
     for (service, name) in NAMES {
         if image.services().contains(service) {
-            write!(err, " {name}")?;
+            write!(rt.stderr(), " {name}")?;
         }
     }
     writeln!(
-        err,
+        rt.stderr(),
         "; turns: {}; stack pages: {}",
         budget(image),
         image.stack_pages()
@@ -76,7 +76,7 @@ fn hand_on(rt: &HostRuntime, finished: &Finished) -> io::Result<u8> {
 
 /// Runs an admitted image on standard input.
 fn run(rt: &HostRuntime, accepted: &Accepted) -> io::Result<u8> {
-    show(accepted.image(), &mut rt.stderr())?;
+    show(rt, accepted.image())?;
     let input = input_of(rt)?;
     match run_accepted::<8>(rt.alloc(), accepted, input.as_slice()) {
         Ok(finished) => hand_on(rt, &finished),
@@ -103,13 +103,12 @@ fn path_of(rt: &HostRuntime) -> io::Result<Option<String>> {
 fn main(rt: HostRuntime) -> ExitCode {
     let status = match path_of(&rt) {
         Ok(Some(path)) => host(&rt, path.as_str()),
-        Ok(None) => tell(&rt, "host: its argument is an image's path", 3),
-        Err(error) => Err(error),
+        Ok(None) | Err(_) => tell(&rt, "host: its argument is an image's path", 3),
     };
     match status {
         Ok(status) => ExitCode::from(status),
-        Err(error) => {
-            let _ = writeln!(rt.stderr(), "host: {error}");
+        Err(_error) => {
+            let _ = tell(&rt, "host: a file or a stream failed", 4);
             ExitCode::from(4)
         }
     }
