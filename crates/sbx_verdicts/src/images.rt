@@ -61,7 +61,7 @@ fn refusal(alloc: Global, rule: &str, function: &str, address: &str) -> Result<S
 
 /// Whether the text that is told is the wanted one. Bytes that are no image have none, and agree with no verdict.
 fn agrees(told: Option<&str>, wanted: &str) -> bool
-    ensures { IsTrue result ↔ AgreesWith told wanted.now }
+    ensures { IsTrue result ↔ AgreesWith told.entry wanted.now }
 {
     match told {
         Some(text) => text == wanted,

@@ -70,12 +70,10 @@ struct Comparison {
 
 impl Comparison {
     fn image_line(&mut self, alloc: Global, fields: &[&str]) -> Result<Answer, AllocError> {
-        let (told, agrees) = match image_in(alloc, fields)? {
-            Some(told) => {
-                let agrees = compared(alloc, &told, fields)?;
-                (Some(told), agrees)
-            }
-            None => (None, None),
+        let told = image_in(alloc, fields)?;
+        let agrees = match &told {
+            Some(told) => compared(alloc, told, fields)?,
+            None => None,
         };
         self.accepted = match told {
             Some(Told::Accepted(accepted)) => Some(accepted),
@@ -87,9 +85,12 @@ impl Comparison {
     }
 
     fn run_line(&mut self, alloc: Global, fields: &[&str]) -> Result<Answer, AllocError> {
-        let agrees = match (&self.accepted, run_in(alloc, fields)?) {
-            (Some(accepted), Some(run)) => runs_so(alloc, accepted, &run),
-            (None, _) | (_, None) => None,
+        let agrees = match run_in(alloc, fields)? {
+            Some(run) => match &self.accepted {
+                Some(accepted) => runs_so(alloc, accepted, &run),
+                None => None,
+            },
+            None => None,
         };
         let answer = Answer::of(agrees);
         self.runs = self.runs.and(answer);
@@ -126,7 +127,8 @@ fn main(rt: HostRuntime) -> io::Result<()> {
             Answer::NotRead => println!(rt; "not read: {line}")?,
         }
     }
-    let Comparison { images, runs, .. } = comparison;
+    let images = comparison.images;
+    let runs = comparison.runs;
     println!(rt;
         "{} of {} images and {} of {} runs agree",
         images.agree, images.lines, runs.agree, runs.lines

@@ -71,16 +71,19 @@ pub fn run_in(alloc: Global, fields: &[&str]) -> Result<Option<Run>, AllocError>
     let (Some(windows), Some(status), Some(counts)) = numbers else {
         return Ok(None);
     };
-    match (read(alloc, input)?, read(alloc, output)?) {
-        (Some(input), Some(output)) => Ok(Some(Run {
-            windows,
-            input,
-            status,
-            output,
-            counts,
-        })),
-        (_, _) => Ok(None),
-    }
+    let Some(input) = read(alloc, input)? else {
+        return Ok(None);
+    };
+    let Some(output) = read(alloc, output)? else {
+        return Ok(None);
+    };
+    Ok(Some(Run {
+        windows,
+        input,
+        status,
+        output,
+        counts,
+    }))
 }
 
 /// The counts of a run that has ended.
