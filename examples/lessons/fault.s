@@ -1,5 +1,5 @@
 ! An access that the page tables forbid: a store into the program's own code.
-! For `trace` alone: the verifier refuses it.
+! For `trace` alone: `verify` refuses it by V9 at 00040008, since the store's address lies in no data byte of the image.
 
 .services exit
 .function main,leaf,0,0,20

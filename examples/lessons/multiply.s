@@ -1,5 +1,5 @@
 ! 13 times 11 by MULScc: 32 steps, and one that shifts alone.
-! For `trace` alone: it has no fuel, and the verifier refuses it.
+! It declares no fuel, so it is for `trace`: `verify` refuses it by V14 at 00040094, its last word. Behind `.fuel 40` it is accepted.
 
 .services exit
 .function main,leaf,0,0,60

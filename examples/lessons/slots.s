@@ -1,5 +1,5 @@
 ! Delay slots and annulment. Each slot sets a bit of its own, so that the exit word tells which slots ran.
-! For `trace` alone: its branches go to labels where no block begins, and the verifier refuses it.
+! For `trace` alone: `verify` refuses it by V4 at 00040004, since the branch goes to a label and not to a block.
 
 .services exit
 .function main,leaf,0,0,40

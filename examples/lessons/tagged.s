@@ -1,5 +1,5 @@
 ! Tagged arithmetic: words whose two low bits are a tag, as a Lisp machine has them. A number has the tag 0, so it stands times 4.
-! For `trace` alone: its branch goes to a label where no block begins, and the verifier refuses it.
+! For `trace` alone: `verify` refuses it by V4 at 00040014, since the branch goes to no block; and the last addition may trap (V11).
 
 .services exit
 .function main,leaf,0,0,40

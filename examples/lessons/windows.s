@@ -1,5 +1,5 @@
 ! Window overflow and underflow. A frame after the other is entered, more than a machine of 8 windows holds, and left again.
-! For `trace` alone: its SAVEs stand in one function, and the verifier refuses it.
+! For `trace` alone: `verify` refuses it by V3 at 00040000. A function has one SAVE, its first word, and RESTORE in the slot of `ret`.
 
 .services exit
 .function main,framed,96,4032,1000

@@ -4,7 +4,7 @@ use Rattle.std.specs.Int.RustNames.{bit_and}
 use Rattle.sbx_image.specs.declared.parts.Parts.{Parts}
 use Rattle.sbx_image.specs.Reading.{reading}
 use Rattle.sbx_flat.specs.Runs.{FlatSafe, budget}
-use Rattle.sbx_verify.specs.Rules.{IsLeastFault}
+use Rattle.sbx_rules.specs.Verdicts.{IsFirst}
 use Rattle.host.specs.declared.policy.Policy.{Policy}
 use Rattle.host.specs.declared.policy.Denial.{Denial}
 use Rattle.host.specs.declared.policy.Denial.TheVariants.{Image, Refused, Services, Turns, Memory}
@@ -21,7 +21,7 @@ IsAdmitted policy bytes parts = (reading bytes ≡ Ok parts) × FlatSafe parts �
 -- What a denial tells is so of the bytes; of memory nothing is told.
 abbrev pub Explains : Policy → List ℕ → Denial → Type 0
 Explains policy bytes (Image fault) = reading bytes ≡ Err fault
-Explains policy bytes (Refused refusal) = (parts : Parts) × (reading bytes ≡ Ok parts) × IsLeastFault parts refusal
+Explains policy bytes (Refused refusal) = (parts : Parts) × (reading bytes ≡ Ok parts) × IsFirst parts refusal
 Explains policy bytes (Services asked) = (parts : Parts) × (reading bytes ≡ Ok parts) × (asked ≡ parts.services)
     × (grants_services policy parts ≡ false)
 Explains policy bytes (Turns asked) = (parts : Parts) × (reading bytes ≡ Ok parts) × (asked ≡ budget parts) × (policy.turns < asked)

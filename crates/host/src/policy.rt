@@ -4,7 +4,7 @@ ghost use Rattle.host.specs.Policies.{Explains, IsAdmitted};
 
 use bitflags::Flags;
 use sbx_image::{ImageFault, Services, parse};
-use sbx_run::{Accepted, Refusal, budget, verify};
+use sbx_run::{Accepted, Cause, Refusal, budget, verify};
 use std::alloc::Global;
 use std::fmt::{self, Display, Formatter, Write};
 
@@ -54,6 +54,7 @@ pub fn admit(alloc: Global, policy: Policy, bytes: &[u8]) -> Result<Accepted, De
     };
     let accepted = match verify(alloc, image) {
         Ok(accepted) => accepted,
+        Err((_image, refusal)) if refusal.cause == Cause::NoMemory => return Err(Denial::Memory),
         Err((_image, refusal)) => return Err(Denial::Refused(refusal)),
     };
     let services = accepted.image().services();

@@ -4,7 +4,7 @@ use Rattle.std.specs.Io.KnownBytes.{Appends, Keeps}
 use Rattle.sbx_image.specs.declared.fault.ImageFault.{ImageFault}
 use Rattle.sbx_image.specs.declared.parts.Parts.{Parts}
 use Rattle.sbx_image.specs.Reading.{reading}
-use Rattle.sbx_verify.specs.Rules.{Checked, IsLeastFault}
+use Rattle.sbx_rules.specs.Verdicts.{Checked, IsFirst}
 use Rattle.sbx_command.specs.declared.jobs.Job.{Job}
 use Rattle.sbx_command.specs.declared.jobs.Job.TheVariants.{Asm, Verify, Run, List as Listing, Trace}
 use Rattle.sbx_command.specs.declared.stops.Stop.{Stop}
@@ -23,11 +23,11 @@ faulty_is_no_image bytes fault faulty image =
     search rules
 
 pub fault_is_not_checked : (parts other : Parts) (bytes : List ℕ) (refusal : _) → reading bytes ≡ Ok parts
-    → IsLeastFault parts refusal → reading bytes ≡ Ok other → Checked other → ⊥
+    → IsFirst parts refusal → reading bytes ≡ Ok other → Checked other → ⊥
 fault_is_not_checked parts other bytes refusal read least same checked =
     let equal : parts ≡ other = search rules in
     let kept : Checked parts = rw equal checked in
-    kept least.place refusal.cause (least.within, least.first.breaks)
+    kept refusal.function refusal.address refusal.cause least.told
 
 pub image_stop : (stop : Stop) (bytes : List ℕ) → IsRefusal stop → IsTrueOfImage stop bytes → IsImage bytes → ⊥
 image_stop (Source fault) bytes refuses told image = told

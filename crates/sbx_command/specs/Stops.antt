@@ -2,7 +2,7 @@
 use Rattle.std.specs.Prelude.{◌≡◌, ℕ, List, ◌++◌, codes, Ok, Err}
 use Rattle.sbx_image.specs.Faults as images
 use Rattle.sbx_asm.specs.Faults as sources
-use Rattle.sbx_verify.specs.Faults as rules
+use Rattle.sbx_rules.specs.Causes as rules
 use Rattle.sbx_image.specs.declared.fault.ImageFault.{ImageFault}
 use Rattle.sbx_image.specs.declared.fault.ImageFault.TheVariants as fault
 use Rattle.sbx_image.specs.Reading.{reading}
@@ -12,7 +12,7 @@ use Rattle.sbx_asm.specs.declared.fault.AsmFault.{AsmFault}
 use Rattle.sbx_asm.specs.Meaning.{source_image}
 use Rattle.sbx_run.specs.RunFault.{RunFault}
 use Rattle.sbx_run.specs.RunFault.TheVariants as runs
-use Rattle.sbx_verify.specs.Rules.{IsLeastFault}
+use Rattle.sbx_rules.specs.Verdicts.{IsFirst}
 use Rattle.sbx_image.specs.declared.parts.Parts.{Parts}
 use Rattle.sbx_command.specs.declared.stops.Stop.{Stop}
 use Rattle.sbx_command.specs.declared.stops.Stop.TheVariants.{Source, Image, Refused, File, Input, Output, Memory}
@@ -84,7 +84,7 @@ IsTrueOfSource Memory bytes = Unit {0}
 abbrev pub IsTrueOf : Stop → List ℕ → Type 0
 IsTrueOf (Source fault) bytes = ⊥
 IsTrueOf (Image fault) bytes = reading bytes ≡ Err fault
-IsTrueOf (Refused refusal) bytes = (parts : Parts) × (reading bytes ≡ Ok parts) × IsLeastFault parts refusal
+IsTrueOf (Refused refusal) bytes = (parts : Parts) × (reading bytes ≡ Ok parts) × IsFirst parts refusal
 IsTrueOf File bytes = Unit {0}
 IsTrueOf Input bytes = Unit {0}
 IsTrueOf Output bytes = Unit {0}

@@ -9,7 +9,7 @@ use Rattle.sbx_image.specs.declared.parts.Parts.{Parts}
 use Rattle.sbx_image.specs.Reading.{reading}
 use Rattle.sbx_image.specs.Spelling.{spelling}
 use Rattle.sbx_asm.specs.Meaning.{source_image}
-use Rattle.sbx_verify.specs.Rules.{Checked}
+use Rattle.sbx_rules.specs.Verdicts.{Checked}
 use Rattle.sbx_command.specs.declared.jobs.Job.{Job}
 use Rattle.sbx_command.specs.declared.jobs.Job.TheVariants.{Asm, Verify, Run, List as Listing, Trace}
 use Rattle.sbx_command.specs.declared.stops.Stop.{Stop}

@@ -2,7 +2,7 @@
 ghost use Rattle.std.specs.Prelude.{◌≡◌, IfErr, IfOk, IfSome, Ok, OnOk};
 ghost use Rattle.std.specs.Io.KnownBytes.{Appends};
 ghost use Rattle.sbx_image.specs.Reading.{reading};
-ghost use Rattle.sbx_verify.specs.Rules.{Checked};
+ghost use Rattle.sbx_rules.specs.Verdicts.{Checked};
 ghost use Rattle.sbx_command.specs.Stops.{IsRefusal, IsTrueOf};
 ghost use Rattle.sbx_command.specs.Verdicts.{IsAccepted};
 
@@ -12,7 +12,8 @@ use sbx_verify::{Accepted, Cause, verify};
 use std::alloc::Global;
 use std::io::{Read, Write};
 
-/// The image of a file, where it keeps every rule.
+/// The image of a file, where it breaks no rule.
+#[tactic(auto, using(sbx_verify::proofs::Refusals::broken_rule))]
 pub fn accepted_in<F: Read>(alloc: Global, file: &mut F) -> Result<Accepted, Stop>
     ensures accepted { IfOk result (λ accepted. IfSome (F.remaining file.old)
         (λ bytes. (reading bytes ≡ Ok accepted) × Checked accepted)) }
@@ -21,7 +22,7 @@ pub fn accepted_in<F: Read>(alloc: Global, file: &mut F) -> Result<Accepted, Sto
     let image = image_in(alloc, file)?;
     match verify(alloc, image) {
         Ok(accepted) => Ok(accepted),
-        Err((_image, refusal)) if refusal.cause == Cause::V19 => Err(Stop::Memory),
+        Err((_image, refusal)) if refusal.cause == Cause::NoMemory => Err(Stop::Memory),
         Err((_image, refusal)) => Err(Stop::Refused(refusal)),
     }
 }

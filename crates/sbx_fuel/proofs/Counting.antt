@@ -1,11 +1,10 @@
 -- What loops over cells and terms come by, an item at a time.
-use Rattle.std.proofs.Common.{◌≡◌, ℕ, zero, suc, ◌+◌, ◌*◌, ◌^◌, ◌<◌, ◌≤◌, Bool, true, false, List, [], ◌∷◌, ◌++◌, get_or, drop, take, map, length, Some, None, refl, sym, ap, ◌∙◌, append_assoc, append-nil, arith, add-one, add-zero}
-use Rattle.std.specs.Prelude.{◌==◌, ◌||◌, nat_lt, if◌then◌else◌, Option, ℤ, pos, negsuc, neg_ℤ, ◌*ℤ◌, slice_get, unsigned_abs}
-use Rattle.std.specs.List.{list_any}
+use Rattle.std.proofs.Common.{◌≡◌, ℕ, zero, suc, ◌+◌, ◌*◌, ◌^◌, ◌<◌, ◌≤◌, Bool, true, false, List, [], ◌∷◌, ◌++◌, get_or, drop, take, map, length, Some, None, refl, sym, ap, ◌∙◌, append_assoc, append-nil, arith, add-one}
+use Rattle.std.specs.Prelude.{◌==◌, ◌||◌, if◌then◌else◌, Option, ℤ, pos, negsuc, neg_ℤ, ◌*ℤ◌, slice_get, unsigned_abs}
 use Rattle.std.specs.Option.{is_some}
 use Rattle.std.proofs.Math.Seq.{drop-cons}
 use Rattle.std.proofs.lemmas.List.{drop_all}
-use Rattle.std.proofs.lemmas.Int.{ints, unsigned_abs-mul}
+use Rattle.std.proofs.lemmas.Int.{unsigned_abs-mul}
 use Rattle.std.proofs.lemmas.Bool.Decides.{nat_tests}
 use Rattle.sbx_image.specs.declared.parts.Cell.{Cell}
 use Rattle.sbx_image.specs.declared.parts.Range.{Range}

@@ -1,10 +1,9 @@
 -- The least of what is left, as it is computed, decides the rule of fuel.
-use Rattle.std.proofs.Common.{◌≡◌, ℕ, zero, suc, ◌≤◌, Bool, true, false, List, [], ◌∷◌, map, Some, None, refl, ap, sym, ◌∙◌, subst, arith}
-use Rattle.std.specs.Prelude.{Option, if◌then◌else◌, nat_lt, ◌==◌, not, ℤ, pos, negsuc, neg_ℤ, ◌+ℤ◌, ◌-ℤ◌, ◌*ℤ◌, ◌≤ℤ◌, int_lt}
+use Rattle.std.proofs.Common.{◌≡◌, ℕ, zero, suc, true, List, [], ◌∷◌, map, Some, None, refl, ap, sym, ◌∙◌, arith}
+use Rattle.std.specs.Prelude.{Option, nat_lt, ◌==◌, not, ℤ, pos, negsuc, neg_ℤ, ◌+ℤ◌, ◌-ℤ◌, ◌*ℤ◌, ◌≤ℤ◌, int_lt}
 use Rattle.std.specs.Ordering.{int_eq}
 use Rattle.std.proofs.lemmas.Bool.Decides.{Decides-int_eq}
 use Rattle.std.proofs.lemmas.Int.{ints}
-use Rattle.sbx_image.specs.declared.parts.Range.{Range}
 use Rattle.sbx_form.specs.declared.terms.FormTerm.{FormTerm}
 use Rattle.sbx_form.specs.Forms.{AscendFrom, Cells, add_term, add_terms, keep, terms_value}
 use Rattle.sbx_form.proofs.Values.{by_test}
@@ -14,7 +13,7 @@ use Rattle.sbx_rules.specs.Fuel.{InCells, IsEnough, IsPaid, IsWithinBudget}
 use Rattle.sbx_fuel.specs.Margins.{AreSome, constant_left, less_constant, less_terms, open_terms, start_terms, with_open}
 use Rattle.sbx_fuel.specs.Least.{AreNonzero, both, is_natural_sum, least_in, least_over, negated, taken, taken_by}
 use Rattle.sbx_fuel.proofs.Products.{times_neg}
-use Rattle.sbx_fuel.proofs.Reached.{HasLeast, IsLeft, has_least, is_left}
+use Rattle.sbx_fuel.proofs.Reached.{IsLeft, has_least, is_left}
 use Rattle.sbx_fuel.proofs.Values.{left_is, open_ascends, start_ascends}
 
 -- ---- what is taken is the least of the open terms, with the constants of forms

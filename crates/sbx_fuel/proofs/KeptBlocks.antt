@@ -1,6 +1,6 @@
 -- What a block's annotations keep in an image: few terms, which ascend and aren't 0, and ranges that aren't empty.
 use Rattle.std.proofs.Common.{◌≡◌, ℕ, zero, suc, ◌+◌, ◌*◌, ◌<◌, ◌≤◌, Bool, true, false, List, [], ◌∷◌, length, get_or, Some, None, Ok, refl, ap, sym, ◌∙◌, subst, arith}
-use Rattle.std.specs.Prelude.{Option, if◌then◌else◌, not, ◌||◌, int_lt, ℤ, pos, ◌≤ℤ◌, slice_get, ◌==◌}
+use Rattle.std.specs.Prelude.{Option, if◌then◌else◌, int_lt, ℤ, pos, ◌≤ℤ◌, slice_get, ◌==◌}
 use Rattle.std.specs.List.{AllByRecursion}
 use Rattle.std.proofs.lemmas.Bool.{ltb-true}
 use Rattle.std.proofs.lemmas.Bool.Decides.{nat_tests}
@@ -13,7 +13,7 @@ use Rattle.sbx_image.specs.declared.parts.Range.{Range}
 use Rattle.sbx_image.specs.declared.parts.Term.{Term}
 use Rattle.sbx_image.specs.declared.order.Next.{Next}
 use Rattle.sbx_image.specs.declared.order.Next.TheVariants.{Exactly}
-use Rattle.sbx_image.specs.Rules.{Place, block_keeps, cell_keeps, code_start, each, function_keeps, in_order, is_coefficient, parts_keep, range_keeps, term_keeps, ◌>>=◌}
+use Rattle.sbx_image.specs.Rules.{Place, block_keeps, cell_keeps, code_start, each, function_keeps, in_order, is_coefficient, parts_keep, range_keeps, term_keeps}
 use Rattle.sbx_image.proofs.Fields.{bind_ok, is_between}
 use Rattle.sbx_image.proofs.Limits.{block_kept, cell_kept, each_all, function_kept, location_kept, parts_kept, range_kept, term_kept}
 use Rattle.sbx_form.specs.declared.terms.FormTerm.{FormTerm}
@@ -23,7 +23,7 @@ use Rattle.sbx_domain.specs.Forms.{Form}
 use Rattle.sbx_domain.specs.Known.{Known, cell_entry, entry_of_cell, is_location, range_at, range_of_entry, started}
 use Rattle.sbx_rules.specs.Places.{block_at, function_at, no_block, no_function, or_block, or_function}
 use Rattle.sbx_rules.specs.Fuel.{IsPaid}
-use Rattle.sbx_rules.specs.Ways.{cells_of, counted, form_term, fuel_at, names_cell, out_cells, state_at}
+use Rattle.sbx_rules.specs.Ways.{counted, form_term, fuel_at, names_cell, out_cells, state_at}
 use Rattle.sbx_fuel.specs.Blocks.{IsKeptBlock, first_of, fuel_of}
 use Rattle.sbx_fuel.specs.Margins.{AreSome}
 use Rattle.sbx_fuel.specs.Least.{AreNonzero, HasOnlyLocations, is_empty_range}

@@ -1,6 +1,6 @@
 -- Only locations are ever known, wherever control comes.
-use Rattle.std.proofs.Common.{◌≡◌, ℕ, zero, suc, ◌+◌, ◌-◌, ◌<◌, ◌≤◌, Bool, true, false, List, [], ◌∷◌, ◌++◌, Some, None, refl, ap, sym, ◌∙◌, subst, arith}
-use Rattle.std.specs.Prelude.{Option, if◌then◌else◌, ◌==◌, nat_lt, nat_le, slice_get}
+use Rattle.std.proofs.Common.{◌≡◌, ℕ, zero, suc, ◌+◌, ◌-◌, Bool, true, false, List, [], ◌∷◌, ◌++◌, Some, None, refl, ap, subst, arith}
+use Rattle.std.specs.Prelude.{Option, if◌then◌else◌, ◌==◌, slice_get}
 use Rattle.std.specs.List.{AllByRecursion}
 use Rattle.std.proofs.lemmas.Bool.Decides.{nat_tests, Decides-eqb}
 use Rattle.v8_word.specs.declared.Cond.{Cond}
@@ -11,7 +11,6 @@ use Rattle.v8_alu.specs.declared.Op.TheVariants as ops
 use Rattle.v8_formats.specs.declared.instr.Branch.{Branch}
 use Rattle.v8_meaning.specs.Operands.{is_always}
 use Rattle.v8_meaning.specs.Transfers.{odd_of}
-use Rattle.v8_meaning.specs.declared.operation.Exchange.TheVariants as exchanges
 use Rattle.v8_meaning.specs.declared.operation.Loading.{Loading}
 use Rattle.v8_meaning.specs.declared.operation.Loading.TheVariants as loadings
 use Rattle.v8_meaning.specs.declared.operation.Operation.{Operation}
@@ -32,12 +31,12 @@ use Rattle.sbx_domain.specs.declared.relation.Related.{Related}
 use Rattle.sbx_domain.specs.declared.relation.Related.TheVariants.{Location, Word}
 use Rattle.sbx_domain.specs.declared.relation.Relation.{Relation}
 use Rattle.sbx_domain.specs.declared.relation.Relation.TheVariants.{Compared, Signs}
-use Rattle.sbx_domain.specs.Known.{Known, cell_entry, is_location, plain_entry, plain_entry_of, range_at, started, with_entry, with_y}
+use Rattle.sbx_domain.specs.Known.{Known, cell_entry, is_location, plain_entry, plain_entry_of, range_at, started, with_entry}
 use Rattle.sbx_domain.specs.Refining.{in_both, is_same, narrowed_at, narrowed_related, range_of_related, refined, refined_by, refined_pair, refined_signs, with_narrowed, with_pair, with_range_of}
-use Rattle.sbx_domain.specs.Results.{constant_entry, entry_of_y, operand_entry, quotient_of, register_entry, result_of, tagged_of, written_y}
+use Rattle.sbx_domain.specs.Results.{constant_entry, entry_of_y, operand_entry, quotient_of, register_entry, result_of, tagged_of}
 use Rattle.sbx_domain.specs.Transfer.{called, division_sets_codes, exchanged_range, frame_word_of, is_global, is_in, is_kept_by_calls, is_out, loaded_entry, relation_of, restored, result_entry, saved, served, sets_codes, transferred, with_codes, with_loaded, with_moved, with_product_y, with_stored}
 use Rattle.sbx_rules.specs.Places.{callee_before, function_at, op_at}
-use Rattle.sbx_rules.specs.Ways.{Back, Visit, Way, after_call, after_visit, after_word, branch_way, cells_at, falls, plain_visit, state_at, taken_visit, untaken_visit, visit_if, visits_after, visits_at}
+use Rattle.sbx_rules.specs.Ways.{Visit, Way, after_call, after_visit, after_word, branch_way, cells_at, falls, state_at, taken_visit, untaken_visit, visit_if, visits_after, visits_at}
 use Rattle.sbx_fuel.specs.Least.{HasOnlyLocations}
 
 -- ---- writes

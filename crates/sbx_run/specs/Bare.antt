@@ -1,4 +1,4 @@
--- The images whose runs are followed on the board so far: code without windows, data and branches.
+-- The images of whose turns more is said than of others': code without windows, data and branches.
 use Rattle.std.specs.Prelude.{◌≡◌, ℕ, ◌<◌, ◌≤◌, Bool, true, false, length, slice_index}
 use Rattle.v8_alu.specs.declared.Op.{Op}
 use Rattle.v8_alu.specs.declared.Op.TheVariants.{Add, Or}

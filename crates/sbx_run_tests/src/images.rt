@@ -1,6 +1,6 @@
 //! Images in the bytes of their format.
 use sbx_image::{Image, parse};
-use std::alloc::Global;
+use std::alloc::{AllocError, Global};
 use std::test::Fail;
 
 /// What an image declares: of each function and of each block the same.
@@ -53,8 +53,16 @@ fn address_of(word: u32) -> u32 {
     0x0004_0000u32.wrapping_add(word.wrapping_mul(4))
 }
 
+/// Spells bytes, one piece after the other.
+fn spell_pieces(bytes: &mut Vec<u8>, pieces: &[&[u8]]) -> Result<(), AllocError> {
+    for piece in pieces {
+        bytes.extend_from_slice(*piece)?;
+    }
+    Ok(())
+}
+
 /// So many ranges of the word 0 alone.
-fn spell_ranges(bytes: &mut Vec<u8>, count: u8) -> Result<(), Fail> {
+fn spell_ranges(bytes: &mut Vec<u8>, count: u8) -> Result<(), AllocError> {
     for _ in 0..count {
         bytes.extend_from_slice(&ZERO)?;
     }
@@ -62,56 +70,79 @@ fn spell_ranges(bytes: &mut Vec<u8>, count: u8) -> Result<(), Fail> {
 }
 
 /// So many cells, of the registers from register 1 on, each of them 0.
-fn spell_cells(bytes: &mut Vec<u8>, count: u16) -> Result<(), Fail> {
+fn spell_cells(bytes: &mut Vec<u8>, count: u16) -> Result<(), AllocError> {
     for cell in 0..count {
-        bytes.extend_from_slice(&cell.wrapping_add(1).to_be_bytes())?;
-        bytes.extend_from_slice(&ZERO)?;
+        spell_pieces(bytes, &[&cell.wrapping_add(1).to_be_bytes(), &ZERO])?;
     }
     Ok(())
 }
 
 /// So many terms, each once a register, from register 1 on.
-fn spell_terms(bytes: &mut Vec<u8>, count: u16) -> Result<(), Fail> {
+fn spell_terms(bytes: &mut Vec<u8>, count: u16) -> Result<(), AllocError> {
     for term in 0..count {
-        bytes.extend_from_slice(&term.wrapping_add(1).to_be_bytes())?;
-        bytes.extend_from_slice(&1i32.to_be_bytes())?;
+        let register = term.wrapping_add(1).to_be_bytes();
+        spell_pieces(bytes, &[&register, &1i32.to_be_bytes()])?;
     }
     Ok(())
 }
 
 /// A block at the code's word of this number.
-fn spell_block(bytes: &mut Vec<u8>, shape: &Shape, word: u32) -> Result<(), Fail> {
-    bytes.extend_from_slice(&address_of(word).to_be_bytes())?;
-    bytes.extend_from_slice(&shape.cells.to_be_bytes())?;
-    bytes.extend_from_slice(&shape.terms.to_be_bytes())?;
-    bytes.extend_from_slice(&shape.fuel.to_be_bytes())?;
+fn spell_block(bytes: &mut Vec<u8>, shape: &Shape, word: u32) -> Result<(), AllocError> {
+    spell_pieces(
+        bytes,
+        &[
+            &address_of(word).to_be_bytes(),
+            &shape.cells.to_be_bytes(),
+            &shape.terms.to_be_bytes(),
+            &shape.fuel.to_be_bytes(),
+        ],
+    )?;
     spell_cells(bytes, shape.cells)?;
     spell_terms(bytes, shape.terms)
 }
 
-/// A function from the code's word of this number on, with a block at each word.
-fn spell_function(bytes: &mut Vec<u8>, shape: &Shape, word: u32) -> Result<(), Fail> {
-    bytes.extend_from_slice(&[shape.kind, shape.params, shape.results, 0])?;
-    bytes.extend_from_slice(&address_of(word).to_be_bytes())?;
-    bytes.extend_from_slice(&shape.frame.to_be_bytes())?;
-    bytes.extend_from_slice(&shape.room.to_be_bytes())?;
-    bytes.extend_from_slice(&shape.budget.to_be_bytes())?;
-    bytes.extend_from_slice(&shape.blocks.to_be_bytes())?;
+/// What a function that begins at the code's word of this number declares, but for its blocks.
+fn spell_head(bytes: &mut Vec<u8>, shape: &Shape, word: u32) -> Result<(), AllocError> {
+    spell_pieces(
+        bytes,
+        &[
+            &[shape.kind, shape.params, shape.results, 0],
+            &address_of(word).to_be_bytes(),
+            &shape.frame.to_be_bytes(),
+            &shape.room.to_be_bytes(),
+            &shape.budget.to_be_bytes(),
+            &shape.blocks.to_be_bytes(),
+        ],
+    )?;
     spell_ranges(bytes, shape.params)?;
-    spell_ranges(bytes, shape.results)?;
+    spell_ranges(bytes, shape.results)
+}
+
+/// A function from the code's word of this number on, with a block at each word.
+fn spell_function(bytes: &mut Vec<u8>, shape: &Shape, word: u32) -> Result<(), AllocError> {
+    spell_head(bytes, shape, word)?;
     for block in 0..shape.blocks {
         spell_block(bytes, shape, word.wrapping_add(u32::from(block)))?;
     }
     Ok(())
 }
 
-/// The header, with no data and one page of stack, and the code.
-fn spell_code(bytes: &mut Vec<u8>, shape: &Shape, words: &[u32]) -> Result<(), Fail> {
-    bytes.extend_from_slice(b"SBX8\x00\x01")?;
-    bytes.extend_from_slice(&shape.services.to_be_bytes())?;
-    bytes.extend_from_slice(&u32::try_from(words.len()).unwrap_or(u32::MAX).to_be_bytes())?;
-    bytes.extend_from_slice(&[0, 0, 0, 0, 0, 1])?;
-    bytes.extend_from_slice(&shape.functions.to_be_bytes())?;
+/// The header, with no data and one page of stack.
+fn spell_header(bytes: &mut Vec<u8>, shape: &Shape, count: u32) -> Result<(), AllocError> {
+    spell_pieces(
+        bytes,
+        &[
+            b"SBX8\x00\x01",
+            &shape.services.to_be_bytes(),
+            &count.to_be_bytes(),
+            &[0, 0, 0, 0, 0, 1],
+            &shape.functions.to_be_bytes(),
+        ],
+    )
+}
+
+/// The code.
+fn spell_code(bytes: &mut Vec<u8>, words: &[u32]) -> Result<(), AllocError> {
     for word in words {
         bytes.extend_from_slice(&word.to_be_bytes())?;
     }
@@ -119,8 +150,9 @@ fn spell_code(bytes: &mut Vec<u8>, shape: &Shape, words: &[u32]) -> Result<(), F
 }
 
 /// All of an image, by the format's table.
-fn spell(bytes: &mut Vec<u8>, shape: &Shape, words: &[u32]) -> Result<(), Fail> {
-    spell_code(bytes, shape, words)?;
+fn spell(bytes: &mut Vec<u8>, shape: &Shape, words: &[u32]) -> Result<(), AllocError> {
+    spell_header(bytes, shape, u32::try_from(words.len()).unwrap_or(u32::MAX))?;
+    spell_code(bytes, words)?;
     for function in 0..shape.functions {
         spell_function(bytes, shape, u32::from(function))?;
     }

@@ -108,20 +108,22 @@ fn runs_everywhere(alloc: Global, accepted: &Accepted, row: &Row<'_>) -> bool {
         && runs_by_number(alloc, 33, accepted, row).is_none()
 }
 
+/// Whether the row's image is accepted, runs so everywhere, and comes back.
+fn is_so(alloc: Global, row: &Row<'_>) -> Result<bool, Fail> {
+    match accepted_of(alloc, row.words)? {
+        Some(accepted) => Ok(
+            runs_everywhere(alloc, &accepted, row)
+                && budget(accepted.image()) == 100
+                && accepted.into_image().words() == row.words,
+        ),
+        None => Ok(false),
+    }
+}
+
 #[test]
 fn runs_accepted_images(rt: HostRuntime) -> Result<(), Fail> {
     for row in &ROWS {
-        let accepted = match accepted_of(rt.alloc(), row.words)? {
-            Some(accepted) => accepted,
-            None => panic!(rt; "refused"),
-        };
-        assert!(rt;
-            runs_everywhere(rt.alloc(), &accepted, row),
-            "{}",
-            row.turns
-        );
-        assert!(rt; budget(accepted.image()) == 100);
-        assert!(rt; accepted.into_image().words() == row.words);
+        assert!(rt; is_so(rt.alloc(), row)?, "{}", row.turns);
     }
     Ok(())
 }
@@ -167,13 +169,24 @@ fn share_a_board(
     )
 }
 
+/// Whether this image, `HELLO` and this image again share a board, with one byte of input.
+fn shares_with_hello(alloc: Global, copy: &Accepted) -> Result<bool, Fail> {
+    match accepted_of(alloc, &HELLO)? {
+        Some(hello) => share_a_board(alloc, copy, &hello, b"A", b"AHi\xff"),
+        None => Ok(false),
+    }
+}
+
+/// Whether `COPY` and `HELLO` share a board.
+fn copy_shares_with_hello(alloc: Global) -> Result<bool, Fail> {
+    match accepted_of(alloc, &COPY)? {
+        Some(copy) => shares_with_hello(alloc, &copy),
+        None => Ok(false),
+    }
+}
+
 #[test]
 fn runs_on_one_board(rt: HostRuntime) -> Result<(), Fail> {
-    let copy = accepted_of(rt.alloc(), &COPY)?;
-    let hello = accepted_of(rt.alloc(), &HELLO)?;
-    let (Some(copy), Some(hello)) = (copy, hello) else {
-        panic!(rt; "refused");
-    };
-    assert!(rt; share_a_board(rt.alloc(), &copy, &hello, b"A", b"AHi\xff")?);
+    assert!(rt; copy_shares_with_hello(rt.alloc())?);
     Ok(())
 }

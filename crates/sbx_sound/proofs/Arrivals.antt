@@ -20,9 +20,9 @@ use Rattle.sbx_domain.specs.Known.{Known, range_of_entry, form_of_entry}
 use Rattle.sbx_domain.specs.Forms.{form_value}
 use Rattle.sbx_rules.specs.Ways.{Next, Past, To, Visit, Way, after_call, after_word, budget_of_callee, cells_at, falls, falls_to, fuel_at, state_at, visits_after, visits_at, weight_of_place, weight_to}
 use Rattle.sbx_rules.specs.Places.{IsPlace, address_of, callee_at, callee_before, callee_of, ends_run, function_at, op_at, op_before, words_in}
-use Rattle.sbx_sound.specs.Running.{After, At, Follows, GoesTo, IsThere, IsVisit, bytes_of, left_to_all, straight_visit}
+use Rattle.sbx_sound.proofs.Running.{After, At, Follows, GoesTo, IsThere, IsVisit, bytes_of, left_to_all, straight_visit}
 use Rattle.sbx_form.specs.Forms.{Cells}
-use Rattle.sbx_sound.specs.Shared.{AreStored, Open, Shared}
+use Rattle.sbx_sound.proofs.Shared.{AreStored, Open, Shared}
 use Rattle.sbx_domain.specs.Transfer.{is_in, saved, transferred}
 use Rattle.sbx_sound.proofs.Frames.{moved_in}
 use Rattle.sbx_sound.proofs.Ledger.{edge_pays, fits_begin, near_in_cells, numbers, one_edge, one_word}

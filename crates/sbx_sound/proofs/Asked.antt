@@ -1,10 +1,8 @@
 -- What an image without a fault gives at a word, rule by rule, in the form in which steps ask for it.
-use Rattle.std.proofs.Common.{◌≡◌, ℕ, zero, suc, ◌<◌, ◌≤◌, ◌+◌, ◌*◌, ℤ, Bool, true, false, List, [], ◌∷◌, Some, refl, sym, ap, ◌∙◌, subst, inl, inr, arith}
-use Rattle.std.specs.Prelude.{◌≤ℤ◌, ◌==◌, ◌&&◌, ◌||◌, not, nat_le, nat_lt, length, slice_get}
+use Rattle.std.proofs.Common.{◌≡◌, ℕ, zero, suc, ◌<◌, ◌≤◌, ◌+◌, ◌*◌, Bool, true, false, List, [], ◌∷◌, Some, refl, sym, ap, ◌∙◌, subst, inl, inr, arith}
+use Rattle.std.specs.Prelude.{◌==◌, ◌&&◌, ◌||◌, not, nat_le, nat_lt, length, slice_get}
 use Rattle.std.specs.List.{list_any}
 use Rattle.std.proofs.lemmas.Bool.Decides.{nat_tests}
-use Rattle.std.proofs.lemmas.Int.{by_lt_z}
-use Rattle.std.specs.Int.Signed.{clash_ℤ}
 use Rattle.v8_formats.specs.declared.instr.Branch.{Branch}
 use Rattle.v8_meaning.specs.declared.operation.Operation.{Operation}
 use Rattle.v8_meaning.specs.declared.operation.Operation.TheVariants.{BranchOnCondition}
@@ -22,7 +20,8 @@ use Rattle.sbx_rules.specs.Places.{IsPlace, address_of, callee_at, callee_before
 use Rattle.sbx_rules.specs.Rules.{Holds, branches_badly, enters_well, has_bad_shape, has_cells, has_outs, is_aligned_access, is_back, is_declared, is_entry, is_inner_edge, is_last, is_later, is_placed_access, lacks_room, may_divide_by_zero, may_overflow, misses_params, now, params_of, reads_undefined, room_of_callee, runs_with, same_test, suits, touches_reserved}
 use Rattle.sbx_rules.specs.Verdicts.{Checked}
 use Rattle.sbx_rules.specs.Ways.{Visit, branch_way, fuel_at, state_at, visits_at}
-use Rattle.sbx_sound.specs.Running.{IsVisit}
+use Rattle.sbx_sound.proofs.Running.{IsVisit}
+use Rattle.sbx_sound.proofs.Tests.{and_denied, at_most, or_left, or_right, undone}
 
 -- ---- tests
 
@@ -34,23 +33,6 @@ not_no_way : (x : Bool) → (not x ≡ true → ⊥) → x ≡ true
 not_no_way true h = refl
 not_no_way false h = absurd (h refl)
 
-or_left : (a b : Bool) → (a || b) ≡ false → a ≡ false
-or_left true b h = absurd (cc)
-or_left false b h = refl
-
-or_right : (a b : Bool) → (a || b) ≡ false → b ≡ false
-or_right true b h = absurd (cc)
-or_right false b h = h
-
--- of two tests, one of which holds
-and_denied : (a b : Bool) → (a && b) ≡ false → a ≡ true → b ≡ false
-and_denied true b h e = h
-and_denied false b h e = absurd (cc)
-
-undone : (x : Bool) → not x ≡ false → x ≡ true
-undone true h = refl
-undone false h = absurd (cc)
-
 same_some : (x v : Visit) → Some x ≡ Some v → x ≡ v
 same_some x v e = cc
 
@@ -59,9 +41,6 @@ none_of : (test : Visit → Bool) (vs : List Visit) (n : ℕ) (v : Visit) → sl
 none_of test [] n v is h = absurd (cc)
 none_of test (x ∷ vs) zero v is h = subst (λ y. test y ≡ false) (same_some x v is) (or_left (test x) (list_any test vs) h)
 none_of test (x ∷ vs) (suc n) v is h = none_of test vs n v is (or_right (test x) (list_any test vs) h)
-
-at_most : (a b : ℤ) → ((a ≤ℤ b → ⊥) → ⊥) → a ≤ℤ b
-at_most a b h = by_lt_z b a (λ less. absurd (h (λ le. clash_ℤ less le))) (λ le. le)
 
 within_holds : (first : Known) (fuel : Form) (budget : ℕ) → ((IsWithinBudget first fuel budget → ⊥) → ⊥) → IsWithinBudget first fuel budget
 within_holds first fuel budget h start s = at_most _ _ (λ more. h (λ within. more (within start s)))

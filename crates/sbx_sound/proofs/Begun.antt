@@ -5,7 +5,6 @@ use Rattle.std.specs.Prelude.{pos, ◌+ℤ◌, ◌≤ℤ◌, nat_lt, if◌then�
 use Rattle.std.specs.Int.{cast_unsigned, w32}
 use Rattle.std.specs.List.{AllByRecursion}
 use Rattle.std.proofs.lemmas.Bool.Decides.{nat_tests}
-use Rattle.std.proofs.lemmas.Int.{ints}
 use Rattle.v8_word.specs.declared.Icc.{Icc}
 use Rattle.v8_alu.specs.Results.{signed}
 use Rattle.sbx_image.specs.Rules.{parts_keep}
@@ -16,14 +15,14 @@ use Rattle.sbx_image.specs.declared.parts.Range.{Range}
 use Rattle.sbx_form.specs.Forms.{Cells}
 use Rattle.sbx_domain.specs.declared.entry.Entry.{Entry}
 use Rattle.sbx_domain.specs.Fits.{HasForm, HasInterval}
-use Rattle.sbx_domain.specs.Forms.{Form, form_of_location, form_value}
+use Rattle.sbx_domain.specs.Forms.{Form, form_of_location}
 use Rattle.sbx_domain.specs.Known.{cell_entry, form_of_entry, is_location, range_of_entry, started}
 use Rattle.sbx_rules.specs.Fuel.{InCells}
 use Rattle.sbx_rules.specs.Places.{IsPlace, words_in}
 use Rattle.sbx_rules.specs.Verdicts.{Checked}
 use Rattle.sbx_rules.specs.Ways.{Visit, cells_at, state_at}
 use Rattle.sbx_sound.specs.Positive.{FuelStaysPositive, IsPositive}
-use Rattle.sbx_sound.specs.Running.{straight_visit}
+use Rattle.sbx_sound.proofs.Running.{straight_visit}
 use Rattle.sbx_sound.proofs.Arrivals.{is_straight_visit}
 use Rattle.sbx_sound.proofs.Bounded.{IsGoodEntry, entry_good, left_is_bounded, lowest}
 use Rattle.sbx_sound.proofs.Limits.{IsGoodCell, cells_good, have_results, in_written, ordered, words_few, written_in}
@@ -31,6 +30,7 @@ use Rattle.sbx_sound.proofs.NearWords.{HasNear}
 use Rattle.sbx_sound.proofs.Onward.{HasVisit, before_straight, on, visit_then}
 use Rattle.sbx_sound.proofs.Positive.{Point, left_of, positive}
 use Rattle.sbx_sound.proofs.Visits.{visit_is_straight}
+use Rattle.sbx_sound.proofs.Ledger.{own_number}
 
 -- ---- words for numbers
 
@@ -38,10 +38,6 @@ use Rattle.sbx_sound.proofs.Visits.{visit_is_straight}
 abbrev word_for : Option Entry → ℤ → ℕ
 word_for None z = 0
 word_for (Some e) z = cast_unsigned w32 z
-
-own_number : (cells : Cells) (l : ℕ) → form_value cells (form_of_location l) ≡ cells l
-unfolding form_value
-own_number cells l = omega (arith, ints)
 
 record IsFor (start : Cells) (l : ℕ) (o : Option Entry) (w : ℕ) : Type 0 where
   small : w < 2 ^ 32

@@ -3,7 +3,6 @@ use Rattle.std.proofs.Common.{◌≡◌, ℕ, zero, suc, ◌+◌, ◌*◌, ◌^�
 use Rattle.std.specs.Prelude.{pos, negsuc, ◌+ℤ◌, ◌-ℤ◌, ◌*ℤ◌, ◌≤ℤ◌, ◌==◌, ◌||◌, FitsSigned, unsigned_abs, if◌then◌else◌}
 use Rattle.std.specs.Int.{w32}
 use Rattle.std.specs.List.{AllByRecursion}
-use Rattle.std.proofs.lemmas.Bool.Decides.{nat_tests}
 use Rattle.std.proofs.lemmas.Int.{ints, unsigned_abs-mul}
 use Rattle.std.proofs.lemmas.Nat.{mul-le}
 use Rattle.v8_meaning.specs.declared.operation.Operation.{Operation}
@@ -22,8 +21,9 @@ use Rattle.sbx_domain.specs.Known.{cell_entry, entry_of_cell, is_location, range
 use Rattle.sbx_rules.specs.Fuel.{InCells}
 use Rattle.sbx_rules.specs.Places.{block_at, callee_before, op_at}
 use Rattle.sbx_rules.specs.Ways.{budget_of_callee, cells_at, counted, form_term, fuel_at, names_cell, state_at, weight_to}
-use Rattle.sbx_sound.specs.Running.{left_at}
+use Rattle.sbx_sound.specs.Positive.{left_at}
 use Rattle.sbx_sound.proofs.Limits.{IsGoodCell, IsGoodRange, block_good, cells_good, function_good}
+use Rattle.sbx_sound.proofs.Tests.{equal_numbers}
 
 -- ---- what a location starts with
 
@@ -32,16 +32,13 @@ abbrev pub IsGoodEntry : ℕ → Option Entry → Type 0
 IsGoodEntry l None = Unit {0}
 IsGoodEntry l (Some e) = (is_location l ≡ true) × IsGoodRange e.range × (e.form ≡ Some (form_of_location l))
 
-same_location : (k l : ℕ) → (k == l) ≡ true → k ≡ l
-same_location k l e = grind (arith, nat_tests)
-
 pub entry_good : (cells : List Cell) (l : ℕ) → AllByRecursion IsGoodCell cells → IsGoodEntry l (cell_entry cells l)
 unfolding cell_entry
 entry_good [] l h = tt
 entry_good (c ∷ cs) l h = by_test (c.location == l) refl (entry_good cs l h.1)
   where
     by_test : (t : Bool) → (c.location == l) ≡ t → IsGoodEntry l (cell_entry cs l) → IsGoodEntry l (if t then Some (entry_of_cell c) else cell_entry cs l)
-    by_test true e rest = (let same = same_location c.location l e in (subst (λ k. is_location k ≡ true) same h.0.location, h.0.range, ap (λ k. Some (form_of_location k)) same))
+    by_test true e rest = (let same = equal_numbers c.location l e in (subst (λ k. is_location k ≡ true) same h.0.location, h.0.range, ap (λ k. Some (form_of_location k)) same))
     by_test false e rest = rest
 
 -- a cell that is named has an entry

@@ -18,9 +18,9 @@ use Rattle.sbx_rules.specs.Places.{IsPlace, ends_run, function_at, op_at, words_
 use Rattle.sbx_rules.specs.Rules.{has_cells, is_entry, is_inner_edge, is_last, now, same_test}
 use Rattle.sbx_rules.specs.Verdicts.{Checked}
 use Rattle.sbx_rules.specs.Ways.{Past, To, Visit, Way, after_word, branch_way, cells_at, falls, fuel_at, state_at, weight_to}
-use Rattle.sbx_sound.specs.Order.{IsOrdered}
-use Rattle.sbx_sound.specs.Running.{At, IsVisit}
-use Rattle.sbx_sound.specs.Shared.{Shared}
+use Rattle.sbx_sound.proofs.Order.{IsOrdered}
+use Rattle.sbx_sound.proofs.Running.{At, IsVisit}
+use Rattle.sbx_sound.proofs.Shared.{Shared}
 use Rattle.sbx_sound.proofs.Arrivals.{after_no_call}
 use Rattle.sbx_sound.proofs.Asked.{branches_well, has_shape, restores_in_slot}
 use Rattle.sbx_sound.proofs.FromChecked.{edge_has_cells, edge_is_paid, goes_somewhere}
@@ -30,7 +30,7 @@ use Rattle.sbx_sound.proofs.OtherSteps.{annulled_slot}
 use Rattle.sbx_sound.proofs.Returning.{PlainWordsDo, slot_is_no_save, slot_is_plain, slot_keeps_on}
 use Rattle.sbx_sound.proofs.Safe.{Spot, Steps}
 use Rattle.sbx_sound.proofs.Steps.{plain_edge}
-use Rattle.sbx_sound.proofs.Straight.{same_bytes, same_window, word_is}
+use Rattle.sbx_sound.proofs.Straight.{later_block, same_bytes, same_window, word_is}
 use Rattle.sbx_sound.proofs.Visits.{IsWay}
 
 weighs_one : (op : Operation) → is_save op ≡ false → is_restore op ≡ false → is_trap op ≡ false → weight_of op ≡ 1
@@ -44,9 +44,6 @@ inner_some way t inner e zero_is = let x : is_inner_edge (To 0) ≡ true = subst
 
 slot_inside : (framed : Bool) (b j : ℕ) → (framed && is_entry b (suc j)) ≡ false
 slot_inside framed b j = grind (arith, nat_tests)
-
-later_block : (t i : ℕ) → t ≢ 0 → is_entry t i ≡ false
-later_block t i some = grind (arith, nat_tests)
 
 last_word : (n i : ℕ) → nat_le n (i + 1) ≡ true → nat_lt (i + 1) n ≡ false
 last_word n i h = grind (arith, nat_tests)

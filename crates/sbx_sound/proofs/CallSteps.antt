@@ -15,9 +15,10 @@ use Rattle.sbx_domain.specs.Known.{Known, started, with_entry}
 use Rattle.sbx_rules.specs.Rules.{is_defined, is_some}
 use Rattle.sbx_rules.specs.Ways.{Visit, cells_at, state_at}
 use Rattle.sbx_rules.specs.Places.{address_of, callee_at, function_at, op_at, op_before}
-use Rattle.sbx_sound.specs.Running.{At, left_at, straight_visit, tests, window_of}
+use Rattle.sbx_sound.specs.Positive.{left_at}
+use Rattle.sbx_sound.proofs.Running.{At, straight_visit, tests, window_of}
 use Rattle.sbx_form.specs.Forms.{Cells}
-use Rattle.sbx_sound.specs.Shared.{Lent, Own, Shared, Shows, Window}
+use Rattle.sbx_sound.proofs.Shared.{Lent, Own, Shared, Shows, Window}
 use Rattle.sbx_domain.specs.Transfer.{transferred}
 use Rattle.sbx_sound.proofs.Arrivals.{Left, after_no_call, left_by}
 use Rattle.sbx_sound.proofs.Calls.{CallsWell, enters, in_slot, kept_entry, opened}
@@ -27,27 +28,20 @@ use Rattle.sbx_sound.proofs.Ledger.{numbers}
 use Rattle.sbx_sound.proofs.Safe.{ShowsSpot, Spot, Steps}
 use Rattle.sbx_sound.proofs.Steps.{Does, IsWord, reaches_on, starts_with_less, steps_by}
 use Rattle.sbx_sound.proofs.Transfers.{ComesStraight, call_at, next_place, linked_known}
-
-if_pick : (t : Bool) (A : Type 0) (x y : A) → t ≡ true → (if t then x else y) ≡ x
-if_pick true A x y e = refl
-if_pick false A x y e = absurd (cc)
-
-if_skip : (t : Bool) (A : Type 0) (x y : A) → t ≡ false → (if t then x else y) ≡ y
-if_skip true A x y e = absurd (cc)
-if_skip false A x y e = refl
+use Rattle.sbx_sound.proofs.Tests.{if_false, if_true}
 
 framed_inside : (t : Bool) (b i : ℕ) → t ≡ true → (t && not ((b == 0) && (suc i == 0))) ≡ true
 framed_inside t b i h = grind (arith, nat_tests)
 
 pub own_window : (function : Function) (b i : ℕ) → is_framed function.kind ≡ true → window_of function b (suc i) ≡ Own function.frame
-own_window function b i h = if_pick (is_framed function.kind && not ((b == 0) && (suc i == 0))) Window (Own function.frame) Lent (framed_inside (is_framed function.kind) b i h)
+own_window function b i h = if_true (is_framed function.kind && not ((b == 0) && (suc i == 0))) Window (Own function.frame) Lent (framed_inside (is_framed function.kind) b i h)
 
 at_entry : (t : Bool) → (t && false) ≡ false
 at_entry true = refl
 at_entry false = refl
 
 pub entry_window : (function : Function) → window_of function 0 0 ≡ Lent
-entry_window function = if_skip (is_framed function.kind && false) Window (Own function.frame) Lent (at_entry (is_framed function.kind))
+entry_window function = if_false (is_framed function.kind && false) Window (Own function.frame) Lent (at_entry (is_framed function.kind))
 
 linked_test : (x : Bool) → (not (15 == 0) && (x || ((15 == 15) && true))) ≡ true
 linked_test true = refl
@@ -111,7 +105,7 @@ module _ (parts : Parts) (f b j g : ℕ) where
 
 defined_but : (d : Known) (l : ℕ) → l ≢ 15 → is_defined (linked_known d) l ≡ is_defined d l
 unfolding with_entry
-defined_but d l apart = ap (λ (o : Option Entry). is_some o) (if_skip (l == 15) (Option Entry) None (d.entry l) (let e : (l == 15) ≡ false = grind (arith, nat_tests) in e))
+defined_but d l apart = ap (λ (o : Option Entry). is_some o) (if_false (l == 15) (Option Entry) None (d.entry l) (let e : (l == 15) ≡ false = grind (arith, nat_tests) in e))
 
 linked_fewer : (l : ℕ) (a b linked : Bool) → a ≡ b → l ≢ 15 → (not (l == 0) && (a || ((l == 15) && true))) ≡ true → (not (l == 0) && (b || ((l == 15) && linked))) ≡ true
 linked_fewer l a b linked e apart h = grind (arith, nat_tests)

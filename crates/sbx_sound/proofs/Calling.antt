@@ -1,5 +1,5 @@
 -- The slot of a CALL, from the rules: the callee begins, and what is left to its caller is positive.
-use Rattle.std.proofs.Common.{◌≡◌, ℕ, suc, ◌≤◌, ℤ, Bool, true, false, Option, Some, None, refl, ap, subst, inl, inr, arith}
+use Rattle.std.proofs.Common.{◌≡◌, ℕ, suc, ◌≤◌, ℤ, Bool, true, false, refl, ap, subst, inl, inr, arith}
 use Rattle.std.specs.Prelude.{pos, ◌+ℤ◌, ◌-ℤ◌, ◌≤ℤ◌}
 use Rattle.std.proofs.lemmas.Int.{ints}
 use Rattle.v8_meaning.specs.declared.operation.Operation.TheVariants.{Call}
@@ -9,13 +9,13 @@ use Rattle.sbx_domain.specs.Forms.{form_value}
 use Rattle.sbx_rules.specs.Fuel.{InCells}
 use Rattle.sbx_rules.specs.Operations.{is_call, is_framed_return, is_restore, is_transfer}
 use Rattle.sbx_rules.specs.Places.{IsPlace, callee_at, ends_run, op_at, op_before}
-use Rattle.sbx_rules.specs.Rules.{is_later, same_test}
+use Rattle.sbx_rules.specs.Rules.{same_test}
 use Rattle.sbx_rules.specs.Verdicts.{Checked}
 use Rattle.sbx_rules.specs.Ways.{falls, fuel_at, state_at, weight_to}
-use Rattle.sbx_sound.specs.Order.{IsOrdered}
-use Rattle.sbx_sound.specs.Positive.{IsPositive}
-use Rattle.sbx_sound.specs.Running.{At, left_at, straight_visit}
-use Rattle.sbx_sound.specs.Shared.{Shared}
+use Rattle.sbx_sound.proofs.Order.{IsOrdered}
+use Rattle.sbx_sound.specs.Positive.{IsPositive, left_at}
+use Rattle.sbx_sound.proofs.Running.{At, straight_visit}
+use Rattle.sbx_sound.proofs.Shared.{Shared}
 use Rattle.sbx_sound.proofs.Arrivals.{goes_straight}
 use Rattle.sbx_sound.proofs.Asked.{calls_later, restores_in_slot}
 use Rattle.sbx_sound.proofs.CallSteps.{call_slot}
@@ -26,12 +26,8 @@ use Rattle.sbx_sound.proofs.Onward.{HaveResults, begins, near_state}
 use Rattle.sbx_sound.proofs.ReturnSteps.{GoesOn}
 use Rattle.sbx_sound.proofs.Returning.{PlainWordsDo, slot_is_no_save, slot_is_plain}
 use Rattle.sbx_sound.proofs.Safe.{Spot, Steps}
-use Rattle.sbx_sound.proofs.Straight.{word_is}
+use Rattle.sbx_sound.proofs.Straight.{some_callee, word_is}
 use Rattle.sbx_sound.proofs.Wells.{calls_well}
-
-some_callee : (parts : Parts) (f b i : ℕ) (o : Option ℕ) → is_later parts f b i o ≡ true → (g : ℕ) × (o ≡ Some g)
-some_callee parts f b i None h = absurd (cc)
-some_callee parts f b i (Some g) h = (g, refl)
 
 paid_left : (fuel next : ℤ) (t : ℕ) → (pos t +ℤ next) ≤ℤ fuel → pos 1 ≤ℤ (next -ℤ pos 0) → pos 1 ≤ℤ (fuel -ℤ pos t)
 paid_left fuel next t paid some = omega (arith, ints)
@@ -47,14 +43,14 @@ module _ (parts : Parts) (checked : Checked parts) (ordered : IsOrdered parts) (
   left_after f b i start place begun near before on no_call runs_on = by_way (goes_on parts checked ordered f b i place before on no_call runs_on)
     where
       by_way : GoesOn parts f b i (state_at parts f b (suc i)) (falls parts f b i) → pos 1 ≤ℤ left_at parts f b (suc i) start
-      by_way (inl g) = positive f b (suc i) start g.follows.place begun
+      by_way (inl g) = positive f b (suc i) start g.there.place begun
       by_way (inr g) =
           (let n = near_state parts checked ordered results start f b i near in
           let words = n.held.words in
           let there = begins parts checked ordered results start (state_at parts f b (suc i)) f g.t n g.cells in
           let in_cells = near_in_cells (numbers words) (state_at parts f g.t 0) words n.held.icc n.held.y there in
           let pays = edge_pays (state_at parts f b 0) (state_at parts f b (suc i)) (fuel_at parts f b) (fuel_at parts f g.t) (weight_to parts f b (suc i)) start words n.held.icc n.held.y g.paid begun n.near in
-          paid_left (form_value start (fuel_at parts f b)) (form_value (numbers words) (fuel_at parts f g.t)) (weight_to parts f b (suc i)) pays (positive f g.t 0 (numbers words) g.follows.place in_cells))
+          paid_left (form_value start (fuel_at parts f b)) (form_value (numbers words) (fuel_at parts f g.t)) (weight_to parts f b (suc i)) pays (positive f g.t 0 (numbers words) g.there.place in_cells))
 
   pub call_slots : parts.stack_pages ≤ 16 → PlainWordsDo parts → (w : ℕ) (k : Shared) (f b j displacement : ℕ) (start : Cells) (at : At parts w k f b (suc j) (straight_visit parts f b (suc j)) start) → op_at parts f b j ≡ Call displacement
       → let p : Spot parts w = record { k = k; f = f; b = b; i = suc j; v = straight_visit parts f b (suc j); start = start; at = at } in

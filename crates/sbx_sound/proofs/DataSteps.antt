@@ -37,9 +37,9 @@ use Rattle.sbx_fits.proofs.Memory.{data_keeps_fitting}
 use Rattle.sbx_rules.specs.Operations.{Access, access_of, address_reads, frame_offset, is_framed, is_reserved, moved_reads, moved_writes, reads_of, second_reads, writes_of}
 use Rattle.sbx_rules.specs.Places.{function_at}
 use Rattle.sbx_rules.specs.Rules.{is_aligned_access, is_aligned_at, is_defined, is_placed_access, is_placed_at, is_some, reads_undefined, touches_reserved}
-use Rattle.sbx_sound.specs.LowFields.{LowThree}
-use Rattle.sbx_sound.specs.Running.{tests, window_of}
-use Rattle.sbx_sound.specs.Shared.{KnownParts, Lent, Shared, Shows, Window, with_location}
+use Rattle.sbx_sound.proofs.LowFields.{LowThree}
+use Rattle.sbx_sound.proofs.Running.{tests, window_of}
+use Rattle.sbx_sound.proofs.Shared.{KnownParts, Lent, Shared, Shows, Window, with_location}
 use Rattle.sbx_sound.proofs.Addresses.{IsInData, lies_in_data}
 use Rattle.sbx_sound.proofs.DataWords.{ReachesData, is_aligned, loads_data, number_same, stores_data}
 use Rattle.sbx_sound.proofs.Effects.{IsFewer, Reaches, moved_on, reaches_by, takes_one, with_word_known, writes_reach}
@@ -47,10 +47,11 @@ use Rattle.sbx_sound.proofs.Frames.{IsFree, write_shows}
 use Rattle.sbx_sound.proofs.Moves.{operand_of, register_shown, second_read}
 use Rattle.sbx_sound.proofs.Read.{free_register, read_free, read_known, second_shown, write_allowed}
 use Rattle.sbx_sound.proofs.Safe.{ShowsSpot, Spot}
-use Rattle.sbx_sound.proofs.Steps.{Does, and_left, and_right, linked_at, op_of}
+use Rattle.sbx_sound.proofs.Steps.{Does, linked_at, op_of}
 use Rattle.sbx_sound.proofs.Stored.{IsThere, number_is_there, stored_after_store}
 use Rattle.sbx_sound.proofs.Writing.{entry_defined, is_fewer, keeps_codes, keeps_y, then_knows, unchanged_is_fewer, writes_one}
 use Rattle.sbx_sound.proofs.Written.{entry_codes, entry_y, fits_same, fits_shown, more_tests, other_defined, other_word, same_location}
+use Rattle.sbx_sound.proofs.Tests.{and_left, and_right}
 
 -- ---- the registers that an access reads: those that go out, then those of the address
 

@@ -16,14 +16,14 @@ use Rattle.v8_meaning.specs.Operands.{following}
 use Rattle.sbx_image.specs.declared.parts.Parts.{Parts}
 use Rattle.sbx_flat.specs.Effects.{address_in, aligned, declares, does, gets, puts, served, serves, service_of, slot_of, takes, transfers, transfers_data, transfers_in, writes}
 use Rattle.sbx_flat.specs.Memory.{Bytes, byte_of, followed_by, number_at, with_number}
-use Rattle.sbx_flat.specs.Registers.{Words, written}
+use Rattle.sbx_flat.specs.Registers.{written}
 use Rattle.sbx_flat.specs.Runs.{AreBytes, reached_by}
 use Rattle.sbx_flat.specs.declared.path.Wrong.TheVariants.{Misaligned, NoService}
 use Rattle.sbx_flat.specs.States.{State, Turn, Goes, Fails, advanced, reg}
 use Rattle.sbx_domain.specs.Fits.{Fits}
 use Rattle.sbx_rules.specs.Places.{function_at}
-use Rattle.sbx_sound.specs.Running.{tests, window_of}
-use Rattle.sbx_sound.specs.Shared.{KnownParts, Shared, Shows, Window, with_location}
+use Rattle.sbx_sound.proofs.Running.{tests, window_of}
+use Rattle.sbx_sound.proofs.Shared.{KnownParts, Shared, Shows, Window, with_location}
 use Rattle.sbx_domain.specs.Transfer.{transferred}
 use Rattle.sbx_sound.proofs.Effects.{IsFewer, Reaches, moved_on, reaches_by, takes_one, with_word_known, writes_reach}
 use Rattle.sbx_sound.proofs.Frames.{IsFree, write_shows}
@@ -31,6 +31,7 @@ use Rattle.sbx_sound.proofs.Safe.{ShowsSpot, Spot}
 use Rattle.sbx_sound.proofs.Steps.{Does, linked_at, op_of}
 use Rattle.sbx_sound.proofs.Stored.{bytes_after_first, stored_after_store}
 use Rattle.v8_meaning.specs.declared.operation.Loading.TheVariants as loadings
+use Rattle.sbx_sound.proofs.Written.{other_word}
 
 pub number_same : (a b : Bytes) → ((x : ℕ) → a x ≡ b x) → (place count : ℕ) → number_at a place count ≡ number_at b place count
 number_same a b same place zero = refl
@@ -43,9 +44,6 @@ no_slot _ s a h = refl
 
 pub is_aligned : (size a : ℕ) (t : Turn) → a % size ≡ 0 → aligned size a t ≡ t
 is_aligned size a t e = let f : (a % size == 0) ≡ true = grind (arith, nat_tests) in ap (λ (b : Bool). if b then t else Fails Misaligned) f
-
-no_link : (n v : ℕ) (words : Words) → 15 ≢ n → with_location n v words 15 ≡ words 15
-no_link n v words apart = grind (arith, nat_tests)
 
 some_location : (l : ℕ) (test : ℕ → Bool) → test 0 ≡ false → test l ≡ true → l ≢ 0
 some_location zero test a b e = absurd (cc)
@@ -93,7 +91,7 @@ module _ (parts : Parts) (w : ℕ) (p : Spot parts w) where
       record {
         left = record { words = with_location m.rd v p.k.words; icc = p.k.icc; y = p.k.y; memory = p.k.memory; input = p.k.input; output = p.k.output };
         fits = subst (λ o. Fits p.start (transferred frame o p.v.known) (with_location m.rd v p.k.words) p.k.icc p.k.y) (sym is) fits;
-        link = no_link m.rd v p.k.words apart;
+        link = other_word m.rd v p.k.words apart;
         stored = p.at.stored;
         reached = Some a;
         reaches = λ s h. ap (λ o. reached_by o s) is ∙ ap Some (access.address s h);

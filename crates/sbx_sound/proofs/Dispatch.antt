@@ -11,9 +11,9 @@ use Rattle.sbx_rules.specs.Operations.{is_call, is_return}
 use Rattle.sbx_rules.specs.Ways.{Visit, branch_way, falls, state_at}
 use Rattle.sbx_rules.specs.Places.{op_at, op_before}
 use Rattle.sbx_range.specs.Refining.{opposite}
-use Rattle.sbx_sound.specs.Running.{At, straight_visit}
+use Rattle.sbx_sound.proofs.Running.{At, straight_visit}
 use Rattle.sbx_form.specs.Forms.{Cells}
-use Rattle.sbx_sound.specs.Shared.{Shared}
+use Rattle.sbx_sound.proofs.Shared.{Shared}
 use Rattle.sbx_domain.specs.Refining.{refined}
 use Rattle.sbx_sound.proofs.Arrivals.{goes_straight}
 use Rattle.sbx_sound.proofs.Safe.{Spot, Steps}

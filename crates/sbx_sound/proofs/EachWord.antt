@@ -12,17 +12,17 @@ use Rattle.sbx_rules.specs.Operations.{is_call, is_framed, is_framed_return, is_
 use Rattle.sbx_rules.specs.Places.{ends_run, function_at, is_exit, op_at, op_before}
 use Rattle.sbx_rules.specs.Rules.{is_entry, same_test}
 use Rattle.sbx_rules.specs.Verdicts.{Checked}
-use Rattle.sbx_sound.specs.Order.{IsOrdered}
-use Rattle.sbx_sound.specs.Running.{At, straight_visit}
-use Rattle.sbx_sound.specs.Shared.{Shared}
+use Rattle.sbx_sound.proofs.Order.{IsOrdered}
+use Rattle.sbx_sound.proofs.Running.{At, straight_visit}
+use Rattle.sbx_sound.proofs.Shared.{Shared}
 use Rattle.sbx_sound.proofs.Arrivals.{goes_straight}
 use Rattle.sbx_sound.proofs.Asked.{has_shape, restores_in_slot}
 use Rattle.sbx_sound.proofs.Dispatch.{spot}
 use Rattle.sbx_sound.proofs.Obeys.{does_at}
 use Rattle.sbx_sound.proofs.Returning.{PlainWordsDo, return_steps}
 use Rattle.sbx_sound.proofs.Safe.{Steps}
-use Rattle.sbx_sound.proofs.Steps.{and_left, and_right}
 use Rattle.sbx_sound.proofs.Straight.{branch_steps, call_steps, exit_steps, save_steps, straight_steps}
+use Rattle.sbx_sound.proofs.Tests.{and_left, and_right, asked_of}
 
 -- ---- operations
 
@@ -35,11 +35,6 @@ exit_is None h = absurd (cc)
 exit_is (Some n) h = let e : n ≡ 0 = grind (arith, nat_tests) in ap (λ (x : ℕ). Some x) e
 
 -- ---- tests
-
-and_true : (a b : Bool) → (a && not b) ≡ false → a ≡ true → b ≡ true
-and_true true true h e = refl
-and_true true false h e = absurd (cc)
-and_true false b h e = absurd (cc)
 
 at_zero : (n : ℕ) → (n == 0) ≡ true → n ≡ 0
 at_zero n h = grind (arith, nat_tests)
@@ -68,7 +63,7 @@ module _ (parts : Parts) (checked : Checked parts) (ordered : IsOrdered parts) (
     saves : is_save (op_at parts f b i) ≡ true → Steps parts w (spot parts w k f b i (straight_visit parts f b i) start at)
     saves h =
         let framed = is_framed (function_at parts f).kind in
-        let entry = and_true (is_save (op_at parts f b i)) (is_entry b i && framed) (has_shape parts checked f b i at.place).save h in
+        let entry = asked_of (is_save (op_at parts f b i)) (is_entry b i && framed) (has_shape parts checked f b i at.place).save h in
         let first = and_left (is_entry b i) framed entry in
         save_at w k f b i start at (at_zero b (and_left (b == 0) (i == 0) first)) (at_zero i (and_right (b == 0) (i == 0) first)) (and_right (is_entry b i) framed entry)
 

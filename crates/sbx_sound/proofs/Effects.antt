@@ -16,7 +16,7 @@ use Rattle.sbx_flat.specs.Effects.{aligned, branches, does, is_base, jumps, rest
 use Rattle.sbx_flat.specs.Registers.{Frame, Fresh, Registers, Words, ins_of, popped, pushed, written}
 use Rattle.sbx_flat.specs.declared.path.Wrong.TheVariants.{StackPointer, Misaligned, BadFrame}
 use Rattle.sbx_flat.specs.States.{State, Turn, Goes, Fails, reg, with_reg, advanced, transferred}
-use Rattle.sbx_sound.specs.Shared.{KnownParts, Lent, Open, Own, Shared, Shows, ShowsCalls, ShowsFile, Window, slot_word, with_location, word_at_location}
+use Rattle.sbx_sound.proofs.Shared.{KnownParts, Lent, Open, Own, Shared, Shows, ShowsCalls, ShowsFile, Window, slot_word, with_location, word_at_location}
 use Rattle.sbx_sound.proofs.Frames.{high_location, IsFree, IsGivenBack, given_back, moved_in, pop_shows, push_shows, write_shows}
 use Rattle.v8_meaning.specs.declared.operation.Loading.TheVariants as loadings
 

@@ -7,14 +7,7 @@ use Rattle.sbx_domain.specs.declared.entry.Entry.{Entry}
 use Rattle.sbx_domain.specs.Known.{Known, form_at, form_of_entry, is_location, plain_entry_of, range_at, range_of_entry, with_entry, without_location}
 use Rattle.sbx_domain.specs.Transfer.{called, is_global, is_out, restored, result_entry}
 use Rattle.sbx_rules.specs.Rules.{is_some}
-
-if_true : (t : Bool) (A : Type 0) (x y : A) → t ≡ true → (if t then x else y) ≡ x
-if_true true A x y e = refl
-if_true false A x y e = absurd (cc)
-
-if_false : (t : Bool) (A : Type 0) (x y : A) → t ≡ false → (if t then x else y) ≡ y
-if_false true A x y e = absurd (cc)
-if_false false A x y e = refl
+use Rattle.sbx_sound.proofs.Tests.{if_false, if_true}
 
 pub called_kept : (results : List Range) (d : Known) (l : ℕ) → nat_le 16 l ≡ true → (called results d).entry l ≡ d.entry l
 unfolding called

@@ -1,6 +1,6 @@
 -- What LD and ST of a frame word do, by the rules.
 use Rattle.std.proofs.Common.{◌≡◌, ℕ, ◌+◌, ◌*◌, ◌^◌, ◌<◌, ◌≤◌, ℤ, Bool, true, false, [], ◌∷◌, ◌++◌, Some, None, refl, sym, ap, ◌∙◌, subst, arith}
-use Rattle.std.specs.Prelude.{pos, ◌+ℤ◌, ◌==◌, ◌&&◌, not, slice_get, if◌then◌else◌}
+use Rattle.std.specs.Prelude.{pos, ◌+ℤ◌, ◌==◌, ◌&&◌, slice_get, if◌then◌else◌}
 use Rattle.std.proofs.lemmas.Bool.Decides.{nat_tests}
 use Rattle.v8_word.specs.declared.Size.TheVariants as sizes
 use Rattle.v8_formats.specs.declared.instr.Operand.{Operand}
@@ -25,9 +25,9 @@ use Rattle.sbx_fits.proofs.Memory.{frame_words_keep_fitting}
 use Rattle.sbx_rules.specs.Operations.{Access, access_of, address_reads, frame_offset, frame_word_read, is_framed, moved_reads, reads_of, writes_of}
 use Rattle.sbx_rules.specs.Places.{function_at}
 use Rattle.sbx_rules.specs.Rules.{is_aligned_access, is_aligned_at, is_defined, is_placed_access, is_placed_at, is_undefined_word, reads_undefined, touches_reserved}
-use Rattle.sbx_sound.specs.LowFields.{LowOperand, LowThree}
-use Rattle.sbx_sound.specs.Running.{bytes_of, tests, window_of}
-use Rattle.sbx_sound.specs.Shared.{Lent, Own, Shows, base_below, stack_start}
+use Rattle.sbx_sound.proofs.LowFields.{LowOperand, LowThree}
+use Rattle.sbx_sound.proofs.Running.{bytes_of, tests, window_of}
+use Rattle.sbx_sound.proofs.Shared.{Lent, Own, Shows, base_below, stack_start}
 use Rattle.sbx_sound.proofs.Addresses.{IsWordOffset, by_fp, by_sp, lies_in_frame, word_at}
 use Rattle.sbx_sound.proofs.Effects.{read_sp}
 use Rattle.sbx_sound.proofs.FrameWords.{NamesWord, loads_word, read_fp, stores_word}
@@ -38,13 +38,10 @@ use Rattle.sbx_sound.proofs.Safe.{ShowsSpot, Spot}
 use Rattle.sbx_sound.proofs.Steps.{Does, linked_at, op_of}
 use Rattle.sbx_sound.proofs.Writing.{is_fewer, then_knows}
 use Rattle.sbx_sound.proofs.Written.{fits_shown}
+use Rattle.sbx_sound.proofs.Tests.{undone}
 
 same_some : (x y : ℤ) → Some x ≡ Some y → x ≡ y
 same_some x y e = cc
-
-undone : (x : Bool) → not x ≡ false → x ≡ true
-undone true h = refl
-undone false h = absurd (cc)
 
 -- which of %sp and %fp an offset counts from
 pub data CountsFrom (frame rs1 : ℕ) (operand2 : Operand) (offset : ℤ) : Type 0 where

@@ -14,8 +14,8 @@ use Rattle.sbx_flat.specs.States.{State, Turn, Goes, Fails, advanced, reg}
 use Rattle.sbx_domain.specs.Fits.{Fits}
 use Rattle.sbx_rules.specs.Rules.{is_defined}
 use Rattle.sbx_rules.specs.Places.{function_at}
-use Rattle.sbx_sound.specs.Running.{tests, window_of}
-use Rattle.sbx_sound.specs.Shared.{KnownParts, Open, Own, Shared, Shows, ShowsCalls, base_below, slot_word, with_location}
+use Rattle.sbx_sound.proofs.Running.{tests, window_of}
+use Rattle.sbx_sound.proofs.Shared.{KnownParts, Open, Own, Shared, Shows, ShowsCalls, base_below, slot_word, with_location}
 use Rattle.sbx_domain.specs.Transfer.{transferred}
 use Rattle.sbx_sound.proofs.Effects.{IsFewer, Reaches, load_reaches, moved_on, reaches_by, with_word_known}
 use Rattle.sbx_sound.proofs.Frames.{IsFree, slot_shows}

@@ -4,7 +4,7 @@ use Rattle.std.proofs.lemmas.Bool.{cases_lt}
 use Rattle.std.specs.Prelude.{◌==◌, nat_lt, nat_le, if◌then◌else◌, unwrap_or}
 use Rattle.std.proofs.lemmas.Bool.Decides.{nat_tests}
 use Rattle.sbx_flat.specs.Registers.{Frame, Registers, Words, Fresh, with_word, word_in, ins_of, written, is_slot, pushed, popped, with_slot}
-use Rattle.sbx_sound.specs.Shared.{HasNoSlotsBelow, HasSlots, Open, ShowsCalls, ShowsFile, Window, Own, Lent, frame_word, frames_of_callers, kept_word, own_bytes, slot_word, word_at_location, with_location}
+use Rattle.sbx_sound.proofs.Shared.{HasNoSlotsBelow, HasSlots, Open, ShowsCalls, ShowsFile, Window, Own, Lent, frame_word, frames_of_callers, kept_word, own_bytes, slot_word, word_at_location, with_location}
 
 -- a write to the outs of the first of these frames, but to %sp and %o7
 other_word : (words : Words) (m v n : ℕ) → n ≢ m → with_word words m v n ≡ words n

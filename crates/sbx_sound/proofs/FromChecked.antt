@@ -1,9 +1,7 @@
 -- What an image without a fault gives at each visit of a word.
-use Rattle.std.proofs.Common.{◌≡◌, ℕ, zero, suc, ◌<◌, ℤ, Bool, true, false, List, [], ◌∷◌, length, Some, refl, ap, ◌∙◌, inl, inr}
-use Rattle.std.specs.Prelude.{◌≤ℤ◌, ◌||◌, not, slice_get}
+use Rattle.std.proofs.Common.{◌≡◌, ℕ, zero, suc, ◌<◌, Bool, true, false, List, [], ◌∷◌, length, Some, refl, ap, ◌∙◌, inl, inr}
+use Rattle.std.specs.Prelude.{◌||◌, not, slice_get}
 use Rattle.std.specs.List.{list_any}
-use Rattle.std.proofs.lemmas.Int.{by_lt_z}
-use Rattle.std.specs.Int.Signed.{clash_ℤ}
 use Rattle.sbx_image.specs.declared.parts.Parts.{Parts}
 use Rattle.sbx_rules.specs.declared.cause.Cause.{Cause}
 use Rattle.sbx_rules.specs.declared.cause.Cause.TheVariants.{UnkeptCells, OutOfFuel, RunsPastEnd}
@@ -14,10 +12,8 @@ use Rattle.sbx_domain.specs.Known.{Known}
 use Rattle.sbx_domain.specs.Forms.{Form}
 use Rattle.sbx_rules.specs.Ways.{To, Visit, cells_at, fuel_at, state_at, visits_at, weight_to}
 use Rattle.sbx_rules.specs.Places.{ends_run, function_at, op_at, words_in, address_of}
-use Rattle.sbx_sound.specs.Running.{IsVisit}
-
-at_most : (a b : ℤ) → ((a ≤ℤ b → ⊥) → ⊥) → a ≤ℤ b
-at_most a b h = by_lt_z b a (λ less. absurd (h (λ le. clash_ℤ less le))) (λ le. le)
+use Rattle.sbx_sound.proofs.Running.{IsVisit}
+use Rattle.sbx_sound.proofs.Tests.{at_most}
 
 -- The three sentences of fuel say "for all numbers", and an inequality: so what isn't refuted holds.
 pub paid_holds : (one now : Known) (have next : Form) (used : ℕ) → ((IsPaid one have used now next → ⊥) → ⊥) → IsPaid one have used now next

@@ -1,22 +1,19 @@
 -- Where control goes on from a word that comes straight: the next word of the block, or the next block, along an edge that is paid.
 use Rattle.std.proofs.Common.{◌≡◌, ℕ, suc, ◌+◌, ◌<◌, Bool, true, false, length, refl, ap, inl, inr, arith}
 use Rattle.std.specs.Prelude.{◌⊎◌, nat_lt, if◌then◌else◌}
-use Rattle.std.proofs.lemmas.Bool.Decides.{nat_tests}
 use Rattle.sbx_image.specs.declared.parts.Parts.{Parts}
 use Rattle.sbx_rules.specs.Operations.{is_call}
 use Rattle.sbx_rules.specs.Places.{IsPlace, ends_run, function_at, op_at, op_before, words_in}
 use Rattle.sbx_rules.specs.Rules.{is_past}
 use Rattle.sbx_rules.specs.Verdicts.{Checked}
 use Rattle.sbx_rules.specs.Ways.{Next, Past, To, Way, falls, falls_to, state_at}
-use Rattle.sbx_sound.specs.Order.{IsOrdered}
-use Rattle.sbx_sound.specs.Running.{IsThere, IsVisit, straight_visit}
+use Rattle.sbx_sound.proofs.Order.{IsOrdered}
+use Rattle.sbx_sound.proofs.Running.{IsThere, IsVisit, straight_visit}
 use Rattle.sbx_sound.proofs.Arrivals.{goes_straight, is_straight_visit}
 use Rattle.sbx_sound.proofs.FromChecked.{edge_has_cells, edge_is_paid, goes_somewhere}
 use Rattle.sbx_sound.proofs.Ordered.{follows}
 use Rattle.sbx_sound.proofs.ReturnSteps.{GoesNext, GoesOn, GoesToBlock}
-
-less_of : (m n : ℕ) → nat_lt m n ≡ true → m < n
-less_of m n e = grind (arith, nat_tests)
+use Rattle.sbx_sound.proofs.Tests.{less_of}
 
 -- on from word i of a block of so many words, in a function of so many blocks
 pub record FallsNext (words i : ℕ) (way : Way) : Type 0 where
@@ -64,7 +61,7 @@ module _ (parts : Parts) (checked : Checked parts) (ordered : IsOrdered parts) w
       known = refl;
       straight = on;
       no_call = no_call;
-      follows = there f b (suc i) (record { function = place.function; block = place.block; word = n.within });
+      there = there f b (suc i) (record { function = place.function; block = place.block; word = n.within });
     }
 
     to_block : FallsTo (length (function_at parts f).blocks) b (falls parts f b i) → GoesToBlock parts f b i (state_at parts f b (suc i)) (falls parts f b i)
@@ -75,7 +72,7 @@ module _ (parts : Parts) (checked : Checked parts) (ordered : IsOrdered parts) w
       some = λ e. (let x : b + 1 ≡ 0 = e in omega arith);
       cells = edge_has_cells parts checked f b i place.function place.block place.word (straight_visit parts f b i) (b + 1) visit n.way_is;
       paid = edge_is_paid parts checked f b i place.function place.block place.word (straight_visit parts f b i) (b + 1) visit n.way_is;
-      follows = there f (b + 1) 0 (begin_place f (b + 1) place.function n.within);
+      there = there f (b + 1) 0 (begin_place f (b + 1) place.function n.within);
     }
 
     -- a word that neither transfers control nor ends the run goes on

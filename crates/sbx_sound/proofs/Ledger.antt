@@ -1,6 +1,6 @@
 -- The ledger of fuel: words, edges, calls and returns keep what was used and what is left within the budget.
 use Rattle.std.proofs.Common.{◌≡◌, ℕ, ◌+◌, ◌-◌, ◌*◌, ◌/◌, ◌%◌, ◌^◌, ◌≤◌, ℤ, Bool, true, false, List, [], ◌∷◌, Option, Some, None, refl, sym, ap, ◌∙◌, subst, arith}
-use Rattle.std.specs.Prelude.{pos, ◌+ℤ◌, ◌-ℤ◌, ◌*ℤ◌, ◌≤ℤ◌, ◌==◌, ◌&&◌, not, int_lt, nat_le, if◌then◌else◌}
+use Rattle.std.specs.Prelude.{pos, ◌+ℤ◌, ◌-ℤ◌, ◌*ℤ◌, ◌≤ℤ◌, ◌==◌, not, int_lt, nat_le, if◌then◌else◌}
 use Rattle.std.proofs.lemmas.Bool.Decides.{nat_tests}
 use Rattle.std.proofs.lemmas.Int.{ints}
 use Rattle.std.proofs.Math.Nat.{mul_assoc}
@@ -13,7 +13,7 @@ use Rattle.sbx_image.specs.declared.parts.Cell.{Cell}
 use Rattle.sbx_form.specs.declared.terms.FormTerm.{FormTerm}
 use Rattle.sbx_flat.specs.Registers.{Words}
 use Rattle.sbx_form.specs.Forms.{Cells, terms_value}
-use Rattle.sbx_sound.specs.Shared.{Open}
+use Rattle.sbx_sound.proofs.Shared.{Open}
 use Rattle.sbx_domain.specs.Fits.{Fits, HasAlignment, HasForm, HasInterval, Near, Relates}
 use Rattle.sbx_range.specs.Ranges.{InInterval, IsAligned}
 use Rattle.sbx_domain.specs.declared.entry.Entry.{Entry}
@@ -22,7 +22,8 @@ use Rattle.sbx_domain.specs.Forms.{Form, form_of_location, form_value}
 use Rattle.sbx_domain.specs.declared.relation.Relation.{Relation}
 use Rattle.sbx_rules.specs.Fuel.{InCells, IsPaid, number_now, numbers_now}
 use Rattle.sbx_rules.specs.Rules.{has_cells, has_range}
-use Rattle.sbx_sound.specs.Running.{AreOpen, left_to, left_to_all}
+use Rattle.sbx_sound.proofs.Running.{AreOpen, left_to, left_to_all}
+use Rattle.sbx_sound.proofs.Tests.{and_left, and_right, equal_numbers}
 
 -- ---- sums
 
@@ -91,14 +92,6 @@ edge_pays first now fuel next weight start words icc y paid begun near =
 int_not_below : (a b : ℤ) → not (int_lt a b) ≡ true → b ≤ℤ a
 int_not_below a b h = grind (arith, ints)
 
-and_left : (a b : Bool) → (a && b) ≡ true → a ≡ true
-and_left true b h = refl
-and_left false b h = absurd (cc)
-
-and_right : (a b : Bool) → (a && b) ≡ true → b ≡ true
-and_right true b h = h
-and_right false b h = absurd (cc)
-
 pub interval_within : (o : Option Range) (r : Range) (w : ℕ) → has_range o r ≡ true → HasInterval o w → InInterval r w
 interval_within None r w h i = absurd (cc)
 interval_within (Some s) r w h i =
@@ -139,10 +132,7 @@ pub record Begins (d : Known) (cells : List Cell) (words : Words) : Type 0 where
   pub y : (started cells).y ≡ None
   pub codes : (started cells).icc ≡ false
 
-at_cell : (k l : ℕ) → (k == l) ≡ true → k ≡ l
-at_cell k l e = grind (arith, nat_tests)
-
-own_number : (cells : Cells) (l : ℕ) → form_value cells (form_of_location l) ≡ cells l
+pub own_number : (cells : Cells) (l : ℕ) → form_value cells (form_of_location l) ≡ cells l
 unfolding form_value
 own_number cells l = omega (arith, ints)
 
@@ -155,7 +145,7 @@ cells_have d P (c ∷ cs) l h none some =
     by_test (cells_have d P cs l (and_right (has_range (range_at d c.location) c.range) (has_cells d cs) h) none some) (c.location == l) refl
   where
     by_test : P l (cell_entry cs l) → (t : Bool) → (c.location == l) ≡ t → P l (if t then Some (entry_of_cell c) else cell_entry cs l)
-    by_test rest true e = subst (λ k. P k (Some (entry_of_cell c))) (at_cell c.location l e) (some c (and_left (has_range (range_at d c.location) c.range) (has_cells d cs) h))
+    by_test rest true e = subst (λ k. P k (Some (entry_of_cell c))) (equal_numbers c.location l e) (some c (and_left (has_range (range_at d c.location) c.range) (has_cells d cs) h))
     by_test rest false e = rest
 
 pub starts_have : (d : Known) (P : ℕ → Option Entry → Type 0) (cells : List Cell) (l : ℕ) → has_cells d cells ≡ true → P l None

@@ -1,3 +1,7 @@
+pub mod Shared
+pub mod Running
+pub mod Order
+pub mod Tests
 pub mod Entries
 pub mod Frames
 pub mod Ledger

@@ -25,7 +25,7 @@ use Rattle.sbx_range.specs.Ranges.{InInterval}
 use Rattle.sbx_domain.specs.Known.{is_location}
 use Rattle.sbx_rules.specs.Places.{address_of, block_at, function_at, no_block, no_function, or_block, or_function, words_in}
 use Rattle.sbx_rules.specs.Ways.{cells_at, out_cells}
-use Rattle.sbx_sound.specs.Order.{IsOrdered}
+use Rattle.sbx_sound.proofs.Order.{IsOrdered}
 use Rattle.sbx_sound.proofs.Onward.{HaveResults}
 
 -- what each item keeps with its fields, each item of a list keeps

@@ -1,6 +1,10 @@
 -- Each word's register fields are numbers of registers: by the rows of the format table.
 use Rattle.std.proofs.Common.{ℕ, ◌^◌, ◌<◌, Bool, true, false, List, [], ◌∷◌, arith}
 use Rattle.std.specs.Prelude.{if◌then◌else◌}
+use Rattle.v8_formats.specs.declared.instr.Operand.{Operand}
+use Rattle.v8_formats.specs.declared.instr.Operand.TheVariants.{Register, Immediate}
+use Rattle.v8_meaning.specs.declared.operation.Operation.{Operation}
+use Rattle.v8_meaning.specs.declared.operation.Operation.TheVariants.{Compute, Divide, TaggedTrap, SetHigh, ReadY, WriteY, Transfer, Save, Restore, JumpAndLink, TrapOnCondition}
 use Rattle.std.specs.List.{AllByRecursion}
 use Rattle.std.proofs.lemmas.Bool.Decides.{nat_tests}
 use Rattle.v8_word.specs.Word.{bits_of, sign_extend}
@@ -8,11 +12,37 @@ use Rattle.v8_formats.specs.Fields.{is_immediate, operand2, place, rd, rs1, rs2,
 use Rattle.v8_formats.specs.Table.{Row, lookup, matches, meaning, table}
 use Rattle.v8_formats.specs.declared.instr.Instr.{Instr}
 use Rattle.v8_formats.specs.declared.instr.Instr.TheVariants.{Undefined}
-use Rattle.v8_formats.specs.declared.instr.Operand.TheVariants as operands
-use Rattle.v8_formats.specs.declared.instr.Place.TheVariants as places
 use Rattle.v8_meaning.specs.Operations.{operation_of, second_of}
 use Rattle.sbx_flat.specs.Turns.{asked}
-use Rattle.sbx_sound.specs.LowFields.{LowFields, LowOperand, LowThree}
+use Rattle.v8_formats.specs.declared.instr.Operand.TheVariants as operands
+use Rattle.v8_formats.specs.declared.instr.Place.TheVariants as places
+
+-- ---- which fields these are
+
+abbrev pub LowOperand : Operand → Type 0
+LowOperand (Register r) = r < 32
+LowOperand (Immediate n) = n < 2 ^ 32
+
+pub record LowThree (rd rs1 : ℕ) (operand2 : Operand) : Type 0 where
+  pub rd_low : rd < 32
+  pub rs1_low : rs1 < 32
+  pub operand_low : LowOperand operand2
+
+abbrev pub LowFields : Operation → Type 0
+LowFields (Compute op f) = LowThree f.rd f.rs1 f.operand2
+LowFields (Divide op f) = LowThree f.rd f.rs1 f.operand2
+LowFields (TaggedTrap op f) = LowThree f.rd f.rs1 f.operand2
+LowFields (SetHigh f) = f.rd < 32
+LowFields (ReadY rd) = rd < 32
+LowFields (WriteY f) = LowThree 0 f.rs1 f.operand2
+LowFields (Transfer t m) = LowThree m.rd m.rs1 m.operand2
+LowFields (Save f) = LowThree f.rd f.rs1 f.operand2
+LowFields (Restore f) = LowThree f.rd f.rs1 f.operand2
+LowFields (JumpAndLink f) = LowThree f.rd f.rs1 f.operand2
+LowFields (TrapOnCondition t) = LowThree 0 t.rs1 t.operand2
+LowFields _ = Unit {0}
+
+-- ---- by the rows
 
 low_bits : (w low : ℕ) → bits_of w low 5 < 32
 low_bits w low = omega arith

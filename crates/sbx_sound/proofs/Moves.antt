@@ -41,9 +41,9 @@ use Rattle.sbx_fits.proofs.Others.{moves_keep_fitting, quotients_keep_fitting, t
 use Rattle.sbx_rules.specs.Operations.{is_framed, reads_of, second_reads, writes_of}
 use Rattle.sbx_rules.specs.Places.{function_at}
 use Rattle.sbx_rules.specs.Rules.{holds_zero, is_defined, is_some, may_divide_by_zero, may_overflow, reads_undefined, tagged_ranges_fit, touches_reserved}
-use Rattle.sbx_sound.specs.LowFields.{LowOperand, LowThree}
-use Rattle.sbx_sound.specs.Running.{tests, window_of}
-use Rattle.sbx_sound.specs.Shared.{Lent, Window, with_location}
+use Rattle.sbx_sound.proofs.LowFields.{LowOperand, LowThree}
+use Rattle.sbx_sound.proofs.Running.{tests, window_of}
+use Rattle.sbx_sound.proofs.Shared.{Lent, Window, with_location}
 use Rattle.sbx_sound.proofs.Effects.{read_shown}
 use Rattle.sbx_sound.proofs.Frames.{IsFree}
 use Rattle.sbx_sound.proofs.Read.{free_register, read_known, second_shown, write_allowed, y_known}
@@ -51,10 +51,7 @@ use Rattle.sbx_sound.proofs.Safe.{ShowsSpot, Spot}
 use Rattle.sbx_sound.proofs.Steps.{Does, linked_at, op_of}
 use Rattle.sbx_sound.proofs.Writing.{entry_defined, keeps_codes, keeps_y, then_knows, writes_one}
 use Rattle.sbx_sound.proofs.Written.{entry_codes, entry_y, fits_shown, other_defined}
-
-undone : (x : Bool) → not x ≡ false → x ≡ true
-undone true h = refl
-undone false h = absurd (cc)
+use Rattle.sbx_sound.proofs.Tests.{undone}
 
 -- ---- divisions: the quotient looks at Y, and its codes at nothing else
 

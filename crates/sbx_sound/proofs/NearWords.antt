@@ -32,7 +32,7 @@ use Rattle.sbx_fits.proofs.Memory.{data_keeps_fitting, frame_words_keep_fitting}
 use Rattle.sbx_fits.proofs.Others.{moves_keep_fitting, quotients_keep_fitting, tagged_results_keep_fitting}
 use Rattle.sbx_fits.proofs.Results.{results_keep_fitting}
 use Rattle.sbx_fits.specs.Held.{AreFields, AreRestored, AreSaved, Held, IsOperand, Keeps, tagged_value, with_location, with_pairs, with_result}
-use Rattle.sbx_sound.specs.LowFields.{LowFields, LowOperand, LowThree}
+use Rattle.sbx_sound.proofs.LowFields.{LowFields, LowOperand, LowThree}
 
 -- some words are in the intervals
 pub record HasNear (start : Cells) (d : Known) : Type 0 where

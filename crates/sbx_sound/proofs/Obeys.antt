@@ -18,22 +18,22 @@ use Rattle.sbx_rules.specs.Operations.{access_of, frame_offset, is_framed, is_re
 use Rattle.sbx_rules.specs.Places.{ends_run, function_at, op_at, service_asked, word_of_place}
 use Rattle.sbx_rules.specs.Rules.{is_aligned_access, is_declared, is_entry, is_frame_size, is_placed_access, is_save_of, may_divide_by_zero, may_overflow, reads_undefined, touches_reserved}
 use Rattle.sbx_rules.specs.Verdicts.{Checked}
-use Rattle.sbx_sound.specs.LowFields.{LowFields}
-use Rattle.sbx_sound.specs.Order.{IsOrdered}
-use Rattle.sbx_sound.specs.Running.{bytes_of, window_of}
-use Rattle.sbx_sound.specs.Shared.{Lent}
+use Rattle.sbx_sound.proofs.LowFields.{LowFields, low_fields}
+use Rattle.sbx_sound.proofs.Order.{IsOrdered}
+use Rattle.sbx_sound.proofs.Running.{bytes_of, window_of}
+use Rattle.sbx_sound.proofs.Shared.{Lent}
 use Rattle.sbx_sound.proofs.Asked.{admitted, asks_declared, divides_well, enters, fits_tagged, keeps_reserved, reaches_aligned, reaches_placed, reads_known}
 use Rattle.sbx_sound.proofs.DataSteps.{accesses, exchanges_data, loads, stores}
 use Rattle.sbx_sound.proofs.FrameSteps.{HasFrame, loads_frame_word, stores_frame_word}
 use Rattle.sbx_sound.proofs.Goes.{begin_place}
-use Rattle.sbx_sound.proofs.LowFields.{low_fields}
 use Rattle.sbx_sound.proofs.Moves.{divides, reads_the_y, sets_high, tags, writes_the_y}
 use Rattle.sbx_sound.proofs.Read.{computes_checked}
 use Rattle.sbx_sound.proofs.Safe.{Spot}
 use Rattle.sbx_sound.proofs.Served.{serves}
-use Rattle.sbx_sound.proofs.Steps.{Does, and_right, op_of}
+use Rattle.sbx_sound.proofs.Steps.{Does, op_of}
 use Rattle.sbx_sound.proofs.Straight.{inside, lent_leaf, own_inside}
 use Rattle.sbx_sound.proofs.Wells.{enters_framed}
+use Rattle.sbx_sound.proofs.Tests.{and_right}
 
 -- ---- which words these are
 

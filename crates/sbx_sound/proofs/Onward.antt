@@ -21,8 +21,8 @@ use Rattle.sbx_rules.specs.Places.{IsPlace, address_of, callee_before, ends_run,
 use Rattle.sbx_rules.specs.Rules.{has_cells, is_back, is_inner_edge, is_past, now}
 use Rattle.sbx_rules.specs.Verdicts.{Checked}
 use Rattle.sbx_rules.specs.Ways.{Past, To, Visit, Way, after_call, after_word, branch_way, cells_at, falls, state_at, way_to}
-use Rattle.sbx_sound.specs.Order.{IsOrdered}
-use Rattle.sbx_sound.specs.Running.{IsVisit, straight_visit}
+use Rattle.sbx_sound.proofs.Order.{IsOrdered}
+use Rattle.sbx_sound.proofs.Running.{IsVisit, straight_visit}
 use Rattle.sbx_sound.proofs.Arrivals.{goes_straight, is_straight_visit}
 use Rattle.sbx_sound.proofs.Asked.{branches_well, has_shape}
 use Rattle.sbx_sound.proofs.Branches.{not_always, taken, taken_is, untaken, untaken_is}

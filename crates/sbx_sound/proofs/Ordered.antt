@@ -11,8 +11,9 @@ use Rattle.sbx_flat.specs.Turns.{word_at}
 use Rattle.sbx_flat.proofs.Turns.{word_at_place}
 use Rattle.sbx_rules.specs.Places.{IsPlace, address_of, address_or_end, block_at, ends_run, function_at, function_end, no_block, op_at, or_block, word_of_place, words_in}
 use Rattle.sbx_rules.specs.Ways.{Next, Past, To, falls, falls_to}
-use Rattle.sbx_sound.specs.Order.{HasWords, IsOrdered}
-use Rattle.sbx_sound.specs.Running.{Follows}
+use Rattle.sbx_sound.proofs.Order.{HasWords, IsOrdered}
+use Rattle.sbx_sound.proofs.Running.{Follows}
+use Rattle.sbx_sound.proofs.Tests.{less_of}
 
 same_quarter : (a k : ℕ) → a ≡ code_start + 4 * k → (a - code_start) / 4 ≡ k
 same_quarter a k e = omega (arith, e)
@@ -23,9 +24,6 @@ first_word parts f b = omega arith
 
 last_one : (n i : ℕ) → i < n → nat_lt (i + 1) n ≡ false → suc i ≡ n
 last_one n i less e = grind (arith, nat_tests)
-
-less_of : (m n : ℕ) → nat_lt m n ≡ true → m < n
-less_of m n e = grind (arith, nat_tests)
 
 module _ (parts : Parts) (ordered : IsOrdered parts) (f b i : ℕ) (place : IsPlace parts f b i) where
   has_words : HasWords parts f b

@@ -26,8 +26,8 @@ use Rattle.sbx_domain.specs.Known.{Known, with_entry, with_y}
 use Rattle.sbx_domain.specs.declared.relation.Relation.{Relation}
 use Rattle.sbx_rules.specs.Rules.{is_defined, is_some}
 use Rattle.sbx_rules.specs.Places.{function_at}
-use Rattle.sbx_sound.specs.Running.{tests, window_of}
-use Rattle.sbx_sound.specs.Shared.{KnownParts, Shows, Window, with_location}
+use Rattle.sbx_sound.proofs.Running.{tests, window_of}
+use Rattle.sbx_sound.proofs.Shared.{KnownParts, Shows, Window, with_location}
 use Rattle.sbx_domain.specs.Results.{register_entry, operand_entry, result_of}
 use Rattle.sbx_domain.specs.Transfer.{relation_of, sets_codes, transferred, with_codes}
 use Rattle.sbx_sound.proofs.Effects.{IsFewer, Reaches, codes_show, moved_on, reaches_by, read_shown, with_codes_known, with_word_known, writes_reach}

@@ -15,7 +15,8 @@ use Rattle.sbx_domain.specs.Known.{Known, form_of_entry, plain_entry_of, range_o
 use Rattle.sbx_domain.specs.Forms.{form_value}
 use Rattle.sbx_rules.specs.Ways.{Visit, fuel_at, state_at, weight_to}
 use Rattle.sbx_rules.specs.Places.{IsPlace, op_at}
-use Rattle.sbx_sound.specs.Running.{IsVisit, left_at}
+use Rattle.sbx_sound.specs.Positive.{left_at}
+use Rattle.sbx_sound.proofs.Running.{IsVisit}
 use Rattle.sbx_form.specs.Forms.{Cells}
 use Rattle.sbx_domain.specs.Transfer.{called, is_out}
 use Rattle.sbx_sound.proofs.Ledger.{edge_pays, numbers}

@@ -18,22 +18,15 @@ use Rattle.sbx_fits.specs.Held.{IsOperand}
 use Rattle.sbx_rules.specs.Operations.{frame_word_read, is_framed, is_reserved, may_write, reads_codes, reads_of, reads_y, second_reads, writes_of}
 use Rattle.sbx_rules.specs.Places.{function_at}
 use Rattle.sbx_rules.specs.Rules.{is_defined, is_some, is_undefined_word, reads_undefined, touches_reserved}
-use Rattle.sbx_sound.specs.LowFields.{LowOperand, LowThree}
-use Rattle.sbx_sound.specs.Running.{tests, window_of}
-use Rattle.sbx_sound.specs.Shared.{Lent, Window}
+use Rattle.sbx_sound.proofs.LowFields.{LowOperand, LowThree}
+use Rattle.sbx_sound.proofs.Running.{tests, window_of}
+use Rattle.sbx_sound.proofs.Shared.{Lent, Window}
 use Rattle.sbx_sound.proofs.Effects.{read_shown}
 use Rattle.sbx_sound.proofs.Frames.{IsFree}
 use Rattle.sbx_sound.proofs.Plain.{computes}
 use Rattle.sbx_sound.proofs.Safe.{ShowsSpot, Spot}
 use Rattle.sbx_sound.proofs.Steps.{Does, linked_at, op_of}
-
-or_left : (a b : Bool) → (a || b) ≡ false → a ≡ false
-or_left true b h = absurd (cc)
-or_left false b h = refl
-
-or_right : (a b : Bool) → (a || b) ≡ false → b ≡ false
-or_right true b h = absurd (cc)
-or_right false b h = h
+use Rattle.sbx_sound.proofs.Tests.{asked_of, or_left, or_right, undone}
 
 four : (p q r s : Bool) → (p || q || r || s) ≡ false → (p ≡ false) × (q ≡ false) × (r ≡ false) × (s ≡ false)
 four false false false false h = (refl, refl, refl, refl)
@@ -41,16 +34,6 @@ four true q r s h = absurd (cc)
 four false true r s h = absurd (cc)
 four false false true s h = absurd (cc)
 four false false false true h = absurd (cc)
-
--- a test that is asked and not met
-asked_of : (a b : Bool) → (a && not b) ≡ false → a ≡ true → b ≡ true
-asked_of true true h e = refl
-asked_of true false h e = absurd (cc)
-asked_of false b h e = absurd (cc)
-
-undone : (x : Bool) → not x ≡ false → x ≡ true
-undone true h = refl
-undone false h = absurd (cc)
 
 known_of : (a b c : Bool) → (not a && not b && not c) ≡ false → a ≡ false → b ≡ false → c ≡ true
 known_of false false true h p q = refl

@@ -2,7 +2,7 @@
 use Rattle.sbx_domain.specs.Results.{operand_entry, register_entry, result_of}
 use Rattle.sbx_sound.proofs.Entries.{called_low, restored_out, result_at, some_of_result, with_entry_other}
 use Rattle.sbx_domain.specs.declared.entry.Entry.{Entry}
-use Rattle.std.proofs.Common.{◌≡◌, ◌≢◌, ℕ, zero, suc, ◌+◌, ◌-◌, ◌%◌, ◌^◌, ◌<◌, ◌≤◌, Bool, true, false, List, [], ◌∷◌, Option, Some, None, refl, sym, ap, ◌∙◌, subst, inl, inr, arith}
+use Rattle.std.proofs.Common.{◌≡◌, ◌≢◌, ℕ, zero, suc, ◌+◌, ◌-◌, ◌%◌, ◌^◌, ◌<◌, ◌≤◌, Bool, true, false, List, [], ◌∷◌, Option, None, refl, sym, ap, ◌∙◌, subst, inl, inr, arith}
 use Rattle.v8_alu.specs.declared.Op.TheVariants as ops
 use Rattle.std.specs.Prelude.{◌⊎◌, ◌==◌, ◌&&◌, ◌||◌, not, nat_lt, nat_le, if◌then◌else◌, slice_get}
 use Rattle.std.proofs.lemmas.Bool.Decides.{nat_tests}
@@ -21,12 +21,12 @@ use Rattle.sbx_rules.specs.Fuel.{IsPaid}
 use Rattle.sbx_rules.specs.Rules.{has_cells, has_outs, has_range, is_defined, is_some}
 use Rattle.sbx_rules.specs.Operations.{is_call, is_framed}
 use Rattle.sbx_domain.specs.Fits.{Fits, HasAlignment, HasInterval}
-use Rattle.sbx_domain.specs.Known.{Known, range_at, range_of_entry}
+use Rattle.sbx_domain.specs.Known.{Known, range_at}
 use Rattle.sbx_rules.specs.Ways.{Next, To, Way, cells_at, falls, fuel_at, state_at, weight_to}
 use Rattle.sbx_rules.specs.Places.{address_of, function_at, op_at, op_before}
-use Rattle.sbx_sound.specs.Running.{After, AreOpen, At, Follows, IsOpen, IsThere, known_after, straight_visit, tests, window_of}
+use Rattle.sbx_sound.proofs.Running.{After, AreOpen, At, Follows, IsOpen, IsThere, known_after, straight_visit, tests, window_of}
 use Rattle.sbx_form.specs.Forms.{Cells}
-use Rattle.sbx_sound.specs.Shared.{KnownParts, Lent, Open, Own, Shared, Shows, ShowsFile, Window, with_location}
+use Rattle.sbx_sound.proofs.Shared.{KnownParts, Lent, Open, Own, Shared, Shows, ShowsFile, Window, with_location}
 use Rattle.sbx_domain.specs.Transfer.{is_out, transferred, called, restored}
 use Rattle.sbx_sound.proofs.Arrivals.{Left, after_edge, after_next, after_no_call, goes_straight, left_by}
 use Rattle.sbx_sound.proofs.CallSteps.{own_window}
@@ -35,20 +35,9 @@ use Rattle.sbx_sound.proofs.Frames.{IsFree, IsGivenBack, given_back, leaf_shows,
 use Rattle.sbx_sound.proofs.Ledger.{numbers}
 use Rattle.sbx_sound.proofs.Returns.{Brings, ReturnsWell, comes, in_slot_of, known_is}
 use Rattle.sbx_sound.proofs.Safe.{ShowsSpot, Spot, Steps}
-use Rattle.sbx_sound.proofs.Steps.{Does, IsWord, known_then, less_shows, reaches_on, starts_with_less, steps_by, and_left, and_right}
+use Rattle.sbx_sound.proofs.Steps.{Does, IsWord, known_then, less_shows, reaches_on, some_within, starts_with_less, steps_by}
 use Rattle.sbx_sound.proofs.Transfers.{ComesStraight, return_at, return_visit}
-
-if_pick : (t : Bool) (A : Type 0) (x y : A) → t ≡ true → (if t then x else y) ≡ x
-if_pick true A x y e = refl
-if_pick false A x y e = absurd (cc)
-
-if_skip : (t : Bool) (A : Type 0) (x y : A) → t ≡ false → (if t then x else y) ≡ y
-if_skip true A x y e = absurd (cc)
-if_skip false A x y e = refl
-
-some_within : (o : Option Entry) (r : Range) → has_range (range_of_entry o) r ≡ true → is_some o ≡ true
-some_within None r h = absurd (cc)
-some_within (Some s) r h = refl
+use Rattle.sbx_sound.proofs.Tests.{and_left, and_right, if_false, if_true}
 
 -- a location for which there is a result is known
 outs_known : (first : ℕ) (results : List Range) (d : Known) → has_outs first results d ≡ true → (n l : ℕ) → l ≡ first + n → is_some (slice_get results n) ≡ true → is_defined d l ≡ true
@@ -76,7 +65,7 @@ module _ (parts : Parts) where
     pub known : d ≡ state_at parts f b (suc i)
     pub straight : goes_straight (op_at parts f b i) ≡ true
     pub no_call : is_call (op_at parts f b i) ≡ false
-    pub follows : IsThere parts f b (suc i)
+    pub there : IsThere parts f b (suc i)
 
   -- control goes to a block
   pub record GoesToBlock (f b i : ℕ) (d : Known) (way : Way) : Type 0 where
@@ -85,7 +74,7 @@ module _ (parts : Parts) where
     pub some : t ≢ 0
     pub cells : has_cells d (cells_at parts f t) ≡ true
     pub paid : IsPaid (state_at parts f b 0) (fuel_at parts f b) (weight_to parts f b (suc i)) d (fuel_at parts f t)
-    pub follows : IsThere parts f t 0
+    pub there : IsThere parts f t 0
 
   -- where it arrives, and that a state which shows what is known shows that
   pub record Arrives (n : ℕ) (k : Shared) (d : Known) (window : Window) : Type 0 where
@@ -95,7 +84,7 @@ module _ (parts : Parts) where
   pub arrives_next : (n : ℕ) (k : Shared) (f b i : ℕ) (d : Known) (way : Way) (start : Cells) → is_framed (function_at parts f).kind ≡ true → GoesNext f b i d way → After parts n k f b i d way start → Arrives n k d (Own (function_at parts f).frame)
   arrives_next n k f b i d way start framed g a =
       let there = subst (λ x. After parts n k f b i (state_at parts f b (suc i)) x start) g.way_is (subst (λ x. After parts n k f b i x way start) g.known a) in
-      let spot : Spot parts n = record { k = k; f = f; b = b; i = suc i; v = straight_visit parts f b (suc i); start = start; at = after_next parts n k f b i start g.straight g.no_call g.follows there } in
+      let spot : Spot parts n = record { k = k; f = f; b = b; i = suc i; v = straight_visit parts f b (suc i); start = start; at = after_next parts n k f b i start g.straight g.no_call g.there there } in
       record {
         spot = spot;
         shows = λ s h. (let h1 = subst (λ x. Shows x (tests parts d false) k s) (sym (own_window (function_at parts f) b i framed)) h in
@@ -114,7 +103,7 @@ module _ (parts : Parts) where
   unfolding state_at
   arrives_block n k f b i d way start framed g a =
       let there = subst (λ x. After parts n k f b i d x start) g.way_is a in
-      let spot : Spot parts n = record { k = k; f = f; b = g.t; i = 0; v = straight_visit parts f g.t 0; start = numbers k.words; at = after_edge parts n k f b i g.t d start g.some g.cells g.paid g.follows there } in
+      let spot : Spot parts n = record { k = k; f = f; b = g.t; i = 0; v = straight_visit parts f g.t 0; start = numbers k.words; at = after_edge parts n k f b i g.t d start g.some g.cells g.paid g.there there } in
       record {
         spot = spot;
         shows = λ s h. (let h1 = subst (λ x. Shows x (tests parts d false) k s) (sym (block_window (function_at parts f) g.t framed g.some)) h in
@@ -229,8 +218,8 @@ module _ (parts : Parts) where
       leaf_brings f c cs now words call small none fits = record {
         are_words = λ l. word_either (nat_lt l 16) (words l) (c.words l) (2 ^ 32) (small l) (call.are_words l);
         zero = none;
-        outs = λ l g h. (let e : left_by_leaf c words l ≡ words l = if_pick (nat_lt l 16) ℕ (words l) (c.words l) (below l h) in record { range = subst (HasInterval (range_at now l)) (sym e) (fits l).0; multiple = subst (HasAlignment (range_at now l)) (sym e) (fits l).1 });
-        kept = λ l h. if_skip (nat_lt l 16) ℕ (words l) (c.words l) (above l h);
+        outs = λ l g h. (let e : left_by_leaf c words l ≡ words l = if_true (nat_lt l 16) ℕ (words l) (c.words l) (below l h) in record { range = subst (HasInterval (range_at now l)) (sym e) (fits l).0; multiple = subst (HasAlignment (range_at now l)) (sym e) (fits l).1 });
+        kept = λ l h. if_false (nat_lt l 16) ℕ (words l) (c.words l) (above l h);
       }
         where
           word_either : (t : Bool) (x y n : ℕ) → x < n → y < n → (if t then x else y) < n

@@ -18,39 +18,36 @@ use Rattle.sbx_form.specs.Forms.{Cells}
 use Rattle.sbx_domain.specs.Fits.{Words}
 use Rattle.sbx_domain.specs.Transfer.{is_out, transferred}
 use Rattle.sbx_fits.proofs.Frames.{frames_keep_fitting}
-use Rattle.sbx_fits.specs.Held.{AreRestored, Held, IsOperand}
+use Rattle.sbx_fits.specs.Held.{AreRestored, Held}
 use Rattle.sbx_rules.specs.Operations.{is_call, is_framed, is_framed_return, is_restore, is_return, is_save, is_transfer, is_trap, may_write, reads_of, second_reads, writes_of}
 use Rattle.sbx_rules.specs.Places.{IsPlace, address_of, callee_at, callee_of, ends_run, function_at, op_at, op_before, word_of_place, words_in}
 use Rattle.sbx_rules.specs.Rules.{has_outs, is_defined, is_entry, reads_undefined, same_test, suits, touches_reserved}
 use Rattle.sbx_rules.specs.Verdicts.{Checked}
 use Rattle.sbx_rules.specs.Ways.{Next, Past, To, falls, falls_to, state_at}
-use Rattle.sbx_sound.specs.LowFields.{LowFields, LowOperand, LowThree}
-use Rattle.sbx_sound.specs.Order.{IsOrdered}
-use Rattle.sbx_sound.specs.Running.{AreOpen, At, Follows, IsOpen, known_after, straight_visit, tests, window_of}
-use Rattle.sbx_sound.specs.Shared.{Lent, Open, Own, Shared, Window}
+use Rattle.sbx_sound.proofs.LowFields.{LowFields, LowThree, low_fields}
+use Rattle.sbx_sound.proofs.Order.{IsOrdered}
+use Rattle.sbx_sound.proofs.Running.{AreOpen, At, Follows, IsOpen, known_after, straight_visit, tests, window_of}
+use Rattle.sbx_sound.proofs.Shared.{Lent, Open, Own, Shared, Window}
 use Rattle.sbx_sound.proofs.Arrivals.{after_no_call, goes_straight}
 use Rattle.sbx_sound.proofs.Asked.{admitted, has_results, has_shape, keeps_reserved, no_return, reads_known, restores_in_slot, slot_follows, suits_kind}
 use Rattle.sbx_sound.proofs.Effects.{read_shown}
 use Rattle.sbx_sound.proofs.Frames.{IsFree, given_back}
 use Rattle.sbx_sound.proofs.FromChecked.{return_is_paid}
 use Rattle.sbx_sound.proofs.Goes.{goes_on}
-use Rattle.sbx_sound.proofs.LowFields.{low_fields}
 use Rattle.sbx_sound.proofs.Ordered.{follows, lies_at_four, lies_low}
+use Rattle.sbx_sound.proofs.Moves.{operand_of, second_read}
 use Rattle.sbx_sound.proofs.Read.{read_known, second_shown, write_allowed}
 use Rattle.sbx_sound.proofs.ReturnSteps.{GoesOn, leaf_slot, restore_slot, ret_word, retl_word}
 use Rattle.sbx_sound.proofs.Returns.{ReturnsWell}
 use Rattle.sbx_sound.proofs.Safe.{ShowsSpot, Spot, Steps}
 use Rattle.sbx_sound.proofs.Steps.{Does}
-use Rattle.sbx_sound.proofs.Straight.{inside, same_bytes, word_is}
+use Rattle.sbx_sound.proofs.Straight.{inside, own_inside, same_bytes, word_is}
 use Rattle.sbx_sound.proofs.Transfers.{ComesStraight, return_visit}
 use Rattle.sbx_sound.proofs.Visits.{is_return_visit}
 use Rattle.sbx_sound.proofs.Written.{fits_shown}
+use Rattle.sbx_sound.proofs.Tests.{and_denied, equal_numbers}
 
 -- ---- tests
-
-and_false : (a b : Bool) → (a && b) ≡ false → a ≡ true → b ≡ false
-and_false true b h e = h
-and_false false b h e = absurd (cc)
 
 or_parts : (a b : Bool) → (a || b) ≡ false → (a ≡ false) × (b ≡ false)
 or_parts false false h = (refl, refl)
@@ -83,7 +80,7 @@ plain_word _ h g = record { no_transfer = refl; straight = refl; no_call = refl;
 pub slot_keeps_on : (parts : Parts) (checked : Checked parts) (f b j : ℕ) → IsPlace parts f b (suc j) → is_transfer (op_at parts f b j) ≡ true → (is_transfer (op_at parts f b (suc j)) ≡ false) × (is_trap (op_at parts f b (suc j)) ≡ false)
 slot_keeps_on parts checked f b j place transfers =
     let op = op_at parts f b (suc j) in
-    or_parts (is_transfer op) (is_trap op) (and_false (is_transfer (op_at parts f b j)) (is_transfer op || is_trap op) (has_shape parts checked f b (suc j) place).slot transfers)
+    or_parts (is_transfer op) (is_trap op) (and_denied (is_transfer (op_at parts f b j)) (is_transfer op || is_trap op) (has_shape parts checked f b (suc j) place).slot transfers)
 
 pub slot_is_plain : (parts : Parts) (checked : Checked parts) (f b j : ℕ) → IsPlace parts f b (suc j) → is_transfer (op_at parts f b j) ≡ true → IsPlainWord (op_at parts f b (suc j))
 slot_is_plain parts checked f b j place transfers =
@@ -101,10 +98,6 @@ slot_is_no_save parts checked f b j place =
     no_save false e k h g = refl
     no_save true false k h g = absurd (cc)
     no_save true true k h g = absurd (cc)
-
--- `ret` and `retl` have one spelling each
-equal_numbers : (m n : ℕ) → (m == n) ≡ true → m ≡ n
-equal_numbers m n e = grind (arith, nat_tests)
 
 immediate_is : (n : ℕ) (o : Operand) → is_immediate_of n o ≡ true → o ≡ Immediate n
 immediate_is n (Immediate m) h = ap Immediate (equal_numbers m n h)
@@ -164,14 +157,6 @@ lent_window function b i h = by_kind (is_framed function.kind) (not ((b == 0) &&
     by_kind : (t e : Bool) → t ≡ false → (if t && e then Own function.frame else Lent) ≡ Lent
     by_kind false e h = refl
     by_kind true e h = absurd (cc)
-
-own_inside : (function : Function) (b i : ℕ) → (is_framed function.kind && is_entry b i) ≡ false → is_framed function.kind ≡ true → window_of function b i ≡ Own function.frame
-own_inside function b i h = by_kind (is_framed function.kind) ((b == 0) && (i == 0)) h
-  where
-    by_kind : (t e : Bool) → (t && e) ≡ false → t ≡ true → (if t && not e then Own function.frame else Lent) ≡ Own function.frame
-    by_kind false e h l = absurd (cc)
-    by_kind true true h l = absurd (cc)
-    by_kind true false h l = refl
 
 falls_inside : (end : Bool) (words blocks b i : ℕ) → end ≡ false → suc i < words → falls_to end words blocks b i ≡ Next
 falls_inside end words blocks b i runs_on less =
@@ -326,15 +311,8 @@ module _ (parts : Parts) (checked : Checked parts) (ordered : IsOrdered parts) (
 
   -- ---- RESTORE in the slot
 
-  second_read : (rs1 : ℕ) (o : Operand) (r : ℕ) → o ≡ Register r → slice_get (rs1 ∷ second_reads o) 1 ≡ Some r
-  second_read rs1 o r e = ap (λ x. slice_get (rs1 ∷ second_reads x) 1) e
-
   is_test : (l : ℕ) (a linked : Bool) → l ≢ 0 → a ≡ true → (not (l == 0) && (a || ((l == 15) && linked))) ≡ true
   is_test l a linked some h = grind (arith, nat_tests)
-
-  operand_of : (o : Operand) → LowOperand o → IsOperand o
-  operand_of (Register r) h = tt
-  operand_of (Immediate n) h = h
 
   module _ (w : ℕ) (p : Spot parts w) (t : Three) (low : LowThree t.rd t.rs1 t.operand2) (known : reads_undefined (function_at parts p.f) (Restore t) p.v.known ≡ false) (kept : touches_reserved (function_at parts p.f) (Restore t) ≡ false) where
     sum_shown : (s : State) → ShowsSpot parts w p s → address (reg s) t.rs1 t.operand2 ≡ address p.k.words t.rs1 t.operand2

@@ -1,7 +1,7 @@
 -- The return of a callee: its caller goes on, with the results, and with what it kept.
 use Rattle.sbx_sound.proofs.Entries.{called_form, called_range, result_at}
 use Rattle.std.proofs.Common.{◌≡◌, ℕ, zero, suc, ◌+◌, ◌-◌, ◌^◌, ◌<◌, ◌≤◌, Bool, true, false, List, [], ◌∷◌, length, Option, Some, None, refl, sym, ap, ◌∙◌, subst, arith}
-use Rattle.std.specs.Prelude.{pos, ◌+ℤ◌, ◌-ℤ◌, ◌≤ℤ◌, ◌&&◌, nat_le, if◌then◌else◌, slice_get}
+use Rattle.std.specs.Prelude.{pos, ◌+ℤ◌, ◌-ℤ◌, ◌≤ℤ◌, nat_le, if◌then◌else◌, slice_get}
 use Rattle.std.proofs.lemmas.Bool.Decides.{nat_tests}
 use Rattle.v8_word.specs.declared.Icc.{Icc}
 use Rattle.v8_meaning.specs.Operands.{following}
@@ -17,20 +17,13 @@ use Rattle.sbx_domain.specs.Known.{Known, range_at, form_at}
 use Rattle.sbx_domain.specs.Forms.{form_value}
 use Rattle.sbx_rules.specs.Ways.{Visit, Way, after_call, falls, fuel_at, state_at, weight_to}
 use Rattle.sbx_rules.specs.Places.{address_of, callee_at, function_at, op_at}
-use Rattle.sbx_sound.specs.Running.{After, AreOpen, At, Follows, GoesTo, IsOpen, back_of, known_after, left_to, left_to_all}
+use Rattle.sbx_sound.proofs.Running.{After, AreOpen, At, Follows, GoesTo, IsOpen, back_of, known_after, left_to, left_to_all}
 use Rattle.sbx_form.specs.Forms.{Cells}
-use Rattle.sbx_sound.specs.Shared.{AreStored, Open, Shared}
+use Rattle.sbx_sound.proofs.Shared.{AreStored, Open, Shared}
 use Rattle.sbx_domain.specs.Transfer.{called, transferred, is_out}
 use Rattle.sbx_sound.proofs.Arrivals.{Left, framed_bytes, left_by, weight_next}
 use Rattle.sbx_sound.proofs.Ledger.{interval_within, multiple_within, one_return, one_word}
-
-and_left : (a b : Bool) → (a && b) ≡ true → a ≡ true
-and_left true b h = refl
-and_left false b h = absurd (cc)
-
-and_right : (a b : Bool) → (a && b) ≡ true → b ≡ true
-and_right true b h = h
-and_right false b h = absurd (cc)
+use Rattle.sbx_sound.proofs.Tests.{and_left, and_right}
 
 -- a word fits in a range, where there is one
 pub record IsIn (o : Option Range) (w : ℕ) : Type 0 where

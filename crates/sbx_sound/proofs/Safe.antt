@@ -12,9 +12,10 @@ use Rattle.sbx_flat.proofs.Turns.{weighs_some}
 use Rattle.sbx_rules.specs.Operations.{is_call}
 use Rattle.sbx_rules.specs.Ways.{Visit}
 use Rattle.sbx_rules.specs.Places.{function_at, op_before}
-use Rattle.sbx_sound.specs.Running.{At, left_at, left_to_all, tests, window_of}
+use Rattle.sbx_sound.specs.Positive.{left_at}
+use Rattle.sbx_sound.proofs.Running.{At, left_to_all, tests, window_of}
 use Rattle.sbx_form.specs.Forms.{Cells}
-use Rattle.sbx_sound.specs.Shared.{Shared, Shows}
+use Rattle.sbx_sound.proofs.Shared.{Shared, Shows}
 use Rattle.sbx_sound.proofs.Effects.{Reaches}
 use Rattle.sbx_sound.proofs.Ledger.{all_left, within_budget}
 

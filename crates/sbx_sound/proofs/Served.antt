@@ -21,8 +21,8 @@ use Rattle.sbx_fits.proofs.Branches.{services_keep_fitting}
 use Rattle.sbx_rules.specs.Operations.{is_framed, reads_of, service_reads}
 use Rattle.sbx_rules.specs.Places.{function_at, is_exit}
 use Rattle.sbx_rules.specs.Rules.{is_declared, reads_undefined, touches_reserved}
-use Rattle.sbx_sound.specs.Running.{window_of}
-use Rattle.sbx_sound.specs.Shared.{Lent}
+use Rattle.sbx_sound.proofs.Running.{window_of}
+use Rattle.sbx_sound.proofs.Shared.{Lent}
 use Rattle.sbx_sound.proofs.DataWords.{got, gets_byte, puts_byte}
 use Rattle.sbx_sound.proofs.Moves.{register_shown}
 use Rattle.sbx_sound.proofs.Read.{read_known}

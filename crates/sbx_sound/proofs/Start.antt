@@ -17,10 +17,10 @@ use Rattle.sbx_rules.specs.Rules.{is_defined, is_some}
 use Rattle.sbx_domain.specs.Forms.{form_value}
 use Rattle.sbx_rules.specs.Places.{IsPlace, address_of, function_at}
 use Rattle.sbx_rules.specs.Ways.{cells_at, falls, fuel_at, state_at, weight_to}
-use Rattle.sbx_sound.specs.Positive.{IsPositive}
-use Rattle.sbx_sound.specs.Running.{At, Follows, left_at, straight_visit, tests}
+use Rattle.sbx_sound.specs.Positive.{IsPositive, left_at}
+use Rattle.sbx_sound.proofs.Running.{At, Follows, straight_visit, tests}
 use Rattle.sbx_form.specs.Forms.{Cells}
-use Rattle.sbx_sound.specs.Shared.{Lent, Shared, Shows, ShowsCalls, stack_start}
+use Rattle.sbx_sound.proofs.Shared.{Lent, Shared, Shows, ShowsCalls, stack_start}
 use Rattle.sbx_sound.proofs.Arrivals.{entry_bytes, is_straight_visit}
 use Rattle.sbx_sound.proofs.CallSteps.{entry_window}
 use Rattle.sbx_sound.proofs.Stored.{stored_at_start}

@@ -22,8 +22,8 @@ use Rattle.sbx_domain.specs.Fits.{Fits}
 use Rattle.sbx_domain.specs.Known.{Known, started, range_of_entry}
 use Rattle.sbx_rules.specs.Ways.{Next, To, cells_at, fuel_at, state_at, weight_to}
 use Rattle.sbx_rules.specs.Places.{address_of, function_at, op_at, op_before, word_of_place}
-use Rattle.sbx_sound.specs.Running.{After, IsThere, straight_visit, tests, window_of, bytes_of}
-use Rattle.sbx_sound.specs.Shared.{AreStored, KnownParts, Shared, Shows, Window}
+use Rattle.sbx_sound.proofs.Running.{After, IsThere, straight_visit, tests, window_of, bytes_of}
+use Rattle.sbx_sound.proofs.Shared.{AreStored, KnownParts, Shared, Shows, Window}
 use Rattle.sbx_domain.specs.Transfer.{transferred}
 use Rattle.sbx_sound.proofs.Arrivals.{Left, after_edge, after_next, after_no_call, after_plain, goes_straight, left_by}
 use Rattle.sbx_sound.proofs.Effects.{Reaches}
@@ -52,17 +52,9 @@ reaches_on t P Q f r = record { next = r.next; goes = r.goes; is = f r.next r.is
 
 -- ---- what a block's start knows is known on the edge
 
-some_within : (o : Option Entry) (r : Range) → has_range (range_of_entry o) r ≡ true → is_some o ≡ true
+pub some_within : (o : Option Entry) (r : Range) → has_range (range_of_entry o) r ≡ true → is_some o ≡ true
 some_within None r h = absurd (cc)
 some_within (Some s) r h = refl
-
-pub and_left : (a b : Bool) → (a && b) ≡ true → a ≡ true
-and_left true b h = refl
-and_left false b h = absurd (cc)
-
-pub and_right : (a b : Bool) → (a && b) ≡ true → b ≡ true
-and_right true b h = h
-and_right false b h = absurd (cc)
 
 pub cells_defined : (d : Known) (cells : List Cell) (l : ℕ) → has_cells d cells ≡ true → is_defined (started cells) l ≡ true → is_defined d l ≡ true
 cells_defined d cells l h = starts_have d (λ k e. is_some e ≡ true → is_defined d k ≡ true) cells l h (λ e. absurd (cc)) (λ c here e. some_within (d.entry c.location) c.range here)

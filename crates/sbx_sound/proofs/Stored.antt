@@ -6,7 +6,7 @@ use Rattle.std.proofs.lemmas.Nat.{mod_below, pow-add}
 use Rattle.std.proofs.lemmas.Option.{slice_get-get_or}
 use Rattle.sbx_flat.specs.Memory.{Bytes, byte_of, followed_by, number_at, with_number}
 use Rattle.sbx_flat.specs.Runs.{AreBytes, data_at, data_start}
-use Rattle.sbx_sound.specs.Shared.{AreStored}
+use Rattle.sbx_sound.proofs.Shared.{AreStored}
 
 -- ---- at the start
 

@@ -19,9 +19,9 @@ use Rattle.sbx_rules.specs.Rules.{has_cells, is_declared, is_entry, is_frame_siz
 use Rattle.sbx_rules.specs.Verdicts.{Checked}
 use Rattle.sbx_rules.specs.Ways.{Next, Past, To, cells_at, falls, falls_to, fuel_at, state_at, weight_to}
 use Rattle.sbx_form.specs.Forms.{Cells}
-use Rattle.sbx_sound.specs.Order.{IsOrdered}
-use Rattle.sbx_sound.specs.Running.{At, IsVisit, bytes_of, straight_visit, window_of}
-use Rattle.sbx_sound.specs.Shared.{Lent, Own, Shared}
+use Rattle.sbx_sound.proofs.Order.{IsOrdered}
+use Rattle.sbx_sound.proofs.Running.{At, IsVisit, bytes_of, straight_visit, window_of}
+use Rattle.sbx_sound.proofs.Shared.{Lent, Own, Shared}
 use Rattle.sbx_sound.proofs.Arrivals.{after_no_call, goes_straight, is_straight_visit}
 use Rattle.sbx_sound.proofs.Asked.{admitted, asks_declared, calls_later, enters, keeps_reserved, reads_known, slot_follows, suits_kind}
 use Rattle.sbx_sound.proofs.CallSteps.{call_word}
@@ -34,7 +34,8 @@ use Rattle.sbx_sound.proofs.Refined.{looks_at_codes, refines}
 use Rattle.sbx_sound.proofs.ReturnSteps.{GoesOn}
 use Rattle.sbx_sound.proofs.Safe.{Spot, Steps}
 use Rattle.sbx_sound.proofs.Steps.{Does, IsWord, known_then, plain_edge, plain_next}
-use Rattle.sbx_sound.proofs.Wells.{and_left, call_transfers, enters_framed, framed_of, saves_well}
+use Rattle.sbx_sound.proofs.Wells.{call_transfers, enters_framed, framed_of, saves_well}
+use Rattle.sbx_sound.proofs.Tests.{and_left}
 
 -- ---- a framed function's window, but before its SAVE
 
@@ -85,7 +86,7 @@ own_inside function b i h = by_kind (is_framed function.kind) ((b == 0) && (i ==
 later_word : (b i : ℕ) → is_entry b (suc i) ≡ false
 later_word b i = grind (arith, nat_tests)
 
-later_block : (t i : ℕ) → t ≢ 0 → is_entry t i ≡ false
+pub later_block : (t i : ℕ) → t ≢ 0 → is_entry t i ≡ false
 later_block t i some = grind (arith, nat_tests)
 
 call_is_no_save : (op : Operation) → is_call op ≡ true → is_save op ≡ false
@@ -96,7 +97,7 @@ call_runs_on : (op : Operation) → is_call op ≡ true → ends_run op ≡ fals
 call_runs_on (Call d) h = refl
 call_runs_on _ h = absurd (cc)
 
-some_callee : (parts : Parts) (f b i : ℕ) (o : Option ℕ) → is_later parts f b i o ≡ true → (g : ℕ) × (o ≡ Some g)
+pub some_callee : (parts : Parts) (f b i : ℕ) (o : Option ℕ) → is_later parts f b i o ≡ true → (g : ℕ) × (o ≡ Some g)
 some_callee parts f b i None h = absurd (cc)
 some_callee parts f b i (Some g) h = (g, refl)
 
@@ -135,10 +136,10 @@ module _ (parts : Parts) (checked : Checked parts) (ordered : IsOrdered parts) (
       within = inside no_save
 
       by_way : GoesOn parts f b i (state_at parts f b (suc i)) (falls parts f b i) → Steps parts w p
-      by_way (inl g) = plain_next parts w p word_is refl g.way_is refl no_link no_return straight no_call (same_bytes (function_at parts f) b i within) (same_window (function_at parts f) b i b (suc i) within (later_word b i)) g.follows does
+      by_way (inl g) = plain_next parts w p word_is refl g.way_is refl no_link no_return straight no_call (same_bytes (function_at parts f) b i within) (same_window (function_at parts f) b i b (suc i) within (later_word b i)) g.there does
       by_way (inr g) = plain_edge parts w p g.t word_is refl g.way_is g.some no_link no_return (same_bytes (function_at parts f) b i within) (same_window (function_at parts f) b i g.t 0 within (later_block g.t 0 g.some))
           (subst (λ d. has_cells d (cells_at parts f g.t) ≡ true) then_known g.cells)
-          (subst (λ d. IsPaid (state_at parts f b 0) (fuel_at parts f b) (weight_to parts f b (suc i)) d (fuel_at parts f g.t)) then_known g.paid) g.follows does
+          (subst (λ d. IsPaid (state_at parts f b 0) (fuel_at parts f b) (weight_to parts f b (suc i)) d (fuel_at parts f g.t)) then_known g.paid) g.there does
 
   -- CALL
   pub call_steps : (w : ℕ) (k : Shared) (start : Cells) (at : At parts w k f b i (straight_visit parts f b i) start) (displacement : ℕ)

@@ -17,9 +17,10 @@ use Rattle.sbx_domain.specs.Known.{Known, with_entry, range_of_entry, form_of_en
 use Rattle.sbx_domain.specs.Forms.{form_value}
 use Rattle.sbx_rules.specs.Ways.{Back, Next, Visit, Way, falls, fuel_at, state_at, visits_after, visits_at, weight_to}
 use Rattle.sbx_rules.specs.Places.{address_of, callee_at, callee_before, callee_of, find_entry, function_at, op_at, op_before, or_function}
-use Rattle.sbx_sound.specs.Running.{At, Follows, GoesTo, back_of, bytes_of, entry_of, left_at, left_to_all, straight_visit}
+use Rattle.sbx_sound.specs.Positive.{left_at}
+use Rattle.sbx_sound.proofs.Running.{At, Follows, GoesTo, back_of, bytes_of, entry_of, left_to_all, straight_visit}
 use Rattle.sbx_form.specs.Forms.{Cells}
-use Rattle.sbx_sound.specs.Shared.{Open, Shared, with_location}
+use Rattle.sbx_sound.proofs.Shared.{Open, Shared, with_location}
 use Rattle.sbx_domain.specs.Transfer.{transferred}
 use Rattle.sbx_sound.proofs.Arrivals.{after_no_call, follows_plainly, goes_straight, is_straight_visit, next_there, weight_next}
 use Rattle.sbx_sound.proofs.Effects.{linked, moved_to}

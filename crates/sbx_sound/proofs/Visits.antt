@@ -11,7 +11,7 @@ use Rattle.sbx_domain.specs.Known.{Known}
 use Rattle.sbx_rules.specs.Ways.{Way, Visit, branch_way, falls, state_at, visit_if, visits_after, visits_at}
 use Rattle.sbx_rules.specs.Places.{op_at, op_before}
 use Rattle.sbx_range.specs.Refining.{opposite}
-use Rattle.sbx_sound.specs.Running.{IsVisit, straight_visit}
+use Rattle.sbx_sound.proofs.Running.{IsVisit, straight_visit}
 use Rattle.sbx_domain.specs.Refining.{refined}
 use Rattle.sbx_sound.proofs.Arrivals.{goes_straight}
 use Rattle.sbx_sound.proofs.Transfers.{return_visit}

@@ -20,8 +20,8 @@ use Rattle.sbx_rules.specs.Verdicts.{Checked}
 use Rattle.sbx_rules.specs.Ways.{falls, fuel_at, out_cells, state_at}
 use Rattle.sbx_image.specs.declared.parts.Kind.{Kind}
 use Rattle.sbx_image.specs.declared.parts.Kind.TheVariants.{Framed, Leaf}
-use Rattle.sbx_sound.specs.Order.{IsOrdered}
-use Rattle.sbx_sound.specs.Running.{Follows, straight_visit}
+use Rattle.sbx_sound.proofs.Order.{IsOrdered}
+use Rattle.sbx_sound.proofs.Running.{Follows, straight_visit}
 use Rattle.sbx_sound.proofs.Arrivals.{goes_straight, is_straight_visit}
 use Rattle.sbx_sound.proofs.Asked.{enters, has_params, no_params, room_for_callee, room_for_frame, room_of_the_stack, slot_follows, suits_kind, within_budget}
 use Rattle.sbx_sound.proofs.Calls.{CallsWell, in_slot}
@@ -30,14 +30,7 @@ use Rattle.sbx_sound.proofs.Ordered.{follows}
 use Rattle.sbx_sound.proofs.OtherSteps.{SavesWell}
 use Rattle.sbx_sound.proofs.ReturnSteps.{GoesOn}
 use Rattle.sbx_sound.proofs.Start.{StartsWell}
-
-pub and_left : (a b : Bool) → (a && b) ≡ true → a ≡ true
-and_left true b h = refl
-and_left false b h = absurd (cc)
-
-and_right : (a b : Bool) → (a && b) ≡ true → b ≡ true
-and_right true b h = h
-and_right false b h = absurd (cc)
+use Rattle.sbx_sound.proofs.Tests.{and_left, and_right, equal_numbers}
 
 same_budget : (o : Option Function) → budget_of o ≡ (or_function o).budget
 same_budget None = refl
@@ -48,9 +41,6 @@ no_ranges [] e = refl
 no_ranges (r ∷ rs) e = absurd (let h : length (r ∷ rs) ≡ suc (length rs) = refl in omega (arith, e, h))
 
 -- ---- SAVE
-
-equal_numbers : (m n : ℕ) → (m == n) ≡ true → m ≡ n
-equal_numbers m n e = grind (arith, nat_tests)
 
 minus_is : (frame : ℕ) (o : Operand) → is_minus frame o ≡ true → o ≡ Immediate (2 ^ 32 - frame)
 minus_is frame (Immediate w) e = ap Immediate (equal_numbers w (2 ^ 32 - frame) e)

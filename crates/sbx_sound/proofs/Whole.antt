@@ -7,7 +7,7 @@ use Rattle.sbx_flat.specs.Runs.{FlatSafe}
 use Rattle.sbx_rules.specs.Places.{function_at}
 use Rattle.sbx_rules.specs.Verdicts.{Checked}
 use Rattle.sbx_sound.specs.Law.{CheckedIsSafe, IsFormed}
-use Rattle.sbx_sound.specs.Order.{IsOrdered}
+use Rattle.sbx_sound.proofs.Order.{IsOrdered}
 use Rattle.sbx_sound.specs.Positive.{IsPositive}
 use Rattle.sbx_sound.proofs.Begun.{fuel_stays_positive}
 use Rattle.sbx_sound.proofs.Branching.{branch_slots}

@@ -15,8 +15,8 @@ use Rattle.sbx_domain.specs.Known.{Known, with_entry}
 use Rattle.sbx_domain.specs.Transfer.{transferred}
 use Rattle.sbx_rules.specs.Places.{function_at}
 use Rattle.sbx_rules.specs.Rules.{is_defined, is_some}
-use Rattle.sbx_sound.specs.Running.{tests, window_of}
-use Rattle.sbx_sound.specs.Shared.{AreStored, KnownParts, Shared, Shows, Window, with_location}
+use Rattle.sbx_sound.proofs.Running.{tests, window_of}
+use Rattle.sbx_sound.proofs.Shared.{AreStored, KnownParts, Shared, Shows, Window, with_location}
 use Rattle.sbx_sound.proofs.Effects.{IsFewer, Reaches, moved_on, reaches_by, with_word_known, writes_reach}
 use Rattle.sbx_sound.proofs.Frames.{IsFree}
 use Rattle.sbx_sound.proofs.Safe.{ShowsSpot, Spot}

@@ -14,7 +14,7 @@ use Rattle.sbx_domain.specs.Fits.{AreCodesOf, Fits, HasAlignment, HasForm, HasIn
 use Rattle.sbx_domain.specs.Known.{Known, form_of_entry, is_location, range_of_entry, with_entry, without_location}
 use Rattle.sbx_range.specs.Laws.{HasSigns}
 use Rattle.sbx_rules.specs.Rules.{is_defined, is_some}
-use Rattle.sbx_sound.specs.Shared.{with_location}
+use Rattle.sbx_sound.proofs.Shared.{with_location}
 use Rattle.sbx_sound.proofs.Entries.{with_entry_other}
 
 if_true : (t : Bool) (x y : ℕ) → t ≡ true → (if t then x else y) ≡ x

@@ -1,3 +1,1 @@
-pub mod Both
-pub mod Sound
-pub mod Steps
+pub mod Refusals

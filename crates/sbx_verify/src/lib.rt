@@ -1,13 +1,12 @@
-//! Which images are accepted: the rules (`specs/Rules.antt`), and the pass that finds the first fault.
+//! Which images are accepted: those that break none of the rules of `sbx_rules`.
 //!
-//! An accepted image is safe on the flat machine: that is a clause of `verify`.
+//! `sbx_walk` finds the first fault of an image, and `sbx_sound` shows that an image without one is safe on the flat machine: that is
+//! a clause of `verify`.
 #![tactic(auto)]
 
-mod cause;
 mod entry;
-mod rules;
 mod verifier;
 
-pub use cause::{Cause, Refusal};
 pub use entry::budget;
+pub use sbx_rules::{Cause, Refusal};
 pub use verifier::{Accepted, verify};

@@ -1,16 +1,18 @@
-//! The pass over an image's words.
-ghost use Rattle.std.specs.Prelude.{◌≡◌, IfErr, IfOk, MatchOption};
-ghost use Rattle.sbx_flat.specs.Runs.{FlatSafe};
-ghost use Rattle.sbx_verify.specs.Rules.{Checked, IsAccepted, IsLeastFault};
+//! The verdict on an image.
+ghost use Rattle.std.specs.Prelude.{◌≡◌, IfErr, IfOk};
+ghost use Rattle.sbx_flat.specs.Runs.{AreBytes, FlatSafe};
+ghost use Rattle.sbx_rules.specs.Verdicts.{Checked};
+ghost use Rattle.sbx_sound.specs.Law.{IsFormed};
+ghost use Rattle.sbx_verify.specs.Refusals.{IsRefusal, no_memory};
 
-use crate::cause::Refusal;
-use crate::rules::{fault_at, learn};
-use sbx_flat::{asked, weight_of};
 use sbx_image::Image;
+use sbx_rules::{Cause, Refusal};
+use sbx_sound::laws::checked_is_safe;
+use sbx_walk::first_fault;
 use std::alloc::Global;
 use std::marker::Model;
 
-/// An image that keeps every rule. Contracts see its parts.
+/// An image that breaks no rule. Contracts see its parts.
 #[derive(Debug, Drop)]
 pub struct Accepted {
     image: Image,
@@ -18,23 +20,24 @@ pub struct Accepted {
 
 impl Model for Accepted {
     ghost use Rattle.sbx_image.specs.declared.parts.Parts.{Parts};
-    ghost use Rattle.sbx_verify.specs.Rules.{IsAccepted};
+    ghost use Rattle.sbx_rules.specs.Verdicts.{Checked};
 
     ghost Value = { Parts };
 
     ghost view = { λ a. a.image };
 
-    ghost invariant = { λ a. IsAccepted a.image };
+    ghost invariant = { λ a. Checked a.image };
 }
 
 impl Accepted {
     /// The image. It is safe: on the flat machine each run of it ends within its budget, with one output and status.
-    #[tactic(auto, using(crate::proofs::Sound::flat_safe))]
     pub fn image(&self) -> &Image
         ensures image { result.now ≡ self.now }
-        ensures accepted { IsAccepted self.now }
+        ensures checked { Checked self.now }
         ensures safe { FlatSafe self.now }
     {
+        tells_form(&self.image);
+        checked_is_safe();
         &self.image
     }
 
@@ -47,39 +50,45 @@ impl Accepted {
     }
 }
 
-/// Accepts exactly the images that have no fault; else gives the image back, with the fault of least address and there of
-/// the rule of least number. No memory is taken so far, so that `Cause::V19` isn't answered.
-#[tactic(auto, using(crate::proofs::Sound::flat_safe))]
-pub fn verify(_alloc: Global, image: Image) -> Result<Accepted, (Image, Refusal)>
-    ensures accepted { IfOk result (λ accepted. (accepted ≡ image) × Checked image) }
-    ensures safe { IfOk result (λ _. FlatSafe image) }
-    ensures refused { IfErr result (λ back. (back.0 ≡ image) × IsLeastFault image back.1) }
+/// Tells that bytes are bytes.
+fn tells_bytes(bytes: &[u8])
+    ensures { AreBytes bytes.now }
 {
-    match first_fault(&image) {
-        None => Ok(Accepted { image }),
-        Some(refusal) => Err((image, refusal)),
+    let _count = bytes.len();
+}
+
+/// Tells that an image has the form which the rules speak of.
+fn tells_form(image: &Image)
+    ensures { IsFormed image.now }
+{
+    image.keeps_its_format();
+    tells_bytes(image.bytes());
+}
+
+/// What is told where memory is refused.
+fn no_memory() -> Refusal
+    ensures { result ≡ no_memory }
+{
+    Refusal {
+        function: 0,
+        address: 0,
+        cause: Cause::NoMemory,
     }
 }
 
-fn first_fault(image: &Image) -> Option<Refusal>
-    ensures { MatchOption result (IsAccepted image.now) (λ refusal. IsLeastFault image.now refusal) }
+/// Accepts exactly the images that break no rule, and these are safe: on the flat machine each run ends within the budget, with one
+/// output and status. Else it gives the image back, with the broken rule of least number at the least address, or with
+/// `Cause::NoMemory` where memory was refused.
+pub fn verify(alloc: Global, image: Image) -> Result<Accepted, (Image, Refusal)>
+    ensures accepted { IfOk result (λ accepted. (accepted ≡ image) × Checked image) }
+    ensures safe { IfOk result (λ _. FlatSafe image) }
+    ensures refused { IfErr result (λ back. (back.0 ≡ image) × IsRefusal image back.1) }
 {
-    let mut known = [false; 32];
-    known[0] = true;
-    let mut weight = 0u64;
-    for i in 0..image.word_count() {
-        let place = i as usize;
-        let word = image.words()[place];
-        let operation = asked(word);
-        weight += weight_of(&operation);
-        if let Some(cause) = fault_at(image, place, word, &operation, &known, weight) {
-            return Some(Refusal {
-                function: 0,
-                address: 0x0004_0000 + 4 * i,
-                cause,
-            });
-        }
-        learn(&mut known, &operation);
+    tells_form(&image);
+    checked_is_safe();
+    match first_fault(alloc, &image) {
+        Ok(None) => Ok(Accepted { image }),
+        Ok(Some(refusal)) => Err((image, refusal)),
+        Err(_) => Err((image, no_memory())),
     }
-    None
 }

@@ -32,3 +32,6 @@ returns-in-Some-clause-within c =
 
 pub returns-in_default-clause-within : goal.returns-in_default-clause-within
 returns-in_default-clause-within c = λ m h. wider_bound m (m + 2 ^ 66) c.args.terms.now.items (omega arith) h
+
+pub returns-in-Some-clause-value : goal.returns-in-Some-clause-value
+returns-in-Some-clause-value c = search rules

@@ -1,0 +1,5 @@
+pub mod Courses
+pub mod Firsts
+pub mod Paying
+pub mod Sorted
+pub mod Spots
