@@ -1,5 +1,5 @@
 -- What the law of whole runs makes of a board run of a safe image.
-use Rattle.std.proofs.Common.{◌≡◌, ℕ, zero, suc, ◌<◌, ◌≤◌, ◌⊎◌, inl, inr, false, List, [], Option, Some, None, refl, sym, ap, ◌∙◌, subst, arith}
+use Rattle.std.proofs.Common.{◌≡◌, ℕ, ◌<◌, ◌≤◌, ◌⊎◌, inl, inr, List, Option, Some, None, refl, sym, ap, ◌∙◌, subst, arith}
 use Rattle.v8_mmu.specs.declared.bus.Stop.{Stop}
 use Rattle.v8_mmu.specs.declared.bus.Stop.TheVariants as stops
 use Rattle.v8_core.specs.Accesses.{World}
@@ -18,16 +18,11 @@ use Rattle.sbx_image.specs.declared.parts.Parts.{Parts}
 use Rattle.sbx_flat.specs.Runs.{AreBytes, Behaves, FlatSafe, budget}
 use Rattle.sbx_flat.specs.declared.path.Place.{Place}
 use Rattle.sbx_flat.specs.declared.path.Traffic.{Traffic}
-use Rattle.sbx_raw.specs.Outputs.{Alike}
-use Rattle.sbx_raw.proofs.Unheard.{ending_same, turned_same}
 use Rattle.sbx_windows.specs.Runs.{Finishes, IsImage, IsTurnBeside}
 use Rattle.sbx_windows.proofs.Ending.{runs_to_its_end}
 use Rattle.sbx_run.specs.Answer.{ExitsAsFlat, SafeImagesExit}
-use Rattle.sbx_run.specs.Bare.{IsBare}
 use Rattle.sbx_run.specs.Pages.{UsesOwnPages}
-use Rattle.sbx_run.specs.Turns.{IsQuietTurn, QuietTurns}
 use Rattle.sbx_run.proofs.Again.{is_any, loaded_again, with_device}
-use Rattle.sbx_run.proofs.Finish.{Quiet, quiet_run}
 use Rattle.sbx_run.proofs.Pages.{uses_own}
 
 -- a run that may go on to an end ends there
@@ -63,22 +58,6 @@ outcome_is : (n : ℕ) (s : BoardState n) (status : ℕ) → ending_of n s.world
 unfolding outcome_of
 outcome_is n s status e = ap (λ (o : Option Ending). record { ending = ending_or_limit o; turns = s.counts.turns; overflows = s.counts.overflows; underflows = s.counts.underflows }) e
 
--- ---- a run that is as another, but for what was put out earlier
-
-alike_after : (n : ℕ) (s t : BoardState n) → Alike n s t → (k : ℕ) → Alike n (after n k s) (after n k t)
-alike_after n s t same zero = same
-alike_after n s t same (suc k) = (turned_same n (after n k s) (after n k t) (alike_after n s t same k)).1
-
-quiet_as : (n : ℕ) (parts : Parts) (start silent : BoardState n) (turns : ℕ) → Alike n start silent → Quiet n parts silent → ((j : ℕ) → j < turns → ending_of n (after n j start).world ≡ None) → QuietTurns n parts start turns
-quiet_as n parts start silent turns same q going j less =
-    let split : (q.count < turns) ⊎ (turns ≤ q.count) = search arith in
-    let most : turns ≤ q.count =
-    elim split [
-      | inl before ↦ absurd (q.over (sym (ending_same n (after n q.count start) (after n q.count silent) (alike_after n start silent same q.count)) ∙ going q.count before))
-      | inr enough ↦ enough
-    ] in
-    subst (IsQuietTurn parts) (sym (turned_same n (after n j start) (after n j silent) (alike_after n start silent same j)).0) (q.own j (omega arith))
-
 -- ---- the law
 
 module _ (n : ℕ) (parts : Parts) (made start end : BoardState n) (image : IsImage parts) (safe : FlatSafe parts) (bytes : AreBytes made.world.memory.device.input) (loaded : IsStart n parts made start) (state : IsState n start.mmu start.world) (run : IsRun n (budget parts) start end) where
@@ -92,17 +71,6 @@ module _ (n : ℕ) (parts : Parts) (made start end : BoardState n) (image : IsIm
   finishes =
       let d = made.world.memory.device in
       runs_to_its_end n parts input (with_device n parts made start loaded state d) start image safe bytes (is_any n parts made start loaded state d) (loaded_again n parts made start loaded state d start.world.memory.device loaded.device)
-
-  -- the start without the earlier output
-  quiet : (turns : ℕ) → ((j : ℕ) → j < turns → ending_of n (after n j start).world ≡ None) → IsBare parts → QuietTurns n parts start turns
-  quiet turns going bare =
-      let d : Device = record made.world.memory.device { output = [] } in
-      let e : Device = record start.world.memory.device { output = [] } in
-      let is : e ≡ record d { ended = false; stopped = None } = ap (λ (k : Device). record k { output = [] }) loaded.device in
-      let silent = with_device n parts made start loaded state e in
-      let same : Alike n start silent = record { world = (refl, (refl, (refl, refl, refl))); mmu = refl; counts = refl } in
-      let q = quiet_run n parts input (with_device n parts made start loaded state d) silent safe bytes bare image.budget_fits (is_any n parts made start loaded state d) refl (loaded_again n parts made start loaded state d e is) in
-      quiet_as n parts start silent turns same q going
 
   pub ends : ExitsAsFlat n parts input earlier start end
   ends =
@@ -136,7 +104,6 @@ module _ (n : ℕ) (parts : Parts) (made start end : BoardState n) (image : IsIm
         last = last ∙ ap (λ k. after n k start) (sym so_many);
         own = record {
           each = subst (λ k. (j : ℕ) → j < k → IsTurnBeside n parts input earlier (after n j start)) (sym so_many) c.each;
-          quiet = λ bare. subst (QuietTurns n parts start) (sym so_many) (quiet c.turns c.going bare);
           pages = subst (λ (b : BoardState n). UsesOwnPages parts (page_use_of b.world.memory.ram)) (sym stands) (uses_own parts f.last.memory.ram f.over.marks);
         };
       }

@@ -1,5 +1,3 @@
-pub mod Bare
-pub mod Turns
 pub mod Pages
 pub mod Answer
 pub use Rattle.v8_board.specs.declared.outcome.Outcome

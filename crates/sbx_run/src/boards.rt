@@ -3,7 +3,6 @@ ghost use Rattle.std.specs.Prelude.{◌≡◌, ◌≤◌, IfErr, IfOk, OnErr};
 ghost use Rattle.v8_mmu.specs.Answers.{Rose};
 ghost use Rattle.v8_loaded.specs.States.{IsState};
 ghost use Rattle.v8_board.specs.Contains.{Contains};
-ghost use Rattle.sbx_flat.specs.Runs.{AreBytes};
 ghost use Rattle.sbx_run.specs.Answer.{EndsOn, StandsOn};
 
 use crate::limits::tells_limits;
@@ -31,11 +30,9 @@ pub fn run_board<const N: usize, P: Port>(
     board: &mut Board<N, P>,
     accepted: &Accepted,
 ) -> Result<Ended, PortFault>
-    requires { AreBytes board.old.state.world.memory.device.input }
     ensures ended { IfOk result (λ ended. EndsOn N accepted.now board.old.state board.new.state ended) }
     ensures stands { OnErr result (StandsOn N accepted.now board.old.state board.new.state) }
     ensures state { IsState N board.new.state.mmu board.new.state.world }
-    ensures bytes { AreBytes board.new.state.world.memory.device.input }
     ensures contained { Contains N accepted.now board.new.state }
     ensures count { board.old.failed ≤ board.new.failed }
     ensures cause { OnErr result (Rose board.old.failed board.new.failed) }
@@ -43,6 +40,7 @@ pub fn run_board<const N: usize, P: Port>(
 {
     let image = accepted.image();
     tells_limits(image);
+    board.port().tells_bytes();
     board.load(image);
     let outcome = match board.run(budget(image)) {
         Ok(outcome) => outcome,

@@ -1,6 +1,5 @@
 //! Runs of accepted images, by each of the calls that run one.
-ghost use Rattle.std.specs.Prelude.{◌≤◌, IfOk};
-ghost use Rattle.sbx_flat.specs.Runs.{AreBytes};
+ghost use Rattle.std.specs.Prelude.{◌≤◌};
 
 use crate::images::{BARE, HELLO, image_of};
 use sbx_raw::SlicePort;
@@ -129,17 +128,12 @@ fn runs_accepted_images(rt: HostRuntime) -> Result<(), Fail> {
 }
 
 /// A new board of four windows with this input.
-fn board_with<'a>(alloc: Global, input: &'a [u8]) -> Result<Board<4, SlicePort<'a>>, AllocError>
-    ensures { IfOk result (λ board. AreBytes board.state.world.memory.device.input) }
-{
+fn board_with<'a>(alloc: Global, input: &'a [u8]) -> Result<Board<4, SlicePort<'a>>, AllocError> {
     Board::new(alloc, SlicePort::new(alloc, input))
 }
 
 /// Whether a run on a board exits with 0 after so many turns, without a call.
-fn exits(board: &mut Board<4, SlicePort<'_>>, accepted: &Accepted, turns: u64) -> bool
-    requires { AreBytes board.old.state.world.memory.device.input }
-    ensures { AreBytes board.new.state.world.memory.device.input }
-{
+fn exits(board: &mut Board<4, SlicePort<'_>>, accepted: &Accepted, turns: u64) -> bool {
     match run_board(board, accepted) {
         Ok(ended) => {
             ended.status == 0

@@ -82,10 +82,10 @@ module _ (n : ℕ) (parts : Parts) (mmu : MmuRegs) (x : World n Device) (s : Sta
       ∙ ap (λ o. after_operation n o t) is
 
   -- one turn
-  pub one_own : (to : ℕ) (one : OneTurn n parts mmu x s op to) → IsOwnTurn parts s.registers (next board n mmu x).0
+  pub one_own : (to : ℕ) (one : OneTurn n parts mmu x s op to) → IsOwnTurn parts s (next board n mmu x).0
   one_own to one =
       let told : (next board n mmu x).0 ≡ turn_of n x.cpu Ran (Some one.word) one.access = ap (λ (p : Turn × World n Device). p.0) one.turn in
-      subst (IsOwnTurn parts s.registers) (sym told) (user_own n parts s.registers x.cpu Ran one.word i one.access h.shows.control.user (h.shows.control.pc ∙ h.place) h.within tt one.reaches)
+      subst (IsOwnTurn parts s) (sym told) (user_own n parts s x.cpu Ran one.word i one.access h.shows.control.user (h.shows.control.pc ∙ h.place) h.within tt (λ e. cc) one.reaches)
 
   pub one_ran : (to : ℕ) (one : OneTurn n parts mmu x s op to) → (next board n mmu x).0.event ≡ Ran
   one_ran to one = ap (λ (p : Turn × World n Device). p.0.event) one.turn
@@ -98,7 +98,7 @@ module _ (n : ℕ) (parts : Parts) (mmu : MmuRegs) (x : World n Device) (s : Sta
     next_state = one.next_state;
     step = step_of one.fresh one.next_state one.is_fresh one.goes;
     going = λ k less. let e : 0 ≡ k = omega arith in subst (λ q. ending_of n (after board n mmu q x) ≡ None) e (not_ended n x h.shows.device.running h.shows.control.sane);
-    own = λ k less. let e : 0 ≡ k = omega arith in subst (λ q. IsOwnTurn parts s.registers (turn_at board n mmu q x)) e (one_own to one);
+    own = λ k less. let e : 0 ≡ k = omega arith in subst (λ q. IsOwnTurn parts s (turn_at board n mmu q x)) e (one_own to one);
     moments = λ k less. let e : 0 ≡ k = omega arith in subst (λ q. IsMoment n parts (after board n mmu q x) s) e (inr (r, h.shows));
     counts = λ c small a b. ap (λ e. counts_after e c) (one_ran to one) ∙ turn_counts c (omega arith);
     traffic = λ o u k. traffic_of (so_many r o u k) ∙ traffic o u k ∙ no_traps to o u (k + 1);
@@ -130,14 +130,14 @@ annulled_advances n parts mmu x s r h annul =
     let told = annulled_turn n mmu x h.device.running a.sane (a.annul ∙ annul) in
     let plain = turn_of n x.cpu Annulled None None in
     let turn_is : (next board n mmu x).0 ≡ plain = ap (λ (p : Turn × World n Device). p.0) told in
-    let mine : IsOwnTurn parts s.registers plain = record { trap = tt; within = refl } in
+    let mine : IsOwnTurn parts s plain = record { trap = tt; annulled = λ e. annul; within = refl } in
     let shown = control_shows n parts x s r s.npc (following s.npc) false s.icc s.y (record (board_advanced c) { annul = false }) h
     (record { pc = a.npc; npc = ap following a.npc; npc_word = next_word c.npc; npc_whole = next_whole c.npc a.npc_whole; annul = refl; icc = a.icc; y = a.y; y_word = a.y_word; user = a.user; traps = a.traps; sane = a.sane; table = a.table }) in
     record {
       next_state = t;
       step = annulled_step parts s h.going annul;
       going = λ k less. let e : 0 ≡ k = omega arith in subst (λ q. ending_of n (after board n mmu q x) ≡ None) e (not_ended n x h.device.running a.sane);
-      own = λ k less. let e : 0 ≡ k = omega arith in subst (λ q. IsOwnTurn parts s.registers (turn_at board n mmu q x)) e (subst (IsOwnTurn parts s.registers) (sym turn_is) mine);
+      own = λ k less. let e : 0 ≡ k = omega arith in subst (λ q. IsOwnTurn parts s (turn_at board n mmu q x)) e (subst (IsOwnTurn parts s) (sym turn_is) mine);
       moments = λ k less. let e : 0 ≡ k = omega arith in subst (λ q. IsMoment n parts (after board n mmu q x) s) e (inr (r, h));
       counts = λ k small d b. ap (λ (t : Turn). counts_after t.event k) turn_is ∙ turn_counts k (omega arith);
       traffic = λ o u k. annulled_traffic parts n s (so_many r o u k) annul ∙ no_traps r o u (k + 1);

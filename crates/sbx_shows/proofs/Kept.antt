@@ -1,8 +1,8 @@
 -- RAM that is the same above the tables shows the same.
-use Rattle.std.proofs.Common.{◌≡◌, ℕ, ◌+◌, ◌-◌, ◌*◌, ◌≤◌, inr, Bool, List, sym, ◌∙◌, arith}
+use Rattle.std.proofs.Common.{◌≡◌, ℕ, ◌+◌, ◌*◌, ◌≤◌, inr, Bool, List, sym, ◌∙◌, arith}
 use Rattle.std.specs.Prelude.{slice_index}
 use Rattle.v8_loaded.specs.Areas.{area_of}
-use Rattle.v8_map.specs.declared.TheConstants.{RAM, TABLES_END}
+use Rattle.v8_map.specs.declared.TheConstants.{TABLES_END}
 use Rattle.v8_core.specs.Ram.{entry_of}
 use Rattle.v8_core.specs.Paths.{marked_ram}
 use Rattle.v8_layout.proofs.Marks.{Markable, kept_elsewhere}

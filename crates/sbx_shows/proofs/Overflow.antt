@@ -1,7 +1,7 @@
 -- A SAVE that finds no window: the 24 turns of its trap keep what the board shows, with one call less in windows.
 use Rattle.std.proofs.Common.{◌≡◌, ℕ, suc, ◌+◌, ◌-◌, ◌*◌, ◌/◌, ◌%◌, ◌^◌, ◌<◌, ◌≤◌, ◌⊎◌, inl, inr, List, Some, sym, ap, ◌∙◌, subst, arith}
 use Rattle.std.specs.Prelude.{slice_index}
-use Rattle.v8_map.specs.declared.TheConstants.{STACK_LOWEST, STACK_END, RAM, TABLES_END}
+use Rattle.v8_map.specs.declared.TheConstants.{STACK_LOWEST, STACK_END, TABLES_END}
 use Rattle.v8_core.specs.Three.{Three}
 use Rattle.v8_core.specs.Operation.TheVariants.{Save}
 use Rattle.v8_core.specs.Ram.{entry_of}

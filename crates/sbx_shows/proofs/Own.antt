@@ -10,6 +10,7 @@ use Rattle.v8_core.specs.Stop.{Stop}
 use Rattle.v8_core.specs.MmuRegs.{MmuRegs}
 use Rattle.v8_core.specs.declared.turn.DataAccess.{DataAccess}
 use Rattle.v8_core.specs.declared.turn.Event.{Event}
+use Rattle.v8_core.specs.declared.turn.Event.TheVariants.{Annulled}
 use Rattle.v8_core.specs.declared.turn.Turn.{Turn}
 use Rattle.v8_core.specs.Accesses.{World, is_user, world}
 use Rattle.v8_core.specs.Memory.{fetches}
@@ -19,7 +20,7 @@ use Rattle.v8_core.specs.Cpu.{Cpu}
 use Rattle.v8_loaded.specs.Turns.{Touches}
 use Rattle.v8_board.specs.Start.{at_most, pages_of}
 use Rattle.sbx_flat.specs.Parts.{Parts}
-use Rattle.sbx_flat.specs.Registers.{Registers}
+use Rattle.sbx_flat.specs.States.{State}
 use Rattle.sbx_flat.specs.Traffic.{is_own_code_page}
 use Rattle.sbx_shows.specs.Turns.{IsOwnEvent, IsOwnTurn, ReachesData, StaysBeside, StaysOnWord}
 
@@ -31,11 +32,11 @@ own_page parts pc i at less =
     grind (arith, nat_tests, low, high)
 
 -- a turn of user code at a code word
-pub user_own : (n : ℕ) (parts : Parts) (file : Registers) (cpu : Cpu n) (event : Event) (word i : ℕ) (access : Option DataAccess) → cpu.control.s ≡ false → cpu.control.pc ≡ CODE_START + 4 * i → i < length parts.words →
-    IsOwnEvent parts event → ReachesData parts access → IsOwnTurn parts file (turn_of n cpu event (Some word) access)
-user_own n parts file cpu event word i access user at less own reaches =
-    let here : StaysBeside parts file true cpu.control.pc access = (own_page parts cpu.control.pc i at less, reaches) in
-    record { trap = own; within = subst (λ b. StaysBeside parts file (not b) cpu.control.pc access) (sym user) here }
+pub user_own : (n : ℕ) (parts : Parts) (s : State) (cpu : Cpu n) (event : Event) (word i : ℕ) (access : Option DataAccess) → cpu.control.s ≡ false → cpu.control.pc ≡ CODE_START + 4 * i → i < length parts.words →
+    IsOwnEvent parts event → (event ≡ Annulled → ⊥) → ReachesData parts access → IsOwnTurn parts s (turn_of n cpu event (Some word) access)
+user_own n parts s cpu event word i access user at less own runs reaches =
+    let here : StaysBeside parts s true cpu.control.pc access = (own_page parts cpu.control.pc i at less, reaches) in
+    record { trap = own; annulled = λ e. absurd (runs e); within = subst (λ b. StaysBeside parts s (not b) cpu.control.pc access) (sym user) here }
 
 -- ---- the turns of a service
 
@@ -49,18 +50,18 @@ code_page parts page few low high =
     let within : 4096 * (page - 0x40) < 4 * length parts.words = omega arith in
     grind (arith, nat_tests, low, within)
 
-beside : (parts : Parts) (file : Registers) (user : Bool) (pc : ℕ) (access : Option DataAccess) → length parts.words ≤ 65536 → Touches (pages_of parts) user pc access → StaysBeside parts file user pc access
-beside parts file true pc access few (low, high, none) = (code_page parts (pc / 4096) few low high, subst (ReachesData parts) (sym none) tt)
-beside parts file false pc access few (at, device) = (grind (arith, nat_tests, at), inl device)
+beside : (parts : Parts) (s : State) (user : Bool) (pc : ℕ) (access : Option DataAccess) → length parts.words ≤ 65536 → Touches (pages_of parts) user pc access → StaysBeside parts s user pc access
+beside parts s true pc access few (low, high, none) = (code_page parts (pc / 4096) few low high, subst (ReachesData parts) (sym none) tt)
+beside parts s false pc access few (at, device) = (grind (arith, nat_tests, at), inl device)
 
 -- a turn that fetched no word reached nothing
-pub on_word : (parts : Parts) (file : Registers) (word : Option ℕ) (user : Bool) (pc : ℕ) (access : Option DataAccess) → (word ≡ None → access ≡ None) → StaysBeside parts file user pc access → StaysOnWord parts file word user pc access
-on_word parts file None user pc access none h = none refl
-on_word parts file (Some word) user pc access none h = h
+pub on_word : (parts : Parts) (s : State) (word : Option ℕ) (user : Bool) (pc : ℕ) (access : Option DataAccess) → (word ≡ None → access ≡ None) → StaysBeside parts s user pc access → StaysOnWord parts s word user pc access
+on_word parts s None user pc access none h = none refl
+on_word parts s (Some word) user pc access none h = h
 
-pub touching_own : (parts : Parts) (file : Registers) (turn : Turn) → length parts.words ≤ 65536 → IsOwnEvent parts turn.event → Touches (pages_of parts) turn.user turn.pc turn.access → (turn.word ≡ None → turn.access ≡ None) → IsOwnTurn parts file turn
-touching_own parts file turn few own touches none =
-    record { trap = own; within = on_word parts file turn.word turn.user turn.pc turn.access none (beside parts file turn.user turn.pc turn.access few touches) }
+pub touching_own : (parts : Parts) (s : State) (turn : Turn) → length parts.words ≤ 65536 → IsOwnEvent parts turn.event → (turn.event ≡ Annulled → ⊥) → Touches (pages_of parts) turn.user turn.pc turn.access → (turn.word ≡ None → turn.access ≡ None) → IsOwnTurn parts s turn
+touching_own parts s turn few own runs touches none =
+    record { trap = own; annulled = λ e. absurd (runs e); within = on_word parts s turn.word turn.user turn.pc turn.access none (beside parts s turn.user turn.pc turn.access few touches) }
 
 -- ---- a turn that fetched no word
 

@@ -2,7 +2,7 @@
 use Rattle.std.proofs.Common.{◌≡◌, ◌≢◌, ℕ, ◌+◌, ◌-◌, ◌*◌, ◌/◌, ◌%◌, ◌^◌, ◌<◌, ◌≤◌, ◌⊎◌, inl, inr, Bool, true, false, cond, List, length, Option, Some, None, refl, sym, ap, ◌∙◌, arith}
 use Rattle.std.specs.Prelude.{◌==◌, ◌&&◌, ◌||◌, nat_le, nat_lt, if◌then◌else◌}
 use Rattle.std.proofs.lemmas.Bool.Decides.{nat_tests}
-use Rattle.v8_map.specs.declared.TheConstants.{CODE_TABLE, RAM, CONTEXT_TABLE, SYSTEM_TABLE}
+use Rattle.v8_map.specs.declared.TheConstants.{CODE_TABLE, CONTEXT_TABLE, SYSTEM_TABLE}
 use Rattle.v8_core.specs.Ram.{entry_of}
 use Rattle.v8_core.specs.Paths.{marked, marked_ram}
 use Rattle.v8_mmu.proofs.RamLemmas.{entry_is}

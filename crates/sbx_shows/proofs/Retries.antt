@@ -24,18 +24,17 @@ use Rattle.v8_board.specs.Counting.{counted, counts_after, with_turn}
 use Rattle.v8_board.specs.Seen.{ending_of}
 use Rattle.v8_board.specs.Start.{pages_of}
 use Rattle.sbx_flat.specs.Parts.{Parts}
-use Rattle.sbx_flat.specs.Registers.{Registers}
 use Rattle.sbx_flat.specs.States.{State}
 use Rattle.sbx_flat.specs.Traffic.{after_operation}
 use Rattle.sbx_shows.specs.Advances.{Advances, IsMoment, counts_by, more, so_many}
 use Rattle.sbx_shows.specs.Calls.{base, depth}
 use Rattle.sbx_shows.specs.Shows.{IsStacked}
 use Rattle.sbx_shows.specs.Steps.{OneTurn, Stands}
-use Rattle.sbx_shows.specs.Turns.{IsOwnEvent, IsOwnTurn, ReachesCall, StaysBeside}
+use Rattle.sbx_shows.specs.Turns.{IsOwnEvent, IsOwnTurn, ReachesCall, StandsAtMove, StaysBeside, moves_window}
 use Rattle.sbx_shows.proofs.Advancing.{counted_is, counts_are, not_ended, one_own, one_ran, one_shows, step_of, traffic_of}
 use Rattle.sbx_shows.proofs.Callers.{restore_turn, returns, save_turn}
 use Rattle.sbx_shows.proofs.Own.{no_word, on_word, user_own}
-use Rattle.sbx_shows.proofs.Places.{word}
+use Rattle.sbx_shows.proofs.Places.{here, word}
 use Rattle.sbx_shows.proofs.Traffics.{overflow_counts, underflow_counts}
 use Rattle.sbx_shows.specs.Laws.{RestoresUnderflow, SavesOverflow}
 use Rattle.sbx_shows.proofs.Overflow as spilling
@@ -65,24 +64,29 @@ going_by n mmu w event told going = by_parts w.memory.device.stopped w.cpu.contr
 
 -- ---- a handler's turn
 
-handlers_own : (n : ℕ) (parts : Parts) (mmu : MmuRegs) (pages : ℕ) (file : Registers) (k : ℕ) (store : Bool) (w : World n Device) → IsStacked pages file → k < depth file → IsHandlers (base file k) 64 store (next board n mmu w).0 → IsOwnTurn parts file (next board n mmu w).0
-handlers_own n parts mmu pages file k store w st less h =
+handlers_own : (n : ℕ) (parts : Parts) (mmu : MmuRegs) (pages : ℕ) (s : State) (k : ℕ) (store : Bool) (w : World n Device) → StandsAtMove parts s → IsStacked pages s.registers → k < depth s.registers →
+    IsHandlers (base s.registers k) 64 store (next board n mmu w).0 → IsOwnTurn parts s (next board n mmu w).0
+handlers_own n parts mmu pages s k store w at_move st less h =
     let t = (next board n mmu w).0 in
     record {
       trap = subst (IsOwnEvent parts) (sym h.event) tt;
-      within = on_word parts file t.word t.user t.pc t.access (no_word n mmu w) (subst (λ u. StaysBeside parts file u t.pc t.access) (sym h.system) (in_system t.pc h.page, inr (in_call t.access h.access)));
+      annulled = λ e. absurd (no_run (sym h.event ∙ e));
+      within = on_word parts s t.word t.user t.pc t.access (no_word n mmu w) (subst (λ u. StaysBeside parts s u t.pc t.access) (sym h.system) (in_system t.pc h.page, inr (at_move, in_call t.access h.access)));
     }
   where
     in_system : (pc : ℕ) → (pc / 4096 ≡ 0xF0000) ⊎ (pc / 4096 ≡ 0xF0001) → ((pc / 4096 == 0xF0000) || (pc / 4096 == 0xF0001)) ≡ true
     in_system pc (inl e) = grind (arith, nat_tests, e)
     in_system pc (inr e) = grind (arith, nat_tests, e)
 
-    in_call : (o : Option DataAccess) → ReachesArea (base file k) 64 store o → ReachesCall file o
+    no_run : Ran ≡ Annulled → ⊥
+    no_run e = cc
+
+    in_call : (o : Option DataAccess) → ReachesArea (base s.registers k) 64 store o → ReachesCall s.registers o
     in_call None a = tt
     in_call (Some access) (low, high, eight, double, kind) =
         let aligned = st.aligned k less in
-        let top : access.va + 8 ≤ base file k + 64 = omega arith in
-        (k, less, low, subst (λ z. access.va + bytes_in z ≤ base file k + 64) (sym double) top)
+        let top : access.va + 8 ≤ base s.registers k + 64 = omega arith in
+        (k, less, low, subst (λ z. access.va + bytes_in z ≤ base s.registers k + 64) (sym double) top)
 
 -- what is told of a turn's mode is the mode of the state before it
 module _ (n : ℕ) (mmu : MmuRegs) (w : World n Device) where
@@ -127,7 +131,7 @@ all_counts n mmu x c t o u (suc k) trap ran first less small =
 
 -- ---- the trap, the 23 turns of its handler, and the instruction again
 
-module _ (n : ℕ) (parts : Parts) (mmu : MmuRegs) (x : World n Device) (s : State) (r i : ℕ) (h : Stands n parts mmu x s r i) (op : Operation) (is : AsksFor parts.words i op) (admitted : is_admitted op ≡ true)
+module _ (n : ℕ) (parts : Parts) (mmu : MmuRegs) (x : World n Device) (s : State) (r i : ℕ) (h : Stands n parts mmu x s r i) (op : Operation) (is : AsksFor parts.words i op) (admitted : is_admitted op ≡ true) (moves : moves_window op ≡ true)
     (t sp j : ℕ) (store : Bool) (handled : IsHandled n parts.words mmu x i t sp store) (own_trap : IsOwnEvent parts (Trapped t)) (open_call : j < depth s.registers) (at : sp ≡ base s.registers j)
     (mid windows : ℕ) (shown : Stands n parts mmu (after board n mmu 24 x) s mid i) (one : OneTurn n parts mmu (after board n mmu 24 x) s op windows) where
   turns : (k : ℕ) → k < 23 → IsHandlers (base s.registers j) 64 store (turn_at board n mmu (suc k) x)
@@ -148,13 +152,16 @@ module _ (n : ℕ) (parts : Parts) (mmu : MmuRegs) (x : World n Device) (s : Sta
   all_going zero less = going_by n mmu x (Trapped t) first_event refl
   all_going (suc k) less = going_by n mmu (after board n mmu (suc k) x) Ran (later_event k (omega arith)) refl
 
-  all_own : (k : ℕ) → k < 25 → IsOwnTurn parts s.registers (turn_at board n mmu k x)
-  all_own zero less = subst (IsOwnTurn parts s.registers) (sym handled.trap) (user_own n parts s.registers x.cpu (Trapped t) (word n parts mmu x s r i h) i None h.shows.control.user (h.shows.control.pc ∙ h.place) h.within own_trap tt)
+  at_move : StandsAtMove parts s
+  at_move = (word n parts mmu x s r i h, here n parts mmu x s r i h, subst (λ o. moves_window o ≡ true) (sym is) moves)
+
+  all_own : (k : ℕ) → k < 25 → IsOwnTurn parts s (turn_at board n mmu k x)
+  all_own zero less = subst (IsOwnTurn parts s) (sym handled.trap) (user_own n parts s x.cpu (Trapped t) (word n parts mmu x s r i h) i None h.shows.control.user (h.shows.control.pc ∙ h.place) h.within own_trap (λ e. cc) tt)
   all_own (suc k) less =
       let split : (k < 23) ⊎ (k ≡ 23) = search arith in
       elim split [
-        | inl before ↦ handlers_own n parts mmu (pages_of parts).stack_count s.registers j store (after board n mmu (suc k) x) h.shows.stacked open_call (turns k before)
-        | inr last ↦ subst (λ q. IsOwnTurn parts s.registers (turn_at board n mmu (suc q) x)) (sym last) (one_own n parts mmu (after board n mmu 24 x) s mid i shown op is admitted windows one)
+        | inl before ↦ handlers_own n parts mmu (pages_of parts).stack_count s j store (after board n mmu (suc k) x) at_move h.shows.stacked open_call (turns k before)
+        | inr last ↦ subst (λ q. IsOwnTurn parts s (turn_at board n mmu (suc q) x)) (sym last) (one_own n parts mmu (after board n mmu 24 x) s mid i shown op is admitted windows one)
       ]
 
   all_moments : (k : ℕ) → k < 25 → IsMoment n parts (after board n mmu k x) s
@@ -192,9 +199,9 @@ saves_overflow n parts mmu x s r i f h is good full =
     let after_it : Stands n parts mmu (after board n mmu 24 x) s (r - 1) i = record { fits = h.fits; root = h.root; shows = shown; straight = h.straight; place = h.place; within = h.within } in
     let back : suc (r - 1) ≡ r = omega arith in
     let one = subst (λ q. OneTurn n parts mmu (after board n mmu 24 x) s (Save f) q) back (save_turn n parts mmu (after board n mmu 24 x) s (r - 1) i after_it f is good (omega arith)) in (
-      first_event n parts mmu x s r i h (Save f) is refl 5 (stack_pointer n x.cpu) (r - 1) true handled.turns refl (omega arith) pointer (r - 1) r after_it one,
+      first_event n parts mmu x s r i h (Save f) is refl refl 5 (stack_pointer n x.cpu) (r - 1) true handled.turns refl (omega arith) pointer (r - 1) r after_it one,
       shown,
-      retried_advances n parts mmu x s r i h (Save f) is refl 5 (stack_pointer n x.cpu) (r - 1) true handled.turns refl (omega arith) pointer (r - 1) r after_it one 1 0
+      retried_advances n parts mmu x s r i h (Save f) is refl refl 5 (stack_pointer n x.cpu) (r - 1) true handled.turns refl (omega arith) pointer (r - 1) r after_it one 1 0
           (λ c small a b. overflow_counted c small a)
           (λ p q k. let e : q ≡ q + 0 = omega arith in overflow_counts n r p q k f full ∙ ap (λ z. so_many r (p + 1) z (k + 25)) e),
     )
@@ -211,9 +218,9 @@ restores_underflow n parts mmu x s i f h is good =
     let pointer = filling.pointer_is n parts mmu x s i h f is two in
     let after_it : Stands n parts mmu (after board n mmu 24 x) s 2 i = record { fits = h.fits; root = h.root; shows = shown; straight = h.straight; place = h.place; within = h.within } in
     let one = restore_turn n parts mmu (after board n mmu 24 x) s 2 i after_it f is good (omega arith) in (
-      first_event n parts mmu x s 1 i h (Restore f) is refl 6 (filled_pointer n x.cpu) 1 false handled.turns refl two pointer 2 1 after_it one,
+      first_event n parts mmu x s 1 i h (Restore f) is refl refl 6 (filled_pointer n x.cpu) 1 false handled.turns refl two pointer 2 1 after_it one,
       shown,
-      retried_advances n parts mmu x s 1 i h (Restore f) is refl 6 (filled_pointer n x.cpu) 1 false handled.turns refl two pointer 2 1 after_it one 0 1
+      retried_advances n parts mmu x s 1 i h (Restore f) is refl refl 6 (filled_pointer n x.cpu) 1 false handled.turns refl two pointer 2 1 after_it one 0 1
           (λ c small a b. underflow_counted c small b)
           (λ p q k. let e : p ≡ p + 0 = omega arith in underflow_counts n p q k f ∙ ap (λ z. so_many 1 z (q + 1) (k + 25)) e),
     )

@@ -2,12 +2,13 @@
 use Rattle.std.proofs.Common.{◌≡◌, ◌≢◌, ℕ, zero, suc, ◌+◌, ◌-◌, ◌%◌, ◌^◌, ◌<◌, ◌≤◌, inl, inr, Bool, true, false, List, [], ◌∷◌, ◌++◌, length, Some, None, refl, sym, ap, ◌∙◌, subst, arith}
 use Rattle.std.specs.Prelude.{slice_get, if◌then◌else◌}
 use Rattle.std.specs.List.{AllByRecursion}
-use Rattle.v8_map.specs.declared.TheConstants.{RAM, SYSTEM_TABLE}
+use Rattle.v8_map.specs.declared.TheConstants.{SYSTEM_TABLE}
 use Rattle.v8_core.specs.Admitted.{is_admitted}
 use Rattle.v8_core.specs.Operands.{following}
 use Rattle.v8_core.specs.Windows.{IsFile, Windows, below, can_enter, reg_of, with_word, word_at}
 use Rattle.v8_core.specs.MmuRegs.{MmuRegs}
 use Rattle.v8_core.specs.declared.turn.Event.{Event}
+use Rattle.v8_core.specs.declared.turn.Event.TheVariants.{Annulled}
 use Rattle.v8_core.specs.Accesses.{World, world}
 use Rattle.v8_loaded.specs.Layout.{IsLoaded}
 use Rattle.v8_layout.proofs.Marks.{system_markable}
@@ -193,19 +194,23 @@ event_at P (e ∷ events) (suc k) less all = event_at P events k (omega arith) a
 abbrev IsOneTurn : Event → Type 0
 IsOneTurn event = (c : Counts) → counts_after event c ≡ with_turn c
 
-module _ (n : ℕ) (parts : Parts) (mmu : MmuRegs) (file : Registers) (fits : length parts.words ≤ 65536) (events : List Event) (x new : World n Device) (leads : Leads n (pages_of parts) mmu x events new)
-    (plain : AllByRecursion IsOneTurn events) (own : AllByRecursion (IsOwnEvent parts) events) where
+-- an event of a turn that the image may make, and that runs
+abbrev IsOwnRun : Parts → Event → Type 0
+IsOwnRun parts event = IsOwnEvent parts event × (event ≡ Annulled → ⊥)
+
+module _ (n : ℕ) (parts : Parts) (mmu : MmuRegs) (s : State) (fits : length parts.words ≤ 65536) (events : List Event) (x new : World n Device) (leads : Leads n (pages_of parts) mmu x events new)
+    (plain : AllByRecursion IsOneTurn events) (own : AllByRecursion (IsOwnRun parts) events) where
   led_going : (k : ℕ) → k < length events → ending_of n (after board n mmu k x) ≡ None
   led_going k less =
       let e = event_at IsOneTurn events k less plain in
       let t = leads.turns k e.0 e.1 in
       not_ended n (after board n mmu k x) t.running t.sane
 
-  led_own : (k : ℕ) → k < length events → IsOwnTurn parts file (turn_at board n mmu k x)
+  led_own : (k : ℕ) → k < length events → IsOwnTurn parts s (turn_at board n mmu k x)
   led_own k less =
-      let e = event_at (IsOwnEvent parts) events k less own in
+      let e = event_at (IsOwnRun parts) events k less own in
       let t = leads.turns k e.0 e.1 in
-      touching_own parts file (turn_at board n mmu k x) fits (subst (IsOwnEvent parts) (sym t.tells) e.2) t.touches (no_word n mmu (after board n mmu k x))
+      touching_own parts s (turn_at board n mmu k x) fits (subst (IsOwnEvent parts) (sym t.tells) e.2.0) (λ annul. e.2.1 (sym t.tells ∙ annul)) t.touches (no_word n mmu (after board n mmu k x))
 
   led_counts : (c : Counts) (k : ℕ) → k ≤ length events → c.turns + k ≤ 2 ^ 64 - 1 → counts_by n mmu x k c ≡ more c k 0 0
   led_counts c zero most small = counts_are c.turns c.overflows c.underflows (c.turns + 0) (c.overflows + 0) (c.underflows + 0) (omega arith) (omega arith) (omega arith)
@@ -337,15 +342,15 @@ module _ (n : ℕ) (parts : Parts) (mmu : MmuRegs) (x : World n Device) (s : Sta
       let leads = put_law n (pages_of parts) parts.words mmu x i u may_return is in
       let events = served_events 0x82 in
       let plain : AllByRecursion IsOneTurn events = (λ c. refl, (λ c. refl, (λ c. refl, (λ c. refl, (λ c. refl, tt))))) in
-      let own : AllByRecursion (IsOwnEvent parts) events = (may, (tt, (tt, (tt, (tt, tt))))) in
+      let own : AllByRecursion (IsOwnRun parts) events = ((may, λ e. cc), ((tt, λ e. cc), ((tt, λ e. cc), ((tt, λ e. cc), ((tt, λ e. cc), tt))))) in
       let goes : does parts still (calls 2) s ≡ Goes (advanced (puts s)) = rw may refl in
       record {
         next_state = advanced (puts s);
         step = step_of n parts mmu x s r i h (calls 2) is refl still (advanced (puts s)) still_is_fresh goes;
-        going = led_going n parts mmu s.registers h.fits.words events x (put n x i) leads plain own;
-        own = led_own n parts mmu s.registers h.fits.words events x (put n x i) leads plain own;
+        going = led_going n parts mmu s h.fits.words events x (put n x i) leads plain own;
+        own = led_own n parts mmu s h.fits.words events x (put n x i) leads plain own;
         moments = moments_of 4 (put_system n (pages_of parts) parts.words mmu x i u is);
-        counts = λ c small a b. led_counts n parts mmu s.registers h.fits.words events x (put n x i) leads plain own c 5 (omega arith) small;
+        counts = λ c small a b. led_counts n parts mmu s h.fits.words events x (put n x i) leads plain own c 5 (omega arith) small;
         traffic = λ o p k. traffic_of n parts mmu x s r i h (calls 2) is refl (so_many r o p k) ∙ no_traps r o p (k + 5);
         ends = inl (subst (λ (w : World n Device). Shows n parts w (advanced (puts s)) r) (sym leads.is) put_shows);
       }
@@ -357,15 +362,15 @@ module _ (n : ℕ) (parts : Parts) (mmu : MmuRegs) (x : World n Device) (s : Sta
       let leads = get_law n (pages_of parts) parts.words mmu x i u may_return is in
       let events = served_events 0x81 in
       let plain : AllByRecursion IsOneTurn events = (λ c. refl, (λ c. refl, (λ c. refl, (λ c. refl, (λ c. refl, tt))))) in
-      let own : AllByRecursion (IsOwnEvent parts) events = (may, (tt, (tt, (tt, (tt, tt))))) in
+      let own : AllByRecursion (IsOwnRun parts) events = ((may, λ e. cc), ((tt, λ e. cc), ((tt, λ e. cc), ((tt, λ e. cc), ((tt, λ e. cc), tt))))) in
       let goes : does parts still (calls 1) s ≡ Goes (advanced (flat_gets s.input s)) = rw may refl in
       record {
         next_state = advanced (flat_gets s.input s);
         step = step_of n parts mmu x s r i h (calls 1) is refl still (advanced (flat_gets s.input s)) still_is_fresh goes;
-        going = led_going n parts mmu s.registers h.fits.words events x (got n x i) leads plain own;
-        own = led_own n parts mmu s.registers h.fits.words events x (got n x i) leads plain own;
+        going = led_going n parts mmu s h.fits.words events x (got n x i) leads plain own;
+        own = led_own n parts mmu s h.fits.words events x (got n x i) leads plain own;
         moments = moments_of 4 (get_system n (pages_of parts) parts.words mmu x i u is);
-        counts = λ c small a b. led_counts n parts mmu s.registers h.fits.words events x (got n x i) leads plain own c 5 (omega arith) small;
+        counts = λ c small a b. led_counts n parts mmu s h.fits.words events x (got n x i) leads plain own c 5 (omega arith) small;
         traffic = λ o p k. traffic_of n parts mmu x s r i h (calls 1) is refl (so_many r o p k) ∙ no_traps r o p (k + 5);
         ends = inl (subst (λ (w : World n Device). Shows n parts w (advanced (flat_gets s.input s)) r) (sym leads.is) got_shows);
       }
@@ -378,15 +383,15 @@ module _ (n : ℕ) (parts : Parts) (mmu : MmuRegs) (x : World n Device) (s : Sta
       let leads = exit_law n (pages_of parts) parts.words mmu x i u is in
       let events = exit_events v in
       let plain : AllByRecursion IsOneTurn events = (λ c. refl, (λ c. refl, (λ c. refl, tt))) in
-      let own : AllByRecursion (IsOwnEvent parts) events = (may, (tt, (tt, tt))) in
+      let own : AllByRecursion (IsOwnRun parts) events = ((may, λ e. cc), ((tt, λ e. cc), ((tt, λ e. cc), tt))) in
       let goes : does parts still (calls 0) s ≡ Goes (advanced (exits s)) = rw may refl in
       record {
         next_state = advanced (exits s);
         step = step_of n parts mmu x s r i h (calls 0) is refl still (advanced (exits s)) still_is_fresh goes;
-        going = led_going n parts mmu s.registers h.fits.words events x (exited n x i) leads plain own;
-        own = led_own n parts mmu s.registers h.fits.words events x (exited n x i) leads plain own;
+        going = led_going n parts mmu s h.fits.words events x (exited n x i) leads plain own;
+        own = led_own n parts mmu s h.fits.words events x (exited n x i) leads plain own;
         moments = moments_of 2 (exit_system n (pages_of parts) parts.words mmu x i u is);
-        counts = λ c small a b. led_counts n parts mmu s.registers h.fits.words events x (exited n x i) leads plain own c 3 (omega arith) small;
+        counts = λ c small a b. led_counts n parts mmu s h.fits.words events x (exited n x i) leads plain own c 3 (omega arith) small;
         traffic = λ o p k. traffic_of n parts mmu x s r i h (calls 0) is refl (so_many r o p k) ∙ no_traps r o p (k + 3);
         ends = inr (v, subst (λ (w : World n Device). Over n parts w (advanced (exits s)) v) (sym leads.is) exit_over);
       }

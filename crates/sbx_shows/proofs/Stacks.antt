@@ -2,7 +2,7 @@
 use Rattle.std.proofs.Common.{◌≡◌, ◌≢◌, ℕ, ◌+◌, ◌-◌, ◌*◌, ◌/◌, ◌%◌, ◌<◌, ◌≤◌, ◌⊎◌, inl, inr, Bool, true, List, length, sym, ap, ◌∙◌, subst, arith}
 use Rattle.std.specs.Prelude.{nat_le, if◌then◌else◌}
 use Rattle.std.proofs.lemmas.Bool.Decides.{nat_tests}
-use Rattle.v8_map.specs.declared.TheConstants.{CODE_TABLE, STACK_LOWEST, STACK_END, STACK_PLACE, RAM, SYSTEM_TABLE}
+use Rattle.v8_map.specs.declared.TheConstants.{CODE_TABLE, STACK_LOWEST, STACK_END, STACK_PLACE, SYSTEM_TABLE}
 use Rattle.v8_core.specs.Ram.{entry_of}
 use Rattle.v8_loaded.specs.Layout.{IsLoaded}
 use Rattle.v8_loaded.specs.Areas.{HasRoom, area_of}

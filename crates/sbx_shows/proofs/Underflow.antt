@@ -1,7 +1,7 @@
 -- A RESTORE that finds its window marked: the 24 turns of its trap keep what the board shows, with one call more in windows.
 use Rattle.std.proofs.Common.{◌≡◌, ℕ, zero, suc, ◌+◌, ◌-◌, ◌*◌, ◌%◌, ◌^◌, ◌<◌, ◌≤◌, inl, List, Some, refl, sym, ap, ◌∙◌, subst, arith}
 use Rattle.std.specs.Prelude.{slice_index}
-use Rattle.v8_map.specs.declared.TheConstants.{STACK_LOWEST, STACK_END, RAM, TABLES_END}
+use Rattle.v8_map.specs.declared.TheConstants.{STACK_LOWEST, STACK_END, TABLES_END}
 use Rattle.v8_core.specs.Three.{Three}
 use Rattle.v8_core.specs.Operation.TheVariants.{Restore}
 use Rattle.v8_core.specs.Ram.{entry_of}

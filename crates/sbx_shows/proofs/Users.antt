@@ -1,6 +1,6 @@
 -- A turn of user code that writes a register, whatever it loads: both machines go on.
 use Rattle.std.proofs.Common.{◌≡◌, ◌≢◌, ℕ, ◌+◌, ◌*◌, ◌/◌, ◌%◌, ◌^◌, ◌<◌, Bool, false, List, refl, sym, ap, ◌∙◌, subst, arith}
-use Rattle.v8_map.specs.declared.TheConstants.{CODE_START, CODE_TABLE, RAM, CONTEXT_TABLE}
+use Rattle.v8_map.specs.declared.TheConstants.{CODE_START, CODE_TABLE, CONTEXT_TABLE}
 use Rattle.v8_core.specs.Icc.{Icc}
 use Rattle.v8_core.specs.Operands.{following}
 use Rattle.v8_core.specs.Windows.{with_reg}

@@ -40,7 +40,7 @@ pub record Advances (n : ℕ) (parts : Parts) (mmu : MmuRegs) (x : World n Devic
   pub next_state : State
   pub step : Step parts s next_state
   pub going : (k : ℕ) → k < count → ending_of n (after board n mmu k x) ≡ None
-  pub own : (k : ℕ) → k < count → IsOwnTurn parts s.registers (turn_at board n mmu k x)
+  pub own : (k : ℕ) → k < count → IsOwnTurn parts s (turn_at board n mmu k x)
   pub moments : (k : ℕ) → k < count → IsMoment n parts (after board n mmu k x) s
   pub counts : (c : Counts) → c.turns + count ≤ 2 ^ 64 - 1 → c.overflows ≤ c.turns → c.underflows ≤ c.turns →
       counts_by n mmu x count c ≡ more c count overflows underflows

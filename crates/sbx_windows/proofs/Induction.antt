@@ -152,7 +152,7 @@ module _ (n : ℕ) (parts : Parts) (input earlier : List ℕ) (start : BoardStat
                     state = s;
                     run = c.run;
                     moment = subst (λ (b : BoardState n). IsMoment n parts b.world (with_earlier earlier s)) (sym here) (a.moments i (omega arith));
-                    own = subst (IsOwnTurn parts s.registers) (sym same) (a.own i (omega arith));
+                    own = subst (IsOwnTurn parts (with_earlier earlier s)) (sym same) (a.own i (omega arith));
                   }
             ];
       }

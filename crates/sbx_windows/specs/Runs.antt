@@ -33,7 +33,7 @@ pub record IsTurnBeside (n : ℕ) (parts : Parts) (input earlier : List ℕ) (be
   pub state : State
   pub run : FlatRun parts input way state
   pub moment : IsMoment n parts before.world (with_earlier earlier state)
-  pub own : IsOwnTurn parts state.registers (turned n before).0
+  pub own : IsOwnTurn parts (with_earlier earlier state) (turned n before).0
 
 -- The board came here from its start beside a flat run, in as many turns, overflows and underflows as the traffic of its path has.
 pub record Came (n : ℕ) (parts : Parts) (input earlier : List ℕ) (start : BoardState n) (x : World n Device) (s : State) (r : ℕ) : Type 0 where

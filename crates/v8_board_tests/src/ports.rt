@@ -1,6 +1,7 @@
 //! A port that fails when it is told to.
 ghost use Rattle.std.specs.Prelude.{◌≡◌, ℕ, ◌<◌, ◌≤◌};
 ghost use Rattle.v8_mmu.specs.Answers.{Rose, one_more};
+ghost use Rattle.v8_mmu.specs.Ram.{AreBytes};
 
 use v8_memory::Port;
 use v8_mmu::PortFault;
@@ -47,6 +48,13 @@ impl Probe<'_> {
     }
 }
 
+/// Tells that the elements are bytes, which is known of each one that is read.
+fn all_bytes(bytes: &[u8])
+    ensures { AreBytes bytes.now }
+{
+    let _ = bytes;
+}
+
 impl Port for Probe<'_> {
     ghost input = { λ p. p.left.now };
 
@@ -83,5 +91,9 @@ impl Port for Probe<'_> {
 
     fn failures(&self) -> u64 {
         self.failures
+    }
+
+    fn tells_bytes(&self) {
+        all_bytes(self.left);
     }
 }

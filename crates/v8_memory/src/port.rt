@@ -8,6 +8,7 @@ use v8_mmu::PortFault;
 pub trait Port: Drop {
     ghost use Rattle.std.specs.Prelude.{◌≡◌, ℕ, ◌≤◌, List, [], ◌∷◌, ◌++◌, IfErr, IfOk, OnOk, OnErr};
     ghost use Rattle.v8_mmu.specs.Answers.{Rose, one_more};
+    ghost use Rattle.v8_mmu.specs.Ram.{AreBytes};
     ghost use Rattle.v8_mmu.specs.declared.bus.PortFault.{PortFault};
     ghost use Rattle.v8_memory.specs.Input.{next_byte};
 
@@ -49,4 +50,8 @@ pub trait Port: Drop {
     /// How often it has failed, up to 2^64 - 1.
     fn failures(&self) -> u64
         ensures { result ≡ failed self.now };
+
+    /// Tells that what it has yet to give are bytes. A model's input may hold any numbers; a port's does not.
+    fn tells_bytes(&self)
+        ensures { AreBytes (input self.now) };
 }

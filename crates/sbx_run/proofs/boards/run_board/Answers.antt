@@ -19,15 +19,10 @@ returns-in-Err-clause-stands g c =
 
 pub returns-in-Err-clause-state : goal.returns-in-Err-clause-state
 returns-in-Err-clause-state g c =
-    let bytes : AreBytes c.load.new.self.state.world.memory.device.input = subst (λ (d : Device). AreBytes d.input) (sym c.load.ensures.start.device) c.requires in
+    let given : AreBytes c.args.board.now.state.world.memory.device.input = subst AreBytes c.port.ensures.input c.tells_bytes.ensures in
+    let bytes : AreBytes c.load.new.self.state.world.memory.device.input = subst (λ (d : Device). AreBytes d.input) (sym c.load.ensures.start.device) given in
     let cut : IsCutShort g.row.N c.budget.result c.load.new.self.state c.run.new.self.state = c.in-Err.ensures.stands in
     (turns_stay g.row.N c.load.new.self.state c.run.new.self.state cut.turns (c.load.ensures.state, bytes)).0
-
-pub returns-in-Err-clause-bytes : goal.returns-in-Err-clause-bytes
-returns-in-Err-clause-bytes g c =
-    let bytes : AreBytes c.load.new.self.state.world.memory.device.input = subst (λ (d : Device). AreBytes d.input) (sym c.load.ensures.start.device) c.requires in
-    let cut : IsCutShort g.row.N c.budget.result c.load.new.self.state c.run.new.self.state = c.in-Err.ensures.stands in
-    (turns_stay g.row.N c.load.new.self.state c.run.new.self.state cut.turns (c.load.ensures.state, bytes)).1
 
 pub returns-in-Err-clause-contained : goal.returns-in-Err-clause-contained
 returns-in-Err-clause-contained g c =
@@ -38,6 +33,7 @@ returns-in-Err-clause-cause g c = subst (λ k. Rose k c.run.new.self.failed) c.l
 
 pub unreachable-requires : goal.unreachable-requires
 unreachable-requires g c =
+    let given : AreBytes c.args.board.now.state.world.memory.device.input = subst AreBytes c.port.ensures.input c.tells_bytes.ensures in
     let parts = c.args.accepted.now in
     let same = c.image-image.ensures.image in
     let start = c.load.new.self.state in
@@ -45,7 +41,7 @@ unreachable-requires g c =
     let loaded : IsStart g.row.N parts c.args.board.now.state start = subst (λ (p : Parts). IsStart g.row.N p c.args.board.now.state start) same c.load.ensures.start in
     let limits : IsImage parts = subst IsImage same c.tells_limits.ensures in
     let run : IsRun g.row.N (budget parts) start end = subst (λ k. IsRun g.row.N k start end) (c.budget.ensures ∙ ap budget same) c.in-Ok.ensures.run in
-    let no = board_exits g.row.N parts c.args.board.now.state start end limits c.image-image.ensures.safe c.requires loaded c.load.ensures.state run c.in-Ok.outcome in
+    let no = board_exits g.row.N parts c.args.board.now.state start end limits c.image-image.ensures.safe given loaded c.load.ensures.state run c.in-Ok.outcome in
     elim c.in-Trapped.is [
       | inl trapped ↦ no (Trapped trapped.0) c.in-Ok.ensures.told trapped.1 (λ status e. cc)
       | inr rest ↦ elim rest [ inl error ↦ no (ErrorMode error.0) c.in-Ok.ensures.told error.1 (λ status e. cc) | inr limit ↦ no Limit c.in-Ok.ensures.told limit (λ status e. cc) ]
@@ -53,6 +49,7 @@ unreachable-requires g c =
 
 pub returns-clause-ended : goal.returns-clause-ended
 returns-clause-ended g c =
+    let given : AreBytes c.args.board.now.state.world.memory.device.input = subst AreBytes c.port.ensures.input c.tells_bytes.ensures in
     let parts = c.args.accepted.now in
     let same = c.image-image.ensures.image in
     let start = c.load.new.self.state in
@@ -60,20 +57,15 @@ returns-clause-ended g c =
     let loaded : IsStart g.row.N parts c.args.board.now.state start = subst (λ (p : Parts). IsStart g.row.N p c.args.board.now.state start) same c.load.ensures.start in
     let limits : IsImage parts = subst IsImage same c.tells_limits.ensures in
     let run : IsRun g.row.N (budget parts) start end = subst (λ k. IsRun g.row.N k start end) (c.budget.ensures ∙ ap budget same) c.in-Ok.ensures.run in
-    board_ends g.row.N parts c.args.board.now.state start end limits c.image-image.ensures.safe c.requires loaded c.load.ensures.state run _
+    board_ends g.row.N parts c.args.board.now.state start end limits c.image-image.ensures.safe given loaded c.load.ensures.state run _
     (ap (λ (e : Ending). record c.in-Ok.outcome { ending = e }) (sym c.in-Exit.is) ∙ c.in-Ok.ensures.told) (search rules)
 
 pub returns-clause-state : goal.returns-clause-state
 returns-clause-state g c =
-    let bytes : AreBytes c.load.new.self.state.world.memory.device.input = subst (λ (d : Device). AreBytes d.input) (sym c.load.ensures.start.device) c.requires in
+    let given : AreBytes c.args.board.now.state.world.memory.device.input = subst AreBytes c.port.ensures.input c.tells_bytes.ensures in
+    let bytes : AreBytes c.load.new.self.state.world.memory.device.input = subst (λ (d : Device). AreBytes d.input) (sym c.load.ensures.start.device) given in
     let run : IsRun g.row.N c.budget.result c.load.new.self.state c.run.new.self.state = c.in-Ok.ensures.run in
     (turns_stay g.row.N c.load.new.self.state c.run.new.self.state run.turns (c.load.ensures.state, bytes)).0
-
-pub returns-clause-bytes : goal.returns-clause-bytes
-returns-clause-bytes g c =
-    let bytes : AreBytes c.load.new.self.state.world.memory.device.input = subst (λ (d : Device). AreBytes d.input) (sym c.load.ensures.start.device) c.requires in
-    let run : IsRun g.row.N c.budget.result c.load.new.self.state c.run.new.self.state = c.in-Ok.ensures.run in
-    (turns_stay g.row.N c.load.new.self.state c.run.new.self.state run.turns (c.load.ensures.state, bytes)).1
 
 pub returns-clause-contained : goal.returns-clause-contained
 returns-clause-contained g c =
