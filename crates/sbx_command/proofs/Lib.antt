@@ -1,2 +1,3 @@
 pub mod Verdicts
 pub mod Sources
+pub mod Safe

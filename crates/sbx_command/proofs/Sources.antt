@@ -8,7 +8,7 @@ use Rattle.sbx_asm.specs.Meaning.{source_image}
 use Rattle.sbx_command.specs.declared.stops.Stop.{Stop}
 use Rattle.sbx_command.specs.declared.stops.Stop.TheVariants.{Source, Image, Refused, File, Input, Output, Memory}
 use Rattle.sbx_command.specs.Stops.{IsTrueOfSource, IsRefusal}
-use Rattle.sbx_command.specs.Verdicts.{IsSource, Assembled}
+use Rattle.sbx_command.specs.Verdicts.{IsSource, Assembled, FitsItsFields}
 
 pub faulty_is_no_source : (bytes : List ℕ) (fault : AsmFault) → source_image bytes ≡ Err fault → IsSource bytes → ⊥
 faulty_is_no_source bytes fault faulty source =
@@ -26,6 +26,7 @@ source_stops Memory bytes refuses told source = absurd refuses
 
 -- the spelling of the image of the known bytes of a file
 pub assembled_on : (file old new : Option (List ℕ)) (parts : Parts) (object : List ℕ) → IfSome file (λ bytes. source_image bytes ≡ Ok parts)
-    → object ≡ spelling parts → Appends old new object → Assembled file old new
-assembled_on None old new parts object means spelled grown = tt
-assembled_on (Some bytes) old new parts object means spelled grown = (parts, means, subst (λ (text : List ℕ). Appends old new text) spelled grown)
+    → FitsItsFields parts → object ≡ spelling parts → Appends old new object → Assembled file old new
+assembled_on None old new parts object means fits spelled grown = tt
+assembled_on (Some bytes) old new parts object means fits spelled grown =
+    (parts, means, fits, subst (λ (text : List ℕ). Appends old new text) spelled grown)

@@ -13,9 +13,7 @@ use Rattle.sbx_command.specs.Stops.{IsRefusal, IsTrueOf, IsTrueOfImage, status_o
 use Rattle.sbx_command.proofs.Sources.{source_stops}
 use Rattle.sbx_run.specs.declared.runner.Finished.{Finished}
 use Rattle.sbx_run.specs.Answer.{IsAnswer}
-use Rattle.sbx_run.specs.Outcome.{Outcome}
-use Rattle.sbx_run.specs.Traces.{IsTrace, Wrote}
-use Rattle.sbx_command.specs.Verdicts.{Answered, Ran, Traced, status_of_word, Deserves, IsAccepted, IsImage, IsTold, StopsFor}
+use Rattle.sbx_command.specs.Verdicts.{Answered, Ran, Traced, WroteTrace, status_of_word, Deserves, IsAccepted, IsImage, IsTold, StopsFor}
 
 pub faulty_is_no_image : (bytes : List ℕ) (fault : ImageFault) → reading bytes ≡ Err fault → IsImage bytes → ⊥
 faulty_is_no_image bytes fault faulty image =
@@ -57,9 +55,9 @@ rule_stop Memory bytes refuses told accepted = absurd refuses
 pub told_is_refused : (job : Job) (stop : Stop) (bytes : List ℕ) → IsRefusal stop → IsTold job stop bytes → Deserves job bytes → ⊥
 told_is_refused (Asm source object) stop bytes refuses told deserved = source_stops stop bytes refuses told deserved
 told_is_refused (Verify image) stop bytes refuses told deserved = rule_stop stop bytes refuses told deserved
-told_is_refused (Run image) stop bytes refuses told deserved = rule_stop stop bytes refuses told deserved
+told_is_refused (Run image windows) stop bytes refuses told deserved = rule_stop stop bytes refuses told deserved
 told_is_refused (Listing image) stop bytes refuses told deserved = image_stop stop bytes refuses told deserved
-told_is_refused (Trace image limit) stop bytes refuses told deserved = image_stop stop bytes refuses told deserved
+told_is_refused (Trace image windows limit) stop bytes refuses told deserved = image_stop stop bytes refuses told deserved
 
 pub known_is_refused : (known : Option (List ℕ)) (job : Job) (stop : Stop) → IsRefusal stop
     → IfSome known (IsTold job stop) → IfSome known (λ bytes. Deserves job bytes → ⊥)
@@ -74,30 +72,35 @@ appends_kept (Some x) (Some y) None bs p q = absurd q
 appends_kept (Some x) (Some y) (Some z) bs p q = q ∙ p
 
 -- a run of the known bytes of a file on the known bytes of an input
-pub answered_on : (file input : Option (List ℕ)) (parts : Parts) (taken : List ℕ) (finished : Finished)
+pub answered_on : (windows : ℕ) (file input : Option (List ℕ)) (parts : Parts) (taken : List ℕ) (finished : Finished)
     → IfSome file (λ bytes. (reading bytes ≡ Ok parts) × Checked parts) → IfSome input (λ all. taken ≡ all)
-    → IsAnswer parts 8 taken finished → Answered file input finished
-answered_on None input parts taken finished read same answer = tt
-answered_on (Some bytes) None parts taken finished read same answer = tt
-answered_on (Some bytes) (Some all) parts taken finished read same answer =
-    (parts, read.0, subst (λ (input : List ℕ). IsAnswer parts 8 input finished) same answer)
+    → IsAnswer parts windows taken finished → Answered windows file input finished
+answered_on windows None input parts taken finished read same answer = tt
+answered_on windows (Some bytes) None parts taken finished read same answer = tt
+answered_on windows (Some bytes) (Some all) parts taken finished read same answer =
+    (parts, read.0, subst (λ (input : List ℕ). IsAnswer parts windows input finished) same answer)
 
 -- and what is put out of it
-pub ran_on : (file input old new : Option (List ℕ)) (finished : Finished) (status : ℕ) → Answered file input finished
-    → Appends old new finished.output.items → status ≡ status_of_word finished.status → Ran file input old new status
-ran_on None input old new finished status answered grown told = tt
-ran_on (Some bytes) None old new finished status answered grown told = tt
-ran_on (Some bytes) (Some all) old new finished status answered grown told =
+pub ran_on : (windows : ℕ) (file input old new : Option (List ℕ)) (finished : Finished) (status : ℕ) → Answered windows file input finished
+    → Appends old new finished.output.items → status ≡ status_of_word finished.status → Ran windows file input old new status
+ran_on windows None input old new finished status answered grown told = tt
+ran_on windows (Some bytes) None old new finished status answered grown told = tt
+ran_on windows (Some bytes) (Some all) old new finished status answered grown told =
     (answered.0, finished, answered.1, answered.2, grown, told)
 
+-- a trace on as many windows as another number says
+pub trace_at : (n windows : ℕ) (parts : Parts) (input : List ℕ) (limit : ℕ) (old new : Option (List ℕ)) → windows ≡ n
+    → WroteTrace n parts input limit old new → WroteTrace windows parts input limit old new
+trace_at n windows parts input limit old new same wrote = subst (λ (w : ℕ). WroteTrace w parts input limit old new) (sym same) wrote
+
 -- a trace of the known bytes of a file on the known bytes of an input
-pub traced_on : (limit : ℕ) (file input old new : Option (List ℕ)) (parts : Parts) (taken : List ℕ) (outcome : Outcome)
+pub traced_on : (windows limit : ℕ) (file input old new : Option (List ℕ)) (parts : Parts) (taken : List ℕ)
     → IfSome file (λ bytes. reading bytes ≡ Ok parts) → IfSome input (λ all. taken ≡ all)
-    → Wrote old new (λ text. IsTrace 8 parts taken limit text outcome) → Traced limit file input old new
-traced_on limit None input old new parts taken outcome read same wrote = tt
-traced_on limit (Some bytes) None old new parts taken outcome read same wrote = tt
-traced_on limit (Some bytes) (Some all) old new parts taken outcome read same wrote =
-    (parts, outcome, wrote.0, read, subst (λ (input : List ℕ). IsTrace 8 parts input limit wrote.0 outcome) same wrote.1, wrote.2)
+    → WroteTrace windows parts taken limit old new → Traced windows limit file input old new
+traced_on windows limit None input old new parts taken read same wrote = tt
+traced_on windows limit (Some bytes) None old new parts taken read same wrote = tt
+traced_on windows limit (Some bytes) (Some all) old new parts taken read same wrote =
+    (parts, read, subst (λ (input : List ℕ). WroteTrace windows parts input limit old new) same wrote)
 
 -- a stop of a job, whose status is told
 pub stops_for : (job : Job) (known : Option (List ℕ)) (Untouched : Type 0) (stop : Stop) (status : ℕ) → status ≡ status_of stop

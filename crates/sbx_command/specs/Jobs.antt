@@ -7,6 +7,6 @@ use Rattle.sbx_command.specs.declared.jobs.Job.TheVariants.{Asm, Verify, Run, Li
 abbrev pub IsInRange : Job → Type 0
 IsInRange (Asm source object) = Unit {0}
 IsInRange (Verify image) = Unit {0}
-IsInRange (Run image) = Unit {0}
+IsInRange (Run image windows) = (4 ≤ windows) × (windows ≤ 32)
 IsInRange (List image) = Unit {0}
-IsInRange (Trace image limit) = limit ≤ 9999999999
+IsInRange (Trace image windows limit) = (4 ≤ windows) × (windows ≤ 32) × (limit ≤ 9999999999)

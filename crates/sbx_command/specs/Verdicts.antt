@@ -4,11 +4,12 @@ use Rattle.std.specs.Io.KnownBytes.{Appends}
 use Rattle.sbx_run.specs.declared.runner.Finished.{Finished}
 use Rattle.sbx_run.specs.Answer.{IsAnswer}
 use Rattle.sbx_run.specs.Outcome.{Outcome}
-use Rattle.sbx_run.specs.Traces.{IsTrace}
+use Rattle.sbx_run.specs.Traces.{IsTrace, Wrote}
 use Rattle.sbx_image.specs.declared.parts.Parts.{Parts}
 use Rattle.sbx_image.specs.Reading.{reading}
-use Rattle.sbx_image.specs.Spelling.{spelling}
+use Rattle.sbx_image.specs.Spelling.{IsTyped, spelling}
 use Rattle.sbx_asm.specs.Meaning.{source_image}
+use Rattle.sbx_flat.specs.Runs.{AreBytes}
 use Rattle.sbx_rules.specs.Verdicts.{Checked}
 use Rattle.sbx_command.specs.declared.jobs.Job.{Job}
 use Rattle.sbx_command.specs.declared.jobs.Job.TheVariants.{Asm, Verify, Run, List as Listing, Trace}
@@ -31,61 +32,71 @@ IsSource bytes = (parts : Parts) × (source_image bytes ≡ Ok parts)
 abbrev pub Deserves : Job → List ℕ → Type 0
 Deserves (Asm source object) bytes = IsSource bytes
 Deserves (Verify image) bytes = IsAccepted bytes
-Deserves (Run image) bytes = IsAccepted bytes
+Deserves (Run image windows) bytes = IsAccepted bytes
 Deserves (Listing image) bytes = IsImage bytes
-Deserves (Trace image limit) bytes = IsImage bytes
+Deserves (Trace image windows limit) bytes = IsImage bytes
 
 -- what a stop tells of the bytes that a job reads
 abbrev pub IsTold : Job → Stop → List ℕ → Type 0
 IsTold (Asm source object) stop bytes = IsTrueOfSource stop bytes
 IsTold (Verify image) stop bytes = IsTrueOf stop bytes
-IsTold (Run image) stop bytes = IsTrueOf stop bytes
+IsTold (Run image windows) stop bytes = IsTrueOf stop bytes
 IsTold (Listing image) stop bytes = IsTrueOfImage stop bytes
-IsTold (Trace image limit) stop bytes = IsTrueOfImage stop bytes
+IsTold (Trace image windows limit) stop bytes = IsTrueOfImage stop bytes
 
 -- 0 where the exit word is 0, else 1
 abbrev pub status_of_word : ℕ → ℕ
 status_of_word word = if word == 0 then 0 else 1
 
--- what the image of the bytes gives on the input, on 8 windows, where the bytes of the file and of the input are known
-abbrev pub Answered : Option (List ℕ) → Option (List ℕ) → Finished → Type 0
-Answered file input finished = IfSome file (λ bytes. IfSome input (λ all.
-    (parts : Parts) × (reading bytes ≡ Ok parts) × IsAnswer parts 8 all finished))
+-- what the image of the bytes gives on the input, on so many windows, where the bytes of the file and of the input are known
+abbrev pub Answered : ℕ → Option (List ℕ) → Option (List ℕ) → Finished → Type 0
+Answered windows file input finished = IfSome file (λ bytes. IfSome input (λ all.
+    (parts : Parts) × (reading bytes ≡ Ok parts) × IsAnswer parts windows all finished))
 
--- The output grew by what the image of the bytes puts out on the input, on 8 windows, and the status is that of its exit word.
-abbrev pub RanOn : List ℕ → List ℕ → Option (List ℕ) → Option (List ℕ) → ℕ → Type 0
-RanOn bytes input old new status =
-    (parts : Parts) × (finished : Finished) × (reading bytes ≡ Ok parts) × IsAnswer parts 8 input finished
+-- The output grew by what the image of the bytes puts out on the input, on so many windows, and the status is that of its exit word.
+-- Both are those of each run of the flat machine, whatever the count of windows is: that is a part of an answer.
+abbrev pub RanOn : ℕ → List ℕ → List ℕ → Option (List ℕ) → Option (List ℕ) → ℕ → Type 0
+RanOn windows bytes input old new status =
+    (parts : Parts) × (finished : Finished) × (reading bytes ≡ Ok parts) × IsAnswer parts windows input finished
     × Appends old new finished.output.items × (status ≡ status_of_word finished.status)
 
 -- the same where the bytes of the file and of the input are known
-abbrev pub Ran : Option (List ℕ) → Option (List ℕ) → Option (List ℕ) → Option (List ℕ) → ℕ → Type 0
-Ran file input old new status = IfSome file (λ bytes. IfSome input (λ all. RanOn bytes all old new status))
+abbrev pub Ran : ℕ → Option (List ℕ) → Option (List ℕ) → Option (List ℕ) → Option (List ℕ) → ℕ → Type 0
+Ran windows file input old new status = IfSome file (λ bytes. IfSome input (λ all. RanOn windows bytes all old new status))
 
--- The output grew by the spelling of the image that the bytes of the file mean, where they are known.
+-- each number of the parts is one that its field can hold, and the data are bytes
+abbrev pub FitsItsFields : Parts → Type 0
+FitsItsFields parts = IsTyped parts × AreBytes parts.bytes
+
+-- The output grew by the spelling of the image that the bytes of the file mean, where they are known. Each of its numbers fits its field:
+-- so a law says that it is read again, and is safe where it breaks no rule.
 abbrev pub AssembledFrom : List ℕ → Option (List ℕ) → Option (List ℕ) → Type 0
-AssembledFrom bytes old new = (parts : Parts) × (source_image bytes ≡ Ok parts) × Appends old new (spelling parts)
+AssembledFrom bytes old new = (parts : Parts) × (source_image bytes ≡ Ok parts) × FitsItsFields parts × Appends old new (spelling parts)
 
 abbrev pub Assembled : Option (List ℕ) → Option (List ℕ) → Option (List ℕ) → Type 0
 Assembled file old new = IfSome file (λ bytes. AssembledFrom bytes old new)
 
--- The output grew by the trace of the image of the bytes on the input, on 8 windows, up to the limit.
-abbrev pub TracedOn : ℕ → List ℕ → List ℕ → Option (List ℕ) → Option (List ℕ) → Type 0
-TracedOn limit bytes input old new =
-    (parts : Parts) × (outcome : Outcome) × (text : List ℕ) × (reading bytes ≡ Ok parts) × IsTrace 8 parts input limit text outcome
-    × Appends old new text
+-- The output grew by the trace of an image on an input, on so many windows, up to a limit.
+abbrev pub WroteTrace : ℕ → Parts → List ℕ → ℕ → Option (List ℕ) → Option (List ℕ) → Type 0
+WroteTrace windows parts input limit old new =
+    (outcome : Outcome) × Wrote old new (λ text. IsTrace windows parts input limit text outcome)
+
+-- It is the trace of the image of the bytes.
+abbrev pub TracedOn : ℕ → ℕ → List ℕ → List ℕ → Option (List ℕ) → Option (List ℕ) → Type 0
+TracedOn windows limit bytes input old new =
+    (parts : Parts) × (reading bytes ≡ Ok parts) × WroteTrace windows parts input limit old new
 
 -- the same where the bytes of the file and of the input are known
-abbrev pub Traced : ℕ → Option (List ℕ) → Option (List ℕ) → Option (List ℕ) → Option (List ℕ) → Type 0
-Traced limit file input old new = IfSome file (λ bytes. IfSome input (λ all. TracedOn limit bytes all old new))
+abbrev pub Traced : ℕ → ℕ → Option (List ℕ) → Option (List ℕ) → Option (List ℕ) → Option (List ℕ) → Type 0
+Traced windows limit file input old new = IfSome file (λ bytes. IfSome input (λ all. TracedOn windows limit bytes all old new))
 
 -- what a job that is done has put out
 abbrev pub Gave : Job → Option (List ℕ) → Option (List ℕ) → Option (List ℕ) → Option (List ℕ) → ℕ → Type 0
 Gave (Asm source object) file input old new status = Assembled file old new × (status ≡ 0)
 Gave (Verify image) file input old new status = Unit {0}
-Gave (Run image) file input old new status = Ran file input old new status
+Gave (Run image windows) file input old new status = Ran windows file input old new status
 Gave (Listing image) file input old new status = Unit {0}
-Gave (Trace image limit) file input old new status = Traced limit file input old new × (status ≡ 0)
+Gave (Trace image windows limit) file input old new status = Traced windows limit file input old new × (status ≡ 0)
 
 -- A status is that of a stop, which tells what is so of the bytes of the file. Where it refuses them, they don't deserve the job, and
 -- what a refusal leaves as it was is as it was.

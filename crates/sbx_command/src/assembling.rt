@@ -3,8 +3,9 @@ ghost use Rattle.std.specs.Prelude.{◌≡◌, ◌⊎◌, IfErr, IfOk, IfSome, O
 ghost use Rattle.std.specs.Io.KnownBytes.{Appends};
 ghost use Rattle.sbx_image.specs.Spelling.{spelling};
 ghost use Rattle.sbx_asm.specs.Meaning.{source_image};
+ghost use Rattle.sbx_flat.specs.Runs.{AreBytes};
 ghost use Rattle.sbx_command.specs.Stops.{IsRefusal, IsTrueOfSource};
-ghost use Rattle.sbx_command.specs.Verdicts.{IsSource, Assembled};
+ghost use Rattle.sbx_command.specs.Verdicts.{IsSource, Assembled, FitsItsFields};
 
 use crate::reading::{MOST, ReadFault, read_whole};
 use crate::stops::Stop;
@@ -12,6 +13,21 @@ use sbx_asm::assemble;
 use sbx_image::{Image, write};
 use std::alloc::{AllocError, Global};
 use std::io::{ErrorKind, Read, Write};
+
+/// Tells that bytes are bytes.
+fn tells_bytes(bytes: &[u8])
+    ensures { AreBytes bytes.now }
+{
+    let _count = bytes.len();
+}
+
+/// Tells that each number of an image is one that its field can hold.
+fn tells_fields(image: &Image)
+    ensures { FitsItsFields image.now }
+{
+    image.keeps_its_format();
+    tells_bytes(image.bytes());
+}
 
 /// The image that the source in a file means.
 fn source_in<F: Read>(alloc: Global, file: &mut F) -> Result<Image, Stop>
@@ -56,6 +72,7 @@ pub fn assemble_file<F: Read, O: Write>(
     ensures untouched { IfErr result (λ stop. IsRefusal stop → out.new ≡ out.old) }
 {
     let image = source_in(alloc, file)?;
+    tells_fields(&image);
     match write(&image, alloc) {
         Ok(bytes) => store(out, bytes.as_slice()),
         Err(AllocError) => Err(Stop::Memory),

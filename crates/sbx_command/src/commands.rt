@@ -38,13 +38,13 @@ fn perform<F: Read, I: Read, O: Write>(
             verify_file(alloc, file, out)?;
             Ok(0)
         }
-        Job::Run { .. } => run_file(alloc, file, input, out),
+        Job::Run { windows, .. } => run_file(alloc, windows, file, input, out),
         Job::List { .. } => {
             list_file(alloc, file, out)?;
             Ok(0)
         }
-        Job::Trace { limit, .. } => {
-            trace_file(alloc, limit, file, input, out)?;
+        Job::Trace { windows, limit, .. } => {
+            trace_file(alloc, windows, limit, file, input, out)?;
             Ok(0)
         }
     }

@@ -3,19 +3,35 @@ ghost use Rattle.std.specs.Prelude.{◌≡◌, ◌≤◌, IfSome, None, Some};
 ghost use Rattle.std.specs.Option.{SomeIff};
 ghost use Rattle.std.specs.Str.Parse.{IsNumeral, digits_value};
 
+use crate::counts::Windows;
+
 /// One job of the sandbox. Each path that it needs stands in it.
 #[derive(Clone, Copy, Debug, PartialEq, Eq)]
 pub enum Job<'a> {
     /// Assembles the source file to an object file.
-    Asm { source: &'a str, object: &'a str },
+    Asm {
+        source: &'a str,
+        object: &'a str,
+    },
     /// Verifies the image file.
-    Verify { image: &'a str },
-    /// Verifies the image file and runs it.
-    Run { image: &'a str },
+    Verify {
+        image: &'a str,
+    },
+    /// Verifies the image file and runs it on so many register windows.
+    Run {
+        image: &'a str,
+        windows: Windows,
+    },
     /// Prints the code of the image file.
-    List { image: &'a str },
-    /// Prints a line for each turn of a run of the image file, up to a limit of turns.
-    Trace { image: &'a str, limit: u64 },
+    List {
+        image: &'a str,
+    },
+    /// Prints a line for each turn of a run of the image file on so many register windows, up to a limit of turns.
+    Trace {
+        image: &'a str,
+        windows: Windows,
+        limit: u64,
+    },
 }
 
 /// The most turns that a trace may be asked for: as many as ten decimal digits count.
@@ -48,5 +64,24 @@ pub fn turns(text: Option<&str>) -> Option<u64>
     match text {
         Some(text) => decimal(text, MOST_TURNS),
         None => Some(TURNS),
+    }
+}
+
+/// The greatest count of windows.
+const MOST_WINDOWS: u64 = 32;
+
+/// The count of windows that a text gives: decimal digits alone, 4 to 32. Without a text it is 8.
+pub fn window_count(text: Option<&str>) -> Option<Windows>
+    ensures given { IfSome text.entry (λ text. SomeIff result
+        (IsNumeral 10 text.now × (4 ≤ digits_value 10 text.now) × (digits_value 10 text.now ≤ 32)) (digits_value 10 text.now)) }
+    ensures left_out { text.entry ≡ None → result ≡ Some 8 }
+    ensures range { IfSome result (λ windows. (4 ≤ windows) × (windows ≤ 32)) }
+{
+    match text {
+        Some(text) => match decimal(text, MOST_WINDOWS) {
+            Some(number) => Windows::new(number as u32),
+            None => None,
+        },
+        None => Some(Windows::USUAL),
     }
 }

@@ -3,8 +3,10 @@
 
 mod assembling;
 mod commands;
+mod counts;
 mod images;
 mod jobs;
+pub mod laws;
 mod listing;
 mod reading;
 mod running;
@@ -13,6 +15,7 @@ mod tracing;
 mod verifying;
 
 pub use commands::command;
-pub use jobs::{Job, MOST_TURNS, decimal, turns};
+pub use counts::Windows;
+pub use jobs::{Job, MOST_TURNS, decimal, turns, window_count};
 pub use reading::{ReadFault, read_whole};
 pub use stops::Stop;

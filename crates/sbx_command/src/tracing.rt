@@ -1,26 +1,147 @@
 //! The command `trace`.
-ghost use Rattle.std.specs.Prelude.{◌≡◌, IfErr, IfSome, OnOk};
+ghost use Rattle.std.specs.Prelude.{◌≡◌, ◌≤◌, IfErr, IfSome, OnOk};
 ghost use Rattle.sbx_command.specs.Stops.{IsRefusal, IsTrueOfImage};
-ghost use Rattle.sbx_command.specs.Verdicts.{IsImage, Traced};
+ghost use Rattle.sbx_command.specs.Verdicts.{IsImage, Traced, WroteTrace};
 
+use crate::counts::Windows;
 use crate::images::image_in;
 use crate::running::input_of;
 use crate::stops::Stop;
-use sbx_run::trace;
+use sbx_image::Image;
+use sbx_run::{RunFault, trace};
 use std::alloc::Global;
 use std::io::{Read, Write};
 
-/// Writes the trace of the image of a file on the input, on 8 windows, up to so many turns. The input is read whole before the run.
+/// Writes the trace on `N` windows, which are as many as the number says.
+#[tactic(auto, using(crate::proofs::Verdicts::trace_at))]
+fn trace_on<const N: usize, O: Write>(
+    alloc: Global,
+    windows: u32,
+    image: &Image,
+    input: &[u8],
+    limit: u64,
+    out: &mut O,
+) -> Result<(), RunFault>
+    requires range { (4 ≤ N) × (N ≤ 32) }
+    requires same { windows ≡ N }
+    ensures { OnOk result (WroteTrace windows image.now input.now limit (O.contents out.old) (O.contents out.new)) }
+{
+    let _ = windows;
+    match trace::<N, O>(alloc, image, input, limit, out) {
+        Ok(_outcome) => Ok(()),
+        Err(fault) => Err(fault),
+    }
+}
+
+/// The trace on as many windows as there are, of these numbers, which rise from the least that it can be to the greatest.
+macro_rules! traced_on {
+    ($windows:ident, $alloc:ident, $image:ident, $input:ident, $limit:ident, $out:ident: $($count:literal)* or $last:literal) => {{
+        $(
+            if $windows <= $count {
+                return trace_on::<$count, O>($alloc, $windows, $image, $input, $limit, $out);
+            }
+        )*
+        trace_on::<$last, O>($alloc, $windows, $image, $input, $limit, $out)
+    }};
+}
+
+/// Writes the trace on 4 to 10 windows.
+fn trace_to_10<O: Write>(
+    alloc: Global,
+    windows: u32,
+    image: &Image,
+    input: &[u8],
+    limit: u64,
+    out: &mut O,
+) -> Result<(), RunFault>
+    requires { (4 ≤ windows) × (windows ≤ 10) }
+    ensures { OnOk result (WroteTrace windows image.now input.now limit (O.contents out.old) (O.contents out.new)) }
+{
+    traced_on!(windows, alloc, image, input, limit, out: 4 5 6 7 8 9 or 10)
+}
+
+/// Writes the trace on 11 to 17 windows.
+fn trace_to_17<O: Write>(
+    alloc: Global,
+    windows: u32,
+    image: &Image,
+    input: &[u8],
+    limit: u64,
+    out: &mut O,
+) -> Result<(), RunFault>
+    requires { (11 ≤ windows) × (windows ≤ 17) }
+    ensures { OnOk result (WroteTrace windows image.now input.now limit (O.contents out.old) (O.contents out.new)) }
+{
+    traced_on!(windows, alloc, image, input, limit, out: 11 12 13 14 15 16 or 17)
+}
+
+/// Writes the trace on 18 to 24 windows.
+fn trace_to_24<O: Write>(
+    alloc: Global,
+    windows: u32,
+    image: &Image,
+    input: &[u8],
+    limit: u64,
+    out: &mut O,
+) -> Result<(), RunFault>
+    requires { (18 ≤ windows) × (windows ≤ 24) }
+    ensures { OnOk result (WroteTrace windows image.now input.now limit (O.contents out.old) (O.contents out.new)) }
+{
+    traced_on!(windows, alloc, image, input, limit, out: 18 19 20 21 22 23 or 24)
+}
+
+/// Writes the trace on 25 to 32 windows.
+fn trace_to_32<O: Write>(
+    alloc: Global,
+    windows: u32,
+    image: &Image,
+    input: &[u8],
+    limit: u64,
+    out: &mut O,
+) -> Result<(), RunFault>
+    requires { (25 ≤ windows) × (windows ≤ 32) }
+    ensures { OnOk result (WroteTrace windows image.now input.now limit (O.contents out.old) (O.contents out.new)) }
+{
+    traced_on!(windows, alloc, image, input, limit, out: 25 26 27 28 29 30 31 or 32)
+}
+
+/// Writes the trace of an image on an input, on so many windows, up to so many turns. Each count is a machine of its own, and each
+/// function has few of them, since a function costs its proof by its ways out.
+fn trace_windows<O: Write>(
+    alloc: Global,
+    windows: Windows,
+    image: &Image,
+    input: &[u8],
+    limit: u64,
+    out: &mut O,
+) -> Result<(), RunFault>
+    ensures { OnOk result (WroteTrace windows image.now input.now limit (O.contents out.old) (O.contents out.new)) }
+{
+    let count = windows.count();
+    if count <= 10 {
+        trace_to_10(alloc, count, image, input, limit, out)
+    } else if count <= 17 {
+        trace_to_17(alloc, count, image, input, limit, out)
+    } else if count <= 24 {
+        trace_to_24(alloc, count, image, input, limit, out)
+    } else {
+        trace_to_32(alloc, count, image, input, limit, out)
+    }
+}
+
+/// Writes the trace of the image of a file on the input, on so many windows, up to so many turns. The input is read whole before
+/// the run.
 #[tactic(auto, using(crate::proofs::Verdicts::traced_on))]
 pub fn trace_file<F: Read, I: Read, O: Write>(
     alloc: Global,
+    windows: Windows,
     limit: u64,
     file: &mut F,
     input: &mut I,
     out: &mut O,
 ) -> Result<(), Stop>
     ensures image { OnOk result (IfSome (F.remaining file.old) IsImage) }
-    ensures traced { OnOk result (Traced limit (F.remaining file.old) (I.remaining input.old)
+    ensures traced { OnOk result (Traced windows limit (F.remaining file.old) (I.remaining input.old)
         (O.contents out.old) (O.contents out.new)) }
     ensures stop { IfErr result (λ stop. IfSome (F.remaining file.old) (IsTrueOfImage stop)) }
     ensures untouched { IfErr result (λ stop. IsRefusal stop
@@ -28,6 +149,6 @@ pub fn trace_file<F: Read, I: Read, O: Write>(
 {
     let image = image_in(alloc, file)?;
     let bytes = input_of(alloc, input)?;
-    trace::<8, O>(alloc, &image, bytes.as_slice(), limit, out)?;
+    trace_windows(alloc, windows, &image, bytes.as_slice(), limit, out)?;
     Ok(())
 }

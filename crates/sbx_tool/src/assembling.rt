@@ -1,8 +1,8 @@
 //! The command `asm` on files.
-use crate::files::{opened, stored};
+use crate::files::{is_same_file, opened, stored};
 use sbx_command::{Job, Stop, command};
 
-/// Assembles the source at a path. The object is opened only where the source means an image.
+/// Assembles the source at a path. The object is opened only where the source means an image; the source itself is no object.
 pub fn assemble_to(
     rt: &HostRuntime,
     job: &Job<'_>,
@@ -19,6 +19,9 @@ pub fn assemble_to(
         &mut bytes,
         &mut rt.stderr(),
     );
+    if status == 0 && is_same_file(rt, source, object) {
+        return Err(Stop::Output);
+    }
     if status == 0 {
         stored(rt, object, bytes.as_slice())?;
     }

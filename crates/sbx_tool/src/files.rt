@@ -1,6 +1,8 @@
 //! Files by their paths.
 use sbx_command::Stop;
 use std::fs::File;
+use std::io::Write;
+use std::os::unix::fs::MetadataExt;
 use std::{fs, io};
 
 /// The file at a path, to be read.
@@ -12,9 +14,66 @@ pub fn opened(rt: &HostRuntime, path: &str) -> Result<File, Stop> {
     }
 }
 
-/// Makes the file at a path, or empties it, and writes all bytes to it.
+/// Whether two paths have the same plain file.
+pub fn is_same_file(rt: &HostRuntime, one: &str, other: &str) -> bool {
+    match (fs::metadata(rt, one), fs::metadata(rt, other)) {
+        (Ok(one), Ok(other)) => {
+            one.is_file() && one.dev() == other.dev() && one.ino() == other.ino()
+        }
+        _ => false,
+    }
+}
+
+/// Whether a path has a plain file that may be written, or nothing.
+fn is_plain(rt: &HostRuntime, path: &str) -> bool {
+    match fs::symlink_metadata(rt, path) {
+        Ok(found) => found.is_file() && !found.permissions().readonly(),
+        Err(error) => error.kind() == io::ErrorKind::NotFound,
+    }
+}
+
+/// A new file beside a path, with the permissions of the plain file that is there; none where that can't be made, or where the
+/// path has something else.
+fn made_beside(rt: &HostRuntime, path: &str, beside: &str) -> Option<File> {
+    if !is_plain(rt, path) {
+        return None;
+    }
+    let file = File::create_new(rt, beside).ok()?;
+    if let Ok(found) = fs::metadata(rt, path) {
+        let _ = file.set_permissions(found.permissions());
+    }
+    Some(file)
+}
+
+/// Writes all bytes to a new file, which then takes the place of the one at a path. Where that fails it is removed.
+fn replaced(
+    rt: &HostRuntime,
+    mut file: File,
+    beside: &str,
+    path: &str,
+    bytes: &[u8],
+) -> io::Result<()> {
+    let done = match file.write_all(bytes) {
+        Ok(()) => fs::rename(rt, beside, path),
+        Err(error) => Err(error),
+    };
+    if done.is_err() {
+        let _ = fs::remove_file(rt, beside);
+    }
+    done
+}
+
+/// Makes the file at a path, or replaces it, with all bytes. A plain file is whole or as it was: it is written beside, to the path with
+/// `.part` behind it, and renamed. What else is at the path, as a device, a pipe or a link, is opened and written.
 pub fn stored(rt: &HostRuntime, path: &str, bytes: &[u8]) -> Result<(), Stop> {
-    match fs::write(rt, path, bytes) {
+    let Ok(beside) = format!(in rt.alloc(); "{path}.part") else {
+        return Err(Stop::Memory);
+    };
+    let written = match made_beside(rt, path, beside.as_str()) {
+        Some(file) => replaced(rt, file, beside.as_str(), path, bytes),
+        None => fs::write(rt, path, bytes),
+    };
+    match written {
         Ok(()) => Ok(()),
         Err(error) if error.kind() == io::ErrorKind::OutOfMemory => Err(Stop::Memory),
         Err(_) => Err(Stop::Output),

@@ -48,7 +48,7 @@ fn perform(rt: &HostRuntime, words: &[String]) -> Result<u8, Stop> {
         Ok(job) => match job {
             Job::Asm { source, object } => assemble_to(rt, &job, source, object),
             Job::Verify { image }
-            | Job::Run { image }
+            | Job::Run { image, .. }
             | Job::List { image }
             | Job::Trace { image, .. } => on_streams(rt, &job, image),
         },

@@ -1,0 +1,36 @@
+-- The image that a source means, from its meaning to what it does.
+use Rattle.std.proofs.Common.{◌≡◌, ℕ, List, Option, None, Some, Result, Ok, Err, refl, rules}
+use Rattle.sbx_image.specs.declared.fault.ImageFault.{ImageFault}
+use Rattle.sbx_image.specs.declared.parts.Parts.{Parts}
+use Rattle.sbx_image.specs.Rules.{parts_keep}
+use Rattle.sbx_image.specs.Reading.{reading}
+use Rattle.sbx_image.specs.Spelling.{spelling}
+use Rattle.sbx_image.proofs.AgainLaws.{reading_again}
+use Rattle.sbx_asm.specs.declared.draft.Draft.{Draft}
+use Rattle.sbx_asm.specs.declared.fault.AsmFault.{AsmFault}
+use Rattle.sbx_asm.specs.Drafts.{close_function}
+use Rattle.sbx_asm.specs.Lines.{lines_of}
+use Rattle.sbx_asm.specs.Meaning.{source_image, image_in, judged, kept, parts_in, draft_in, labels_in}
+use Rattle.sbx_flat.specs.Runs.{FlatSafe}
+use Rattle.sbx_rules.specs.Verdicts.{Checked}
+use Rattle.sbx_sound.proofs.Whole.{checked_is_safe}
+use Rattle.sbx_command.specs.Laws.{SourcesAreSafe}
+
+kept_keeps : (after : ℕ) (p parts : Parts) (verdict : Result (Unit {0}) ImageFault) → parts_keep p ≡ verdict → kept after p verdict ≡ Ok parts
+    → parts_keep parts ≡ Ok tt
+kept_keeps after p parts (Ok u) is told = search rules
+kept_keeps after p parts (Err f) is told = search rules
+
+judged_keeps : (after : ℕ) (fault : Option AsmFault) (p parts : Parts) → judged after fault p ≡ Ok parts → parts_keep parts ≡ Ok tt
+judged_keeps after (Some f) p parts told = search rules
+judged_keeps after None p parts told = kept_keeps after p parts (parts_keep p) refl told
+
+-- an image that a source means keeps the limits and orders of the format
+pub source_keeps : (source : List ℕ) (parts : Parts) → source_image source ≡ Ok parts → parts_keep parts ≡ Ok tt
+unfolding source_image
+source_keeps source parts told = judged_keeps _ _ _ parts told
+
+pub sources_are_safe : SourcesAreSafe
+sources_are_safe source parts told fits =
+    let keeps : parts_keep parts ≡ Ok tt = source_keeps source parts told in
+    (reading_again parts fits.0 keeps, checked_is_safe parts (record { kept = keeps; typed = fits.0; bytes = fits.1 }))
