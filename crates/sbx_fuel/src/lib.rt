@@ -6,3 +6,4 @@ mod starts;
 mod sums;
 
 pub use edges::{is_enough, is_within_budget, lasts, names_strange};
+pub use starts::fuel_terms;

@@ -84,8 +84,9 @@ pub(crate) fn names_none(function: &Function, number: usize, block: &Block) -> b
         .any(|term| !names(function, number, block, term.location))
 }
 
-/// The terms of a block's fuel; one that names no cell counts 0.
-pub(crate) fn fuel_terms<const N: usize>(
+/// The terms of the fuel of a function's block of that number, as the rules count them: one that names no cell counts 0. A
+/// coefficient is in turns for each 1 of its location's number.
+pub fn fuel_terms<const N: usize>(
     function: &Function,
     number: usize,
     block: &Block,

@@ -1,9 +1,4 @@
 pub mod Telling
-pub mod Visiting
-pub mod InOrder
-pub mod Searches
-pub mod Limits
-pub mod Stepping
 pub mod Paid
 pub mod Blocks
 pub mod Params

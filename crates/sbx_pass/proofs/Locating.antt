@@ -4,9 +4,9 @@ use Rattle.std.specs.Prelude.{IfSome, slice_get}
 use Rattle.sbx_image.specs.declared.parts.Parts.{Parts}
 use Rattle.sbx_domain.specs.Known.{Known}
 use Rattle.sbx_rules.specs.Ways.{Visit, visits_at}
-use Rattle.sbx_pass.specs.declared.courses.Course.{Course}
-use Rattle.sbx_pass.specs.declared.courses.Courses.{Courses}
-use Rattle.sbx_pass.specs.Courses.{arrivals_at, arrived, listed, visit_of, visits_of}
+use Rattle.sbx_known.specs.declared.courses.Course.{Course}
+use Rattle.sbx_known.specs.declared.courses.Courses.{Courses}
+use Rattle.sbx_known.specs.Courses.{arrivals_at, arrived, listed, visit_of, visits_of}
 use Rattle.sbx_fuel.specs.Least.{HasOnlyLocations}
 use Rattle.sbx_fuel.proofs.Locations.{after_has_locations, visits_have_locations}
 use Rattle.sbx_pass.proofs.Paid.{from_map}

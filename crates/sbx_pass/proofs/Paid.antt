@@ -6,9 +6,9 @@ use Rattle.sbx_domain.specs.Known.{Known}
 use Rattle.sbx_rules.specs.Rules.{HasUnpaidEdge, now}
 use Rattle.sbx_rules.specs.Ways.{To, Visit, Way, fuel_at, state_at, visits_at, weight_to}
 use Rattle.sbx_rules.specs.Fuel.{IsPaid}
-use Rattle.sbx_pass.specs.declared.courses.Course.{Course}
-use Rattle.sbx_pass.specs.declared.courses.Courses.{Courses}
-use Rattle.sbx_pass.specs.Courses.{arrivals_at, arrived, listed, visit_of, visits_of}
+use Rattle.sbx_known.specs.declared.courses.Course.{Course}
+use Rattle.sbx_known.specs.declared.courses.Courses.{Courses}
+use Rattle.sbx_known.specs.Courses.{arrivals_at, arrived, listed, visit_of, visits_of}
 use Rattle.sbx_pass.specs.Paying.{IsPaidOn, IsPaidTo}
 
 -- an item of a mapped list

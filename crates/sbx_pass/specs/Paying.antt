@@ -4,8 +4,8 @@ use Rattle.sbx_image.specs.declared.parts.Parts.{Parts}
 use Rattle.sbx_domain.specs.Known.{Known}
 use Rattle.sbx_rules.specs.Fuel.{IsPaid}
 use Rattle.sbx_rules.specs.Ways.{To, Way, fuel_at, state_at}
-use Rattle.sbx_pass.specs.declared.courses.Course.{Course}
-use Rattle.sbx_pass.specs.Courses.{way_of}
+use Rattle.sbx_known.specs.declared.courses.Course.{Course}
+use Rattle.sbx_known.specs.Courses.{way_of}
 
 -- after this weight, where d is known
 abbrev pub IsPaidTo : Parts → ℕ → ℕ → ℕ → Known → Way → Type 0

@@ -2,7 +2,6 @@
 ghost use Rattle.std.specs.Prelude.{◌≡◌, ◌&&◌, ◌||◌, ◌==◌, ◌<◌, ◌+◌, ◌*◌, ◌↔◌, IfSome, IsTrue, Ok, false, if◌then◌else◌, length, nat_lt, not, suc};
 ghost use Rattle.std.specs.List.{list_any};
 ghost use Rattle.sbx_domain.specs.Known.{Known, known};
-ghost use Rattle.sbx_domain.specs.Transfer.{transferred};
 ghost use Rattle.sbx_fuel.specs.Least.{HasOnlyLocations};
 ghost use Rattle.sbx_image.specs.Rules.{parts_keep};
 ghost use Rattle.sbx_image.specs.Spelling.{IsCountedFunction};
@@ -11,30 +10,21 @@ ghost use Rattle.sbx_rules.specs.Fuel.{IsEnough, IsWithinBudget};
 ghost use Rattle.sbx_rules.specs.Places.{block_at, ends_run, function_at};
 ghost use Rattle.sbx_rules.specs.Rules.{HasUnpaidEdge, Holds, LacksFuel, has_cells, has_outs, is_back, is_entry, is_past, lacks_room, lists_badly, misses_params, names_strange, params_of, room_of_callee};
 ghost use Rattle.sbx_rules.specs.Ways.{after_call, cells_at, fuel_at, state_at, visits_at, weight_to};
-ghost use Rattle.sbx_pass.specs.Courses.{AreWell, IsWell, arrivals_at, is_any, listed, misses_at};
+ghost use Rattle.sbx_known.specs.Courses.{AreWell, IsWell, arrivals_at, is_any, listed, misses_at};
 ghost use Rattle.sbx_pass.specs.Firsts.{Tells};
 ghost use Rattle.sbx_pass.specs.Paying.{IsPaidOn};
-ghost use Rattle.sbx_pass.specs.Spots.{IsBlock, IsSpot};
+ghost use Rattle.sbx_known.specs.Spots.{IsBlock, IsSpot};
 
 use crate::before::is_entry;
-use crate::courses::{Course, Courses, Going, comes_back, some_comes_back, some_goes_past};
-use crate::places::{block_at, function_at};
-use crate::spot::Spot;
 use sbx_domain::State;
 use sbx_faults::{ends_run, has_cells, has_outs, is_call, is_return, lists_badly};
 use sbx_fuel::{is_enough, is_within_budget, lasts, names_strange};
 use sbx_image::{Function, Image};
+use sbx_known::{
+    Course, Courses, Going, Spot, block_at, comes_back, function_at, return_to, some_comes_back,
+    some_goes_past,
+};
 use sbx_rules::Cause;
-use v8_meaning::Operation;
-
-/// What a word that runs does, in a frame of so many bytes; one that is annulled does nothing.
-pub fn perform_if(runs: bool, frame: u32, operation: &Operation, state: &mut State)
-    ensures { known state.new ≡ (if runs then transferred frame operation.now (known state.old) else known state.old) }
-{
-    if runs {
-        state.perform(frame, operation);
-    }
-}
 
 /// Whether what is known is within what a block begins with: a function's first one with the params.
 fn keeps_cells(image: &Image, function: usize, block: usize, state: &State) -> bool
@@ -67,7 +57,7 @@ fn misses_cells(image: &Image, function: usize, course: Option<Course>, state: &
 }
 
 /// Whether the function that was called right before a word's slot begins with more than is known after the slot.
-pub fn misses_params(image: &Image, spot: &Spot, state: &State) -> bool
+fn misses_params(image: &Image, spot: &Spot, state: &State) -> bool
     requires { IsSpot image.now spot.now }
     ensures { result ≡ not (has_cells (known state.now) (params_of image.now spot.now.function spot.now.block spot.now.number spot.now.called)) }
 {
@@ -77,14 +67,15 @@ pub fn misses_params(image: &Image, spot: &Spot, state: &State) -> bool
     }
 }
 
-/// The effect of the call whose slot a word is.
-pub fn return_to(image: &Image, spot: &Spot, state: &mut State)
+/// The effect of the call whose slot a word is, and whether its function begins with more than is known after the slot.
+pub fn end_call(image: &Image, spot: &Spot, state: &mut State) -> bool
     requires { IsSpot image.now spot.now }
-    ensures { known state.new ≡ after_call image.now spot.now.called (known state.old) }
+    ensures missed { result ≡ not (has_cells (known state.old) (params_of image.now spot.now.function spot.now.block spot.now.number spot.now.called)) }
+    ensures known { known state.new ≡ after_call image.now spot.now.called (known state.old) }
 {
-    if let Some(callee) = spot.called {
-        state.return_with(function_at(image, callee).results.as_slice());
-    }
+    let misses = misses_params(image, spot, state);
+    return_to(image, spot, state);
+    misses
 }
 
 /// Whether a first block lists cells, or another one a cell that its function can't write.

@@ -6,13 +6,10 @@ ghost use Rattle.sbx_rules.specs.Operations.{access_of, is_call, is_framed, is_f
 ghost use Rattle.sbx_rules.specs.Rules.{Holds, branches_badly, enters_well, has_bad_shape, is_aligned_access, is_entry, is_later, is_placed_access, may_divide_by_zero, may_overflow, reads_undefined, runs_with, same_test, suits, touches_reserved};
 ghost use Rattle.sbx_rules.specs.Places.{ends_run};
 ghost use Rattle.sbx_rules.specs.Ways.{visits_at};
-ghost use Rattle.sbx_pass.specs.Courses.{listed};
+ghost use Rattle.sbx_known.specs.Courses.{listed};
 ghost use Rattle.sbx_pass.specs.Firsts.{Tells};
-ghost use Rattle.sbx_pass.specs.Spots.{IsSpot};
+ghost use Rattle.sbx_known.specs.Spots.{IsSpot};
 
-use crate::courses::{Courses, branch_way, is_inner_edge, runs};
-use crate::places::function_at;
-use crate::spot::Spot;
 use sbx_domain::State;
 use sbx_faults::{
     ends_run, enters_well, is_aligned, is_call, is_declared, is_framed, is_framed_return,
@@ -20,6 +17,7 @@ use sbx_faults::{
     may_overflow, reads_undefined, suits, touches_reserved,
 };
 use sbx_image::{Function, Image};
+use sbx_known::{Courses, Spot, branch_way, function_at, is_inner_edge, runs};
 use sbx_rules::Cause;
 use v8_meaning::{Operation, is_admitted};
 

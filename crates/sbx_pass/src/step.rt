@@ -4,17 +4,15 @@ ghost use Rattle.sbx_domain.specs.Known.{known};
 ghost use Rattle.sbx_rules.specs.Places.{words_in};
 ghost use Rattle.sbx_rules.specs.Rules.{Holds, has_bad_shape};
 ghost use Rattle.sbx_rules.specs.Ways.{after_word, state_at, visits_at, weight_to};
-ghost use Rattle.sbx_pass.specs.Courses.{AreWell, IsStraight, is_branch, listed};
+ghost use Rattle.sbx_known.specs.Courses.{AreWell, IsStraight, is_branch, listed};
 ghost use Rattle.sbx_pass.specs.Firsts.{Tells};
-ghost use Rattle.sbx_pass.specs.Spots.{IsSpot};
+ghost use Rattle.sbx_known.specs.Spots.{IsSpot};
 
-use crate::after::{fault_after, misses_params, perform_if, return_to};
+use crate::after::{end_call, fault_after};
 use crate::before::fault_before;
-use crate::courses::{Courses, courses_of, runs};
-use crate::places::function_at;
-use crate::spot::Spot;
 use sbx_domain::State;
 use sbx_image::Image;
+use sbx_known::{Courses, Spot, courses_of, perform_on};
 use sbx_rules::Cause;
 
 /// The first of the rules 13 to 18 that a word breaks, once it has run on its ways. The states go on to what is known then.
@@ -34,13 +32,10 @@ fn fault_once_run(
     ensures told { Tells (Holds image.now spot.now.function spot.now.block spot.now.number) 13 19 result }
     ensures next { result ≡ None → is_branch spot.now.before ≡ false → known here.new ≡ after_word image.now spot.now.function spot.now.block spot.now.number (known here.old) }
 {
-    let frame = function_at(image, spot.function).frame;
-    perform_if(runs(courses.first), frame, &spot.operation, here);
-    perform_if(runs(courses.second), frame, &spot.operation, other);
-    if misses_params(image, spot, here) {
+    perform_on(image, spot, courses, here, other);
+    if end_call(image, spot, here) {
         return Some(Cause::UnkeptCells);
     }
-    return_to(image, spot, here);
     fault_after(image, spot, weight, courses, here, other)
 }
 

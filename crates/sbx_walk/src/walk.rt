@@ -6,7 +6,8 @@ ghost use Rattle.sbx_walk.specs.Walks.{IsFirstOfFunction, IsQuietFunction};
 
 use sbx_domain::State;
 use sbx_image::Image;
-use sbx_pass::{address_of, first_fault_in_block, function_at};
+use sbx_known::{address_of, function_at};
+use sbx_pass::first_fault_in_block;
 use sbx_rules::Refusal;
 use std::alloc::{AllocError, Global};
 

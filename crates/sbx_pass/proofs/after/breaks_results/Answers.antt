@@ -3,8 +3,8 @@ use Rattle.std.specs.Prelude.{◌&&◌, not}
 use Rattle.sbx_image.specs.declared.parts.Range.{Range}
 use Rattle.sbx_domain.specs.Known.{Known, known}
 use Rattle.sbx_rules.specs.Rules.{has_outs, is_back}
-use Rattle.sbx_pass.specs.declared.courses.Course.{Course}
-use Rattle.sbx_pass.specs.Courses.{is_any}
+use Rattle.sbx_known.specs.declared.courses.Course.{Course}
+use Rattle.sbx_known.specs.Courses.{is_any}
 use Rattle.sbx_pass.proofs.after.breaks_results.Goals as goal
 
 returned : (course : Option Course) (d : Known) (results : List Range) (t : Bool) → is_any (λ v. is_back v.way) course d ≡ t → is_any (λ v. is_back v.way && not (has_outs 8 results v.known)) course d ≡ (t && not (has_outs 8 results d))

@@ -7,7 +7,7 @@ use Rattle.sbx_rules.specs.declared.cause.Cause.TheVariants.{UnkeptCells, OutOfF
 use Rattle.sbx_rules.specs.Places.{block_at, function_at}
 use Rattle.sbx_rules.specs.Rules.{Holds, leaves_to, lists_badly, misses_cells, misses_params}
 use Rattle.sbx_rules.specs.Ways.{visits_at}
-use Rattle.sbx_pass.specs.Courses.{arrived, misses_at}
+use Rattle.sbx_known.specs.Courses.{arrived, misses_at}
 use Rattle.sbx_pass.proofs.Arriving.{any_mapped}
 use Rattle.sbx_pass.proofs.Telling.{both, one}
 use Rattle.sbx_pass.proofs.after.fault_after.Goals as goal

@@ -10,7 +10,7 @@ use Rattle.sbx_rules.specs.Operations.{is_return}
 use Rattle.sbx_rules.specs.Places.{function_at, op_at}
 use Rattle.sbx_rules.specs.Rules.{Holds, has_outs, is_back, is_entry, is_past, lacks_room, now}
 use Rattle.sbx_rules.specs.Ways.{Visit, visits_at}
-use Rattle.sbx_pass.specs.Courses.{arrived, listed}
+use Rattle.sbx_known.specs.Courses.{arrived, listed}
 use Rattle.sbx_pass.proofs.Arriving.{any_mapped}
 use Rattle.sbx_pass.proofs.Telling.{both, by_test}
 use Rattle.sbx_pass.proofs.after.fault_of_ways.Goals as goal

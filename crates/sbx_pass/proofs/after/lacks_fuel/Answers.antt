@@ -7,7 +7,7 @@ use Rattle.sbx_rules.specs.Fuel.{IsEnough, IsWithinBudget}
 use Rattle.sbx_rules.specs.Places.{ends_run, function_at}
 use Rattle.sbx_rules.specs.Rules.{HasUnpaidEdge, ends_here, is_back, is_entry, names_strange}
 use Rattle.sbx_rules.specs.Ways.{Visit, fuel_at, state_at, visits_at, weight_to}
-use Rattle.sbx_pass.specs.Courses.{arrived, listed}
+use Rattle.sbx_known.specs.Courses.{arrived, listed}
 use Rattle.sbx_pass.proofs.Arriving.{any_mapped}
 use Rattle.sbx_pass.proofs.Paid.{four}
 use Rattle.sbx_pass.proofs.after.lacks_fuel.Goals as goal

@@ -1,6 +1,6 @@
 use Rattle.std.proofs.Common.{◌<◌, ℕ, Option, subst, length}
 use Rattle.std.specs.Prelude.{IfSome}
-use Rattle.sbx_pass.proofs.InOrder.{first_block}
+use Rattle.sbx_known.proofs.InOrder.{first_block}
 use Rattle.sbx_pass.proofs.after.misses_params.Goals as goal
 
 pub keeps_cells-requires : goal.keeps_cells-requires

@@ -9,7 +9,7 @@ use Rattle.sbx_rules.specs.Operations.{access_of}
 use Rattle.sbx_rules.specs.Places.{function_at, op_at}
 use Rattle.sbx_rules.specs.Rules.{Holds, is_aligned_access, is_placed_access, may_divide_by_zero, may_overflow, reads_undefined, runs_with, touches_reserved}
 use Rattle.sbx_rules.specs.Ways.{Visit, visits_at}
-use Rattle.sbx_pass.specs.Courses.{listed}
+use Rattle.sbx_known.specs.Courses.{listed}
 use Rattle.sbx_pass.proofs.Telling.{both, by_test, same_test}
 use Rattle.sbx_pass.proofs.before.fault_on_ways.Goals as goal
 

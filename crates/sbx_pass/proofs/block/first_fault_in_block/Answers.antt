@@ -4,7 +4,8 @@ use Rattle.sbx_rules.specs.Places.{callee_at, callee_before, op_at, op_before, w
 use Rattle.sbx_rules.specs.Rules.{Holds, has_bad_shape}
 use Rattle.sbx_rules.specs.Ways.{state_at, weight_of_place, weight_to}
 use Rattle.sbx_pass.specs.Firsts.{AreKept, Tells}
-use Rattle.sbx_pass.proofs.Blocks.{at_spot, few_words, from_spot, next_one, no_weight, none_more, none_yet, shapes_kept, weight_step}
+use Rattle.sbx_known.proofs.Counts.{at_spot, few_words, from_spot, next_one, no_weight, weight_step}
+use Rattle.sbx_pass.proofs.Blocks.{none_more, none_yet, shapes_kept}
 use Rattle.sbx_pass.proofs.block.first_fault_in_block.Goals as goal
 
 pub loop-number-init : goal.loop-number-init

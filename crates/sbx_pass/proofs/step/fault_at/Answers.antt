@@ -3,11 +3,11 @@ use Rattle.v8_meaning.specs.declared.operation.Operation.{Operation}
 use Rattle.sbx_domain.specs.Known.{known}
 use Rattle.sbx_rules.specs.Rules.{Holds}
 use Rattle.sbx_rules.specs.Ways.{after_word, state_at}
-use Rattle.sbx_pass.specs.Courses.{is_branch}
+use Rattle.sbx_known.specs.Courses.{is_branch}
 use Rattle.sbx_pass.specs.Firsts.{AreKept, Tells}
-use Rattle.sbx_pass.specs.Spots.{visits_from}
+use Rattle.sbx_known.specs.Spots.{visits_from}
 use Rattle.sbx_pass.proofs.Blocks.{shape_kept}
-use Rattle.sbx_pass.proofs.Stepping.{ends_block, next_known, visits_are}
+use Rattle.sbx_known.proofs.Stepping.{ends_block, next_known, visits_are}
 use Rattle.sbx_pass.proofs.step.fault_at.Goals as goal
 
 pub fault_before-requires-clause-visits : goal.fault_before-requires-clause-visits

@@ -1,0 +1,17 @@
+//! What the rules know at a word: the places of the code, the ways on which each word runs, and what is known before and after it.
+#![tactic(auto)]
+
+mod courses;
+mod effects;
+mod places;
+mod spot;
+mod starts;
+
+pub use courses::{
+    Course, Courses, Going, branch_way, comes_back, courses_of, is_inner_edge, runs,
+    some_comes_back, some_goes_past,
+};
+pub use effects::{perform_on, return_to};
+pub use places::{address_of, block_at, function_at, words_in};
+pub use spot::{Spot, spot_at, weight_of_spot};
+pub use starts::start;
