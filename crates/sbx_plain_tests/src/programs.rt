@@ -225,6 +225,8 @@ pub enum Shape {
     Result,
     /// Two rounds; each function passes a word on and adds 1 to what comes back. The first puts the last word out.
     Rounds,
+    /// The same, and each function but the last passes a multiple of its word on, which sets the condition codes and Y.
+    Products,
 }
 
 const SAVE: u32 = 0x9DE3_BFA0; // save %sp,-96,%sp
@@ -271,7 +273,7 @@ pub fn chain(alloc: Global, shape: Shape) -> Result<Vec<u32>, AllocError> {
             0x91D0_2000,
         ])?,
         Shape::Result => words.extend_from_slice(&[SAVE, 0x4000_0003, NOP, 0x91D0_2000])?,
-        Shape::Rounds => words.extend_from_slice(&ROUNDS)?,
+        Shape::Rounds | Shape::Products => words.extend_from_slice(&ROUNDS)?,
     }
     for number in 1..39u32 {
         match shape {
@@ -300,6 +302,14 @@ pub fn chain(alloc: Global, shape: Shape) -> Result<Vec<u32>, AllocError> {
                 RET,
                 0x91EA_2001,
             ])?,
+            // call .+16; umulcc %i0,1001+2*number,%o0; ret; restore %o0,1,%o0
+            Shape::Products => words.extend_from_slice(&[
+                SAVE,
+                0x4000_0004,
+                0x90D6_2000 | (1001 + 2 * number),
+                RET,
+                0x91EA_2001,
+            ])?,
         }
     }
     match shape {
@@ -312,7 +322,7 @@ pub fn chain(alloc: Global, shape: Shape) -> Result<Vec<u32>, AllocError> {
             RESTORE,
         ])?,
         // ret; restore %i0,1,%o0
-        Shape::Rounds => words.extend_from_slice(&[SAVE, RET, 0x91EE_2001])?,
+        Shape::Rounds | Shape::Products => words.extend_from_slice(&[SAVE, RET, 0x91EE_2001])?,
     }
     Ok(words)
 }

@@ -1,0 +1,309 @@
+//! Boards in step with the flat machine: at each turn of user code they have the same PC, nPC, condition codes, Y, registers and output,
+//! as far as these don't depend on the words that a start and new frames leave open.
+ghost use Rattle.std.specs.Prelude.{◌≡◌, ◌+◌, ◌*◌, ◌%◌, ◌≤◌};
+
+use crate::rows::{ROWS, Row};
+use sbx_image::Image;
+use sbx_plain::{Plain, Turned};
+use sbx_raw::{SlicePort, begun};
+use std::alloc::{AllocError, Global};
+use std::test::Fail;
+use v8_board::{Board, Ending, Outcome};
+use v8_core::{Event, Machine, Turn};
+use v8_map::{CODE_PLACE, CONTEXT_TABLE};
+use v8_memory::Memory;
+use v8_mmu::{Bus, MmuRegs};
+use v8_word::{Icc, Reg};
+
+/// A board, and a machine of the same RAM, which makes the same turns and shows PC, nPC and Y as well.
+#[derive(Drop)]
+struct Boards<'a, const N: usize> {
+    board: Board<N, SlicePort<'a>>,
+    machine: Machine<N, Memory<SlicePort<'a>>>,
+}
+
+/// Two flat machines: each open word is 0 in the one, and all ones in the other.
+#[derive(Drop)]
+struct Flats<'a> {
+    zeros: Plain<'a>,
+    ones: Plain<'a>,
+}
+
+/// Copies so many words of the board's RAM from a place on.
+fn copy<'a, const N: usize>(
+    board: &Board<N, SlicePort<'a>>,
+    memory: &mut Memory<SlicePort<'a>>,
+    at: u64,
+    count: u64,
+)
+    requires { (at % 4 ≡ 0) × (at + 4 * count ≤ 0x100000) }
+{
+    for k in 0..count {
+        let place = at + 4 * k;
+        if let Some(word) = board.entry(place) {
+            memory.set_words(place, &[word], 1);
+        }
+    }
+}
+
+/// A machine with this input and with what loading has placed: trap table, handlers and tables, and the first page of code. All else of a new
+/// board's RAM is 0.
+fn machine_of<'a, const N: usize>(
+    alloc: Global,
+    board: &Board<N, SlicePort<'a>>,
+    input: &'a [u8],
+) -> Option<Machine<N, Memory<SlicePort<'a>>>>
+    requires { (4 ≤ N) × (N ≤ 32) }
+{
+    let mmu = MmuRegs {
+        table: CONTEXT_TABLE as u64,
+        context: 0,
+    };
+    match Memory::new(alloc, SlicePort::new(alloc, input)) {
+        Ok(memory) => {
+            let mut memory = memory;
+            copy(board, &mut memory, 0, 0xC00);
+            copy(board, &mut memory, CODE_PLACE as u64, 1024);
+            Some(Machine::new(memory, mmu))
+        }
+        Err(AllocError) => None,
+    }
+}
+
+impl<const N: usize> Boards<'_, N> {
+    /// A turn of both, if it is the same.
+    fn turn(&mut self) -> Option<Turn> {
+        let Ok(one) = self.board.step() else {
+            return None;
+        };
+        let Ok(other) = self.machine.step() else {
+            return None;
+        };
+        if one == other { Some(one) } else { None }
+    }
+
+    /// Whether user code has the turn.
+    fn is_user(&self) -> bool {
+        self.board.psr() & 0x80 == 0
+    }
+
+    /// The condition codes.
+    fn icc(&self) -> Icc {
+        let psr = self.board.psr();
+        Icc {
+            n: psr & 0x80_0000 != 0,
+            z: psr & 0x40_0000 != 0,
+            v: psr & 0x20_0000 != 0,
+            c: psr & 0x10_0000 != 0,
+        }
+    }
+}
+
+/// The two flat machines at a start of the image.
+fn flats_of<'a>(alloc: Global, image: &Image, input: &'a [u8]) -> Option<Flats<'a>> {
+    let Ok(zeros) = Plain::new(alloc, image, input, 0) else {
+        return None;
+    };
+    let Ok(ones) = Plain::new(alloc, image, input, u32::MAX) else {
+        return None;
+    };
+    Some(Flats { zeros, ones })
+}
+
+/// Whether the word is the flat machine's, or depends there on an open one.
+fn is_theirs(word: u32, zeros: u32, ones: u32) -> bool {
+    word == zeros || zeros != ones
+}
+
+impl Flats<'_> {
+    /// Whether both are at the same place, with the same output.
+    fn are_one(&self) -> bool {
+        let (one, other) = (&self.zeros, &self.ones);
+        one.pc() == other.pc()
+            && one.npc() == other.npc()
+            && one.icc() == other.icc()
+            && one.output() == other.output()
+    }
+
+    /// Whether both have this exit word and output.
+    fn have_exited(&self, row: &Row) -> bool {
+        self.zeros.exit() == Some(row.status)
+            && self.ones.exit() == Some(row.status)
+            && self.zeros.output() == row.output
+    }
+
+    /// Whether the registers of the board's current window are theirs.
+    fn have_registers<const N: usize>(&self, boards: &Boards<'_, N>) -> bool {
+        for number in 0..32u8 {
+            if let Some(register) = Reg::new(number) {
+                let (zeros, ones) = (self.zeros.word(register), self.ones.word(register));
+                if !is_theirs(boards.board.reg(register), zeros, ones) {
+                    return false;
+                }
+            }
+        }
+        true
+    }
+
+    /// Whether the board stands where they do.
+    fn are_shown<const N: usize>(&self, boards: &Boards<'_, N>) -> bool {
+        let machine = &boards.machine;
+        machine.pc() == self.zeros.pc()
+            && machine.npc() == self.zeros.npc()
+            && boards.icc() == self.zeros.icc()
+            && is_theirs(machine.y(), self.zeros.y(), self.ones.y())
+            && boards.board.port().output() == self.zeros.output()
+            && self.are_one()
+            && self.have_registers(boards)
+    }
+
+    /// A step of both, if there is one.
+    fn step(&mut self, alloc: Global, image: &Image) -> bool {
+        steps(alloc, image, &mut self.zeros, 0) && steps(alloc, image, &mut self.ones, u32::MAX)
+    }
+}
+
+/// A step of a flat machine, if there is one.
+fn steps(alloc: Global, image: &Image, flat: &mut Plain<'_>, fill: u32) -> bool {
+    if flat.exit().is_some() {
+        return false;
+    }
+    match flat.step(alloc, image, fill) {
+        Ok(Turned::Went) => true,
+        Ok(Turned::Failed(_)) | Err(AllocError) => false,
+    }
+}
+
+/// Whether a turn is a step of the flat machine: it is user code's, and no window trap.
+fn is_step(turn: &Turn) -> bool {
+    match turn.event {
+        Event::Trapped(trap) => turn.user && trap.number() != 5 && trap.number() != 6,
+        _ => turn.user,
+    }
+}
+
+/// Whether they stay in step for so many turns.
+fn stay_in_step<const N: usize>(
+    alloc: Global,
+    image: &Image,
+    boards: &mut Boards<'_, N>,
+    flats: &mut Flats<'_>,
+    turns: u64,
+) -> bool {
+    for _turn in 0..turns {
+        if boards.is_user() && !flats.are_shown(boards) {
+            return false;
+        }
+        let Some(turn) = boards.turn() else {
+            return false;
+        };
+        if is_step(&turn) && !flats.step(alloc, image) {
+            return false;
+        }
+    }
+    true
+}
+
+/// Whether the boards, which have so many windows, and the flat machines stay in step, to the row's end.
+fn end_in_step<const N: usize>(
+    alloc: Global,
+    image: &Image,
+    windows: u32,
+    row: &Row,
+    boards: &mut Boards<'_, N>,
+    flats: &mut Flats<'_>,
+) -> bool {
+    let (overflows, underflows, turns) = row.counts_on(windows);
+    let told = Outcome {
+        ending: Ending::Exit(row.status),
+        turns,
+        overflows,
+        underflows,
+    };
+    stay_in_step(alloc, image, boards, flats, turns)
+        && boards.board.outcome() == told
+        && flats.have_exited(row)
+}
+
+/// The same of these boards, and of flat machines at a start.
+fn go_in_step<const N: usize>(
+    alloc: Global,
+    image: &Image,
+    windows: u32,
+    row: &Row,
+    boards: &mut Boards<'_, N>,
+) -> bool {
+    match flats_of(alloc, image, row.input) {
+        Some(flats) => {
+            let mut flats = flats;
+            end_in_step(alloc, image, windows, row, boards, &mut flats)
+        }
+        None => false,
+    }
+}
+
+/// The same of this board.
+fn keeps_in_step<const N: usize>(
+    alloc: Global,
+    image: &Image,
+    windows: u32,
+    row: &Row,
+    board: Board<N, SlicePort<'_>>,
+) -> bool
+    requires { (4 ≤ N) × (N ≤ 32) }
+{
+    match machine_of(alloc, &board, row.input) {
+        Some(machine) => {
+            let mut boards = Boards { board, machine };
+            go_in_step(alloc, image, windows, row, &mut boards)
+        }
+        None => false,
+    }
+}
+
+/// The same of new ones.
+fn are_in_step<const N: usize>(alloc: Global, image: &Image, windows: u32, row: &Row) -> bool
+    requires { (4 ≤ N) × (N ≤ 32) }
+{
+    match begun::<N>(alloc, image, row.input) {
+        Ok(board) => keeps_in_step(alloc, image, windows, row, board),
+        Err(_fault) => false,
+    }
+}
+
+/// Returns from the function with what is so on as many windows as there are, if that is one of these numbers, which rise.
+macro_rules! return_on {
+    ($windows:ident, $alloc:ident, $image:ident, $row:ident: $($count:literal)*) => {
+        $(
+            if $windows <= $count {
+                return are_in_step::<$count>($alloc, $image, $windows, $row);
+            }
+        )*
+    };
+}
+
+/// Whether they stay in step on so many windows, 4 to 32.
+fn are_in_step_on(alloc: Global, image: &Image, windows: u32, row: &Row) -> bool {
+    return_on!(windows, alloc, image, row:
+        4 5 6 7 8 9 10 11 12 13 14 15 16 17 18 19 20 21 22 23 24 25 26 27 28 29 30 31 32);
+    false
+}
+
+/// Whether they stay in step on each count of windows.
+fn are_in_step_everywhere(alloc: Global, row: &Row) -> Result<bool, Fail> {
+    let image = row.image(alloc)?;
+    for windows in 4..33u32 {
+        if !are_in_step_on(alloc, &image, windows, row) {
+            return Ok(false);
+        }
+    }
+    Ok(true)
+}
+
+#[test]
+fn boards_stay_in_step(rt: HostRuntime) -> Result<(), Fail> {
+    for row in &ROWS {
+        assert!(rt; are_in_step_everywhere(rt.alloc(), row)?, "{}", row.name);
+    }
+    Ok(())
+}
