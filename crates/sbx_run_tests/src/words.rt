@@ -1,5 +1,4 @@
 //! What the flat machine reads of code words, and the laws that its definitions keep.
-use crate::images::HELLO;
 use sbx_flat::laws::{
     each_step_counts, frames_come_and_go, invariants_make_safe, registers_keep_words,
 };
@@ -16,6 +15,9 @@ fn called(word: u32) -> Option<u32> {
     }
 }
 
+/// The words of `mov 72,%o0; ta 2`.
+const CODE: [u32; 2] = [0x9010_2048, 0x91d0_2002];
+
 #[test]
 fn reads_code_words(rt: HostRuntime) {
     let weights = [
@@ -30,8 +32,8 @@ fn reads_code_words(rt: HostRuntime) {
         assert!(rt; weight_of(&asked(word)) == weight, "{word}");
     }
     assert!(rt; called(0x91d0_2002) == Some(2));
-    assert!(rt; word_at(&HELLO, 0x0004_0004) == Some(0x91d0_2002));
-    assert!(rt; word_at(&HELLO, 0x0004_0018).is_none());
+    assert!(rt; word_at(&CODE, 0x0004_0004) == Some(0x91d0_2002));
+    assert!(rt; word_at(&CODE, 0x0004_0008).is_none());
     assert!(rt; declares(Services::EXIT, 0) && !declares(Services::EXIT, 1));
 }
 
