@@ -6,7 +6,6 @@ use crate::runs::{CHAINED, COPIES, HI};
 use sbx_raw::SlicePort;
 use sbx_run::{Accepted, Ended, PageUse, run_board};
 use std::alloc::{AllocError, Global};
-use std::test::Fail;
 use v8_board::Board;
 use v8_word::Reg;
 
@@ -69,36 +68,40 @@ fn share_a_board(
     second: &Accepted,
     input: &[u8],
     output: &[u8],
-) -> Result<bool, Fail> {
-    let mut board = board_with(alloc, input)?;
-    Ok(share(&mut board, first, second, output))
+) -> bool {
+    match board_with(alloc, input) {
+        Ok(board) => {
+            let mut board = board;
+            share(&mut board, first, second, output)
+        }
+        Err(AllocError) => false,
+    }
 }
 
 /// Whether the image that copies a byte, with one byte of input, shares a board with one that needs none.
-fn copy_shares(alloc: Global, copy: &Accepted) -> Result<bool, Fail> {
-    match HI.accepted(alloc)? {
+fn copy_shares(alloc: Global, copy: &Accepted) -> bool {
+    match HI.accepted(alloc) {
         Some(hello) => share_a_board(alloc, copy, &hello, b"A", b"AHi\xff"),
-        None => Ok(false),
+        None => false,
     }
 }
 
 /// Whether the two share a board.
-fn images_share(alloc: Global) -> Result<bool, Fail> {
-    match COPIES.accepted(alloc)? {
+fn images_share(alloc: Global) -> bool {
+    match COPIES.accepted(alloc) {
         Some(copy) => copy_shares(alloc, &copy),
-        None => Ok(false),
+        None => false,
     }
 }
 
 #[test]
-fn runs_on_one_board(rt: HostRuntime) -> Result<(), Fail> {
-    assert!(rt; images_share(rt.alloc())?);
-    Ok(())
+fn runs_on_one_board(rt: HostRuntime) {
+    assert!(rt; images_share(rt.alloc()));
 }
 
 /// The registers of the current window after the chain's run: it is the one below the first function's, whose outs are its ins, with
 /// the places of the trap that ended the run in %l1 and %l2.
-const REGISTERS: [(u8, u32); 4] = [
+static REGISTERS: [(u8, u32); 4] = [
     (17, 0x0004_0010),
     (18, 0x0004_0014),
     (24, 0),
@@ -106,7 +109,7 @@ const REGISTERS: [(u8, u32); 4] = [
 ];
 
 /// Words of RAM after the chain's run: the first function's %fp and the second one's %i7, as they were spilled.
-const SPILLED: [(u64, u32); 2] = [(0x9_FF98, 0x000F_FFC0), (0x9_FF3C, 0x0004_0004)];
+static SPILLED: [(u64, u32); 2] = [(0x9_FF98, 0x000F_FFC0), (0x9_FF3C, 0x0004_0004)];
 
 fn has_registers(board: &Board<4, SlicePort<'_>>) -> bool {
     for (number, word) in REGISTERS {
@@ -120,8 +123,8 @@ fn has_registers(board: &Board<4, SlicePort<'_>>) -> bool {
 }
 
 fn has_spilled(board: &Board<4, SlicePort<'_>>) -> bool {
-    for (place, word) in SPILLED {
-        if board.entry(place) != Some(word) {
+    for (place, word) in &SPILLED {
+        if board.entry(*place) != Some(*word) {
             return false;
         }
     }
@@ -150,20 +153,25 @@ fn leaves(board: &mut Board<4, SlicePort<'_>>, accepted: &Accepted) -> bool
 }
 
 /// Whether a chain's run leaves a new board so.
-fn leaves_its_board(alloc: Global, accepted: &Accepted) -> Result<bool, Fail> {
-    let mut board = board_with(alloc, b"")?;
-    Ok(leaves(&mut board, accepted))
+fn leaves_its_board(alloc: Global, accepted: &Accepted) -> bool {
+    match board_with(alloc, b"") {
+        Ok(board) => {
+            let mut board = board;
+            leaves(&mut board, accepted)
+        }
+        Err(AllocError) => false,
+    }
 }
 
-fn chain_leaves_its_board(alloc: Global) -> Result<bool, Fail> {
-    match CHAINED.accepted(alloc)? {
+/// Whether the run of the chain that puts `!` out does.
+fn chain_leaves_its_board(alloc: Global) -> bool {
+    match CHAINED.accepted(alloc) {
         Some(chain) => leaves_its_board(alloc, &chain),
-        None => Ok(false),
+        None => false,
     }
 }
 
 #[test]
-fn shows_what_a_run_leaves(rt: HostRuntime) -> Result<(), Fail> {
-    assert!(rt; chain_leaves_its_board(rt.alloc())?);
-    Ok(())
+fn shows_what_a_run_leaves(rt: HostRuntime) {
+    assert!(rt; chain_leaves_its_board(rt.alloc()));
 }

@@ -43,7 +43,7 @@ const QUIET: Row<'static> = Row {
     stack: false,
 };
 
-pub(crate) const HI: Row<'static> = Row {
+pub(crate) static HI: Row<'static> = Row {
     output: b"Hi",
     pieces: &[BARE, HELLO],
     budget: 100,
@@ -51,7 +51,7 @@ pub(crate) const HI: Row<'static> = Row {
     ..QUIET
 };
 
-pub(crate) const COPIES: Row<'static> = Row {
+pub(crate) static COPIES: Row<'static> = Row {
     input: b"A",
     output: b"A",
     pieces: &[BARE, COPY],
@@ -69,7 +69,7 @@ const ECHOES: Row<'static> = Row {
     ..QUIET
 };
 
-const INCREMENTS: Row<'static> = Row {
+static INCREMENTS: Row<'static> = Row {
     output: b"!",
     pieces: &[CALLER_OF_39, CALLER, BYTES, INCREMENT],
     budget: 39,
@@ -77,7 +77,7 @@ const INCREMENTS: Row<'static> = Row {
     ..QUIET
 };
 
-pub(crate) const CHAINED: Row<'static> = Row {
+pub(crate) static CHAINED: Row<'static> = Row {
     output: b"!",
     overflows: 38,
     pieces: &[CHAIN, CHAIN_REST],
@@ -89,9 +89,7 @@ pub(crate) const CHAINED: Row<'static> = Row {
     ..QUIET
 };
 
-static ROWS: [Row<'static>; 13] = [
-    HI,
-    COPIES,
+static ROWS: [Row<'static>; 9] = [
     Row {
         output: b"\xff",
         pieces: &[BARE, COPY],
@@ -129,8 +127,6 @@ static ROWS: [Row<'static>; 13] = [
         turns: 6,
         ..QUIET
     },
-    INCREMENTS,
-    CHAINED,
     // the underflow is in the slot
     Row {
         status: 42,
@@ -226,8 +222,8 @@ impl Row<'_> {
         }
     }
 
-    /// The source's image.
-    fn image(&self, alloc: Global) -> Result<Image, Fail> {
+    /// The source's image, if it means one.
+    fn image(&self, alloc: Global) -> Option<Image> {
         let source = Source {
             pieces: self.pieces,
             links: self.links,
@@ -236,10 +232,10 @@ impl Row<'_> {
     }
 
     /// The image, if it is accepted.
-    pub(crate) fn accepted(&self, alloc: Global) -> Result<Option<Accepted>, Fail> {
-        match verify(alloc, self.image(alloc)?) {
-            Ok(accepted) => Ok(Some(accepted)),
-            Err(_refused) => Ok(None),
+    pub(crate) fn accepted(&self, alloc: Global) -> Option<Accepted> {
+        match self.image(alloc) {
+            Some(image) => accepted_of(alloc, image),
+            None => None,
         }
     }
 
@@ -250,6 +246,14 @@ impl Row<'_> {
             && finished.output.as_slice() == self.output
             && counts == self.counts_on(windows)
             && finished.pages == self.pages()
+    }
+}
+
+/// The image, if it is accepted.
+fn accepted_of(alloc: Global, image: Image) -> Option<Accepted> {
+    match verify(alloc, image) {
+        Ok(accepted) => Some(accepted),
+        Err(_refused) => None,
     }
 }
 
@@ -294,37 +298,46 @@ fn runs_everywhere(alloc: Global, accepted: &Accepted, row: &Row<'_>) -> bool {
 }
 
 /// Whether the row's image is accepted, and runs so everywhere.
-fn is_so(alloc: Global, row: &Row<'_>) -> Result<bool, Fail> {
-    match row.accepted(alloc)? {
-        Some(accepted) => Ok(runs_everywhere(alloc, &accepted, row)),
-        None => Ok(false),
+fn is_so(alloc: Global, row: &Row<'_>) -> bool {
+    match row.accepted(alloc) {
+        Some(accepted) => runs_everywhere(alloc, &accepted, row),
+        None => false,
     }
 }
 
+/// Whether the rows that other tests run as well are so.
+fn are_so(alloc: Global) -> bool {
+    is_so(alloc, &HI)
+        && is_so(alloc, &COPIES)
+        && is_so(alloc, &INCREMENTS)
+        && is_so(alloc, &CHAINED)
+}
+
 #[test]
-fn runs_accepted_images(rt: HostRuntime) -> Result<(), Fail> {
+fn runs_accepted_images(rt: HostRuntime) {
     for row in &ROWS {
-        assert!(rt; is_so(rt.alloc(), row)?, "{:?}", row.output);
+        assert!(rt; is_so(rt.alloc(), row), "{:?}", row.output);
     }
-    Ok(())
+    assert!(rt; are_so(rt.alloc()));
 }
 
-/// Whether the chain's image gives its row on each count of windows.
-fn chain_runs(alloc: Global) -> Result<bool, Fail> {
-    let counts = [
-        4, 5, 6, 7, 8, 9, 10, 11, 12, 13, 14, 15, 16, 17, 18, 19, 20, 21, 22, 23, 24, 25, 26, 27,
-        28, 29, 30, 31, 32,
-    ];
-    match CHAINED.accepted(alloc)? {
-        Some(accepted) => Ok(runs_by_numbers(alloc, &counts, &accepted, &CHAINED)),
-        None => Ok(false),
+/// The counts of windows that there are.
+static COUNTS: [u32; 29] = [
+    4, 5, 6, 7, 8, 9, 10, 11, 12, 13, 14, 15, 16, 17, 18, 19, 20, 21, 22, 23, 24, 25, 26, 27, 28,
+    29, 30, 31, 32,
+];
+
+/// Whether the row's image gives the row on each count of windows.
+fn is_so_by_numbers(alloc: Global, row: &Row<'_>) -> bool {
+    match row.accepted(alloc) {
+        Some(accepted) => runs_by_numbers(alloc, &COUNTS, &accepted, row),
+        None => false,
     }
 }
 
 #[test]
-fn runs_on_each_count_of_windows(rt: HostRuntime) -> Result<(), Fail> {
-    assert!(rt; chain_runs(rt.alloc())?);
-    Ok(())
+fn runs_on_each_count_of_windows(rt: HostRuntime) {
+    assert!(rt; is_so_by_numbers(rt.alloc(), &CHAINED));
 }
 
 /// Bytes that differ from each other, so many.
@@ -337,7 +350,7 @@ fn bytes_of(alloc: Global, count: u32) -> Result<Vec<u8>, AllocError> {
 }
 
 /// Whether this input comes back as this output.
-fn echoes_as(alloc: Global, input: &[u8], output: &[u8]) -> Result<bool, Fail> {
+fn echoes_as(alloc: Global, input: &[u8], output: &[u8]) -> bool {
     let row = Row {
         input,
         output,
@@ -351,7 +364,7 @@ fn echoes_as(alloc: Global, input: &[u8], output: &[u8]) -> Result<bool, Fail> {
 fn cuts_its_input(alloc: Global) -> Result<bool, Fail> {
     let input = bytes_of(alloc, 2000)?;
     let output = bytes_of(alloc, 1000)?;
-    echoes_as(alloc, &input, &output)
+    Ok(echoes_as(alloc, &input, &output))
 }
 
 #[test]
@@ -368,25 +381,26 @@ fn comes_back(accepted: Accepted, budget_told: u64, other: &Image) -> bool {
 }
 
 /// Whether the row's image is accepted, and comes back as the other.
-fn is_accepted_as(alloc: Global, row: &Row<'_>, other: &Image) -> Result<bool, Fail> {
-    match row.accepted(alloc)? {
-        Some(accepted) => Ok(comes_back(accepted, row.budget, other)),
-        None => Ok(false),
+fn is_accepted_as(alloc: Global, row: &Row<'_>, other: &Image) -> bool {
+    match row.accepted(alloc) {
+        Some(accepted) => comes_back(accepted, row.budget, other),
+        None => false,
     }
 }
 
 /// Whether the row's image is accepted with its budget, and comes back.
-fn is_accepted(alloc: Global, row: &Row<'_>) -> Result<bool, Fail> {
-    let other = row.image(alloc)?;
-    is_accepted_as(alloc, row, &other)
+fn is_accepted(alloc: Global, row: &Row<'_>) -> bool {
+    match row.image(alloc) {
+        Some(other) => is_accepted_as(alloc, row, &other),
+        None => false,
+    }
 }
 
 #[test]
-fn accepts_workloads(rt: HostRuntime) -> Result<(), Fail> {
+fn accepts_workloads(rt: HostRuntime) {
     for row in &LONG {
-        assert!(rt; is_accepted(rt.alloc(), row)?, "{}", row.budget);
+        assert!(rt; is_accepted(rt.alloc(), row), "{}", row.budget);
     }
-    Ok(())
 }
 
 /// Whether a raw run puts `!` out, and exits with 0 after 15 turns.
@@ -435,14 +449,15 @@ fn increments_on_each(alloc: Global, image: &Image) -> bool {
     true
 }
 
-/// Whether each raw run of the image of `INCREMENTS` does.
-fn increments_raw(alloc: Global) -> Result<bool, Fail> {
-    let image = INCREMENTS.image(alloc)?;
-    Ok(increments_on_each(alloc, &image))
+/// Whether each raw run of the row's image does.
+fn increments_raw(alloc: Global, row: &Row<'_>) -> bool {
+    match row.image(alloc) {
+        Some(image) => increments_on_each(alloc, &image),
+        None => false,
+    }
 }
 
 #[test]
-fn raw_runs_agree(rt: HostRuntime) -> Result<(), Fail> {
-    assert!(rt; increments_raw(rt.alloc())?);
-    Ok(())
+fn raw_runs_agree(rt: HostRuntime) {
+    assert!(rt; increments_raw(rt.alloc(), &INCREMENTS));
 }

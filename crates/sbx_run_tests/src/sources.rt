@@ -2,7 +2,6 @@
 use sbx_asm::assemble;
 use sbx_image::Image;
 use std::alloc::{AllocError, Global};
-use std::test::Fail;
 
 /// A source: these pieces, and then the functions of a chain, if there are any.
 #[derive(Clone, Copy)]
@@ -31,13 +30,8 @@ impl Links {
         let fuel = self.last_fuel.saturating_add(after);
         write!(
             text,
-            ".function f{number},framed,96,{room},{fuel}\n{}.fuel {fuel}\n save %sp,-96,%sp\n call f{next}\n",
-            self.declared
-        )?;
-        write!(
-            text,
-            "{}{number}{}\n ret\n{}",
-            self.slot.0, self.slot.1, self.back
+            ".function f{number},framed,96,{room},{fuel}\n{}.fuel {fuel}\n save %sp,-96,%sp\n call f{next}\n{}{number}{}\n ret\n{}",
+            self.declared, self.slot.0, self.slot.1, self.back
         )
     }
 
@@ -63,10 +57,19 @@ impl Source {
         Ok(text)
     }
 
-    /// The image that it means.
-    pub(crate) fn image(&self, alloc: Global) -> Result<Image, Fail> {
-        let text = self.text(alloc)?;
-        Ok(assemble(alloc, text.as_bytes())?)
+    /// The image that it means, if it means one.
+    pub(crate) fn image(&self, alloc: Global) -> Option<Image> {
+        match self.text(alloc) {
+            Ok(text) => assembled(alloc, text.as_bytes()),
+            Err(AllocError) => None,
+        }
+    }
+}
+
+fn assembled(alloc: Global, text: &[u8]) -> Option<Image> {
+    match assemble(alloc, text) {
+        Ok(image) => Some(image),
+        Err(_fault) => None,
     }
 }
 
