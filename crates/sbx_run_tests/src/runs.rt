@@ -1,87 +1,268 @@
-//! Runs of accepted images, by each of the calls that run one.
+//! Runs of accepted images, on each count of windows.
 ghost use Rattle.std.specs.Prelude.{◌≤◌};
 
-use crate::images::{BARE, HELLO, image_of};
-use sbx_raw::SlicePort;
-use sbx_run::{Accepted, Finished, PageUse, budget, run_accepted, run_board, run_windows, verify};
+use crate::sources::{
+    BARE, BYTES, CALLED, CALLER, CALLER_OF_39, CALLS, CHAIN, CHAIN_REST, COPY, COUNTDOWN,
+    COUNTDOWN_REST, ECHO, FRAMED, HELLO, INCREMENT, LINKS, Links, RESULT, RESULT_LINKS, ROUNDS,
+    ROUNDS_LINKS, Source, WORD_OUT,
+};
+use sbx_image::Image;
+use sbx_run::{
+    Accepted, Ending, Finished, PageUse, Raw, budget, run_accepted, run_raw, run_windows, verify,
+};
 use std::alloc::{AllocError, Global};
 use std::test::Fail;
-use v8_board::Board;
 
-/// What code gives on an input.
-struct Row<'a> {
-    words: &'a [u32],
+/// What a source's image gives on an input: its budget, the exit word, the output, the turns where there are windows enough, the
+/// overflows on four windows, how many of them each window more spares, and whether the stack's last page is used.
+#[derive(Clone, Copy)]
+pub(crate) struct Row<'a> {
+    pieces: &'static [&'static str],
+    links: Option<&'static Links>,
+    budget: u64,
     input: &'a [u8],
     status: u32,
     output: &'a [u8],
     turns: u64,
+    overflows: u64,
+    spared: u64,
+    stack: bool,
 }
 
-/// Gets a byte and puts it out.
-const COPY: [u32; 4] = [0x91d0_2001, 0x91d0_2002, 0x9010_2000, 0x91d0_2000];
+/// Nothing is put in or out, and four windows suffice.
+const QUIET: Row<'static> = Row {
+    pieces: &[],
+    links: None,
+    budget: 100,
+    input: b"",
+    status: 0,
+    output: b"",
+    turns: 0,
+    overflows: 0,
+    spared: 0,
+    stack: false,
+};
 
-const ROWS: [Row<'static>; 4] = [
+pub(crate) static HI: Row<'static> = Row {
+    output: b"Hi",
+    pieces: &[BARE, HELLO],
+    budget: 100,
+    turns: 16,
+    ..QUIET
+};
+
+pub(crate) static COPIES: Row<'static> = Row {
+    input: b"A",
+    output: b"A",
+    pieces: &[BARE, COPY],
+    budget: 100,
+    turns: 14,
+    ..QUIET
+};
+
+const ECHOES: Row<'static> = Row {
+    input: b"abc",
+    output: b"abc",
+    pieces: &[ECHO],
+    budget: 16030,
+    turns: 62,
+    ..QUIET
+};
+
+static INCREMENTS: Row<'static> = Row {
+    output: b"!",
+    pieces: &[CALLER_OF_39, CALLER, BYTES, INCREMENT],
+    budget: 39,
+    turns: 15,
+    ..QUIET
+};
+
+pub(crate) static CHAINED: Row<'static> = Row {
+    output: b"!",
+    overflows: 38,
+    pieces: &[CHAIN, CHAIN_REST],
+    links: Some(&LINKS),
+    budget: 2102,
+    turns: 206,
+    spared: 1,
+    stack: true,
+    ..QUIET
+};
+
+static ROWS: [Row<'static>; 9] = [
     Row {
-        words: &HELLO,
-        input: b"",
-        status: 0,
-        output: b"Hi",
-        turns: 16,
-    },
-    Row {
-        words: &COPY,
-        input: b"A",
-        status: 0,
-        output: b"A",
-        turns: 14,
-    },
-    Row {
-        words: &COPY,
-        input: b"",
-        status: 0,
         output: b"\xff",
+        pieces: &[BARE, COPY],
+        budget: 100,
         turns: 14,
+        ..QUIET
     },
     Row {
-        words: &[0x1100_0001, 0x9002_2005, 0x91d0_2000],
-        input: b"",
         status: 1029,
-        output: b"",
+        pieces: &[BARE, " sethi 1,%o0\n add %o0,5,%o0\n ta 0\n"],
+        budget: 100,
         turns: 5,
+        ..QUIET
+    },
+    ECHOES,
+    Row {
+        input: b"",
+        output: b"",
+        turns: 14,
+        ..ECHOES
+    },
+    Row {
+        status: 33,
+        output: b"!",
+        pieces: &[COUNTDOWN, ".term %l0,4\n", COUNTDOWN_REST],
+        budget: 75,
+        turns: 51,
+        ..QUIET
+    },
+    // a word of the frame is read after it was written
+    Row {
+        stack: true,
+        pieces: &[FRAMED, " st %g0,[%sp+64]\n ld [%sp+64],%o0\n ta 0\n"],
+        budget: 100,
+        turns: 6,
+        ..QUIET
+    },
+    // the underflow is in the slot
+    Row {
+        status: 42,
+        output: b"!",
+        overflows: 38,
+        pieces: &[CHAIN, RESULT],
+        links: Some(&RESULT_LINKS),
+        budget: 2102,
+        turns: 206,
+        spared: 1,
+        stack: true,
+        ..QUIET
+    },
+    // two rounds of a chain
+    Row {
+        output: b"\x00\x00\x00\x91",
+        overflows: 75,
+        pieces: &[
+            ".services exit,get,put\n.function main,framed,96,3840,4197\n",
+            ".fuel 4197\n save %sp,-96,%sp\n set 2,%l0\n",
+            ROUNDS,
+            WORD_OUT,
+        ],
+        links: Some(&ROUNDS_LINKS),
+        budget: 4197,
+        turns: 429,
+        spared: 2,
+        stack: true,
+        ..QUIET
+    },
+    // five rounds of calls with a frame and without
+    Row {
+        output: b"\x00\x01H\xbe",
+        pieces: &[
+            ".services exit,get,put\n.function main,framed,96,192,370\n",
+            ".fuel 370\n save %sp,-96,%sp\n set 5,%l0\n",
+            CALLS,
+            WORD_OUT,
+            CALLED,
+        ],
+        budget: 370,
+        turns: 106,
+        ..QUIET
     },
 ];
 
-/// Code of one page, which is fetched from and never written, uses this.
-const CODE_ALONE: PageUse = PageUse {
-    referenced: [1, 0, 0],
-    modified: [0, 0, 0],
-};
+/// Workloads: they are accepted, and too long to be run.
+static LONG: [Row<'static>; 2] = [
+    Row {
+        pieces: &[
+            ".services exit,get,put\n.function main,framed,96,3840,62130056\n",
+            ".fuel 62130056\n save %sp,-96,%sp\n set 30000,%l0\n",
+            ROUNDS,
+            WORD_OUT,
+        ],
+        links: Some(&ROUNDS_LINKS),
+        budget: 62_130_056,
+        ..QUIET
+    },
+    Row {
+        pieces: &[
+            ".services exit,get,put\n.function main,framed,96,192,189000056\n",
+            ".fuel 189000056\n save %sp,-96,%sp\n set 3000000,%l0\n",
+            CALLS,
+            WORD_OUT,
+            CALLED,
+        ],
+        budget: 189_000_056,
+        ..QUIET
+    },
+];
 
-/// The image of this code, if it is accepted.
-fn accepted_of(alloc: Global, words: &[u32]) -> Result<Option<Accepted>, Fail> {
-    let image = image_of(alloc, &BARE, words)?;
-    match verify(alloc, image) {
-        Ok(accepted) => Ok(Some(accepted)),
-        Err(_refused) => Ok(None),
+impl Row<'_> {
+    /// The overflows, underflows and turns on so many windows. The first function's SAVE is never undone, so there is an underflow
+    /// less; and each of them takes 24 turns, its trap and the handler's 23.
+    fn counts_on(&self, windows: u32) -> (u64, u64, u64) {
+        let more = u64::from(windows.saturating_sub(4));
+        let overflows = self
+            .overflows
+            .saturating_sub(self.spared.saturating_mul(more));
+        let underflows = overflows.saturating_sub(1);
+        let traps = overflows.saturating_add(underflows);
+        let turns = self.turns.saturating_add(traps.saturating_mul(24));
+        (overflows, underflows, turns)
+    }
+
+    /// The pages that are used: the first of the code, and the last of the stack.
+    fn pages(&self) -> PageUse {
+        let last = if self.stack { 1 << 63 } else { 0 };
+        PageUse {
+            referenced: [1, 0, last],
+            modified: [0, 0, last],
+        }
+    }
+
+    /// The source's image, if it means one.
+    fn image(&self, alloc: Global) -> Option<Image> {
+        let source = Source {
+            pieces: self.pieces,
+            links: self.links,
+        };
+        source.image(alloc)
+    }
+
+    /// The image, if it is accepted.
+    pub(crate) fn accepted(&self, alloc: Global) -> Option<Accepted> {
+        match self.image(alloc) {
+            Some(image) => accepted_of(alloc, image),
+            None => None,
+        }
+    }
+
+    /// Whether this is what a run on so many windows gives.
+    fn is(&self, finished: &Finished, windows: u32) -> bool {
+        let counts = (finished.overflows, finished.underflows, finished.turns);
+        finished.status == self.status
+            && finished.output.as_slice() == self.output
+            && counts == self.counts_on(windows)
+            && finished.pages == self.pages()
     }
 }
 
-/// Whether a run gave what the row says, without a call.
-fn gave(finished: &Finished, row: &Row<'_>) -> bool {
-    finished.status == row.status
-        && finished.output.as_slice() == row.output
-        && finished.turns == row.turns
-        && finished.overflows == 0
-        && finished.underflows == 0
-        && finished.pages == CODE_ALONE
+/// The image, if it is accepted.
+fn accepted_of(alloc: Global, image: Image) -> Option<Accepted> {
+    match verify(alloc, image) {
+        Ok(accepted) => Some(accepted),
+        Err(_refused) => None,
+    }
 }
 
 /// Whether the run on `N` windows gives what the row says.
-fn runs_on<const N: usize>(alloc: Global, accepted: &Accepted, row: &Row<'_>) -> bool
+fn runs_on<const N: usize>(alloc: Global, windows: u32, accepted: &Accepted, row: &Row<'_>) -> bool
     requires { (4 ≤ N) × (N ≤ 32) }
 {
     match run_accepted::<N>(alloc, accepted, row.input) {
-        Ok(finished) => gave(&finished, row),
+        Ok(finished) => row.is(&finished, windows),
         Err(_fault) => false,
     }
 }
@@ -89,98 +270,194 @@ fn runs_on<const N: usize>(alloc: Global, accepted: &Accepted, row: &Row<'_>) ->
 /// Whether there is a run on so many windows, and it gives what the row says.
 fn runs_by_number(alloc: Global, windows: u32, accepted: &Accepted, row: &Row<'_>) -> Option<bool> {
     match run_windows(alloc, windows, accepted, row.input) {
-        Some(Ok(finished)) => Some(gave(&finished, row)),
+        Some(Ok(finished)) => Some(row.is(&finished, windows)),
         Some(Err(_fault)) => Some(false),
         None => None,
     }
 }
 
-/// Whether all of these runs do. No call is made, so that the number of windows is the same to the code.
+/// Whether there is a run on each of these counts of windows, and it gives what the row says.
+fn runs_by_numbers(alloc: Global, counts: &[u32], accepted: &Accepted, row: &Row<'_>) -> bool {
+    for windows in counts {
+        if runs_by_number(alloc, *windows, accepted, row) != Some(true) {
+            return false;
+        }
+    }
+    true
+}
+
+/// Whether all of these runs do, and on no other count of windows there is one.
 fn runs_everywhere(alloc: Global, accepted: &Accepted, row: &Row<'_>) -> bool {
-    runs_on::<4>(alloc, accepted, row)
-        && runs_on::<8>(alloc, accepted, row)
-        && runs_on::<32>(alloc, accepted, row)
+    budget(accepted.image()) == row.budget
+        && runs_on::<4>(alloc, 4, accepted, row)
+        && runs_on::<8>(alloc, 8, accepted, row)
+        && runs_on::<32>(alloc, 32, accepted, row)
+        && runs_by_numbers(alloc, &[4, 8, 19, 32], accepted, row)
         && runs_by_number(alloc, 3, accepted, row).is_none()
-        && runs_by_number(alloc, 4, accepted, row) == Some(true)
-        && runs_by_number(alloc, 19, accepted, row) == Some(true)
-        && runs_by_number(alloc, 32, accepted, row) == Some(true)
         && runs_by_number(alloc, 33, accepted, row).is_none()
 }
 
-/// Whether the row's image is accepted, runs so everywhere, and comes back.
-fn is_so(alloc: Global, row: &Row<'_>) -> Result<bool, Fail> {
-    match accepted_of(alloc, row.words)? {
-        Some(accepted) => Ok(
-            runs_everywhere(alloc, &accepted, row)
-                && budget(accepted.image()) == 100
-                && accepted.into_image().words() == row.words,
-        ),
-        None => Ok(false),
+/// Whether the row's image is accepted, and runs so everywhere.
+fn is_so(alloc: Global, row: &Row<'_>) -> bool {
+    match row.accepted(alloc) {
+        Some(accepted) => runs_everywhere(alloc, &accepted, row),
+        None => false,
+    }
+}
+
+/// Whether the rows that other tests run as well are so.
+fn are_so(alloc: Global) -> bool {
+    is_so(alloc, &HI)
+        && is_so(alloc, &COPIES)
+        && is_so(alloc, &INCREMENTS)
+        && is_so(alloc, &CHAINED)
+}
+
+#[test]
+fn runs_accepted_images(rt: HostRuntime) {
+    for row in &ROWS {
+        assert!(rt; is_so(rt.alloc(), row), "{:?}", row.output);
+    }
+    assert!(rt; are_so(rt.alloc()));
+}
+
+/// The counts of windows that there are.
+static COUNTS: [u32; 29] = [
+    4, 5, 6, 7, 8, 9, 10, 11, 12, 13, 14, 15, 16, 17, 18, 19, 20, 21, 22, 23, 24, 25, 26, 27, 28,
+    29, 30, 31, 32,
+];
+
+/// Whether the row's image gives the row on each count of windows.
+fn is_so_by_numbers(alloc: Global, row: &Row<'_>) -> bool {
+    match row.accepted(alloc) {
+        Some(accepted) => runs_by_numbers(alloc, &COUNTS, &accepted, row),
+        None => false,
     }
 }
 
 #[test]
-fn runs_accepted_images(rt: HostRuntime) -> Result<(), Fail> {
-    for row in &ROWS {
-        assert!(rt; is_so(rt.alloc(), row)?, "{}", row.turns);
+fn runs_on_each_count_of_windows(rt: HostRuntime) {
+    assert!(rt; is_so_by_numbers(rt.alloc(), &CHAINED));
+}
+
+/// Bytes that differ from each other, so many.
+fn bytes_of(alloc: Global, count: u32) -> Result<Vec<u8>, AllocError> {
+    let mut bytes = Vec::new(alloc);
+    for number in 0..count {
+        bytes.push((number % 251) as u8)?;
     }
+    Ok(bytes)
+}
+
+/// Whether this input comes back as this output.
+fn echoes_as(alloc: Global, input: &[u8], output: &[u8]) -> bool {
+    let row = Row {
+        input,
+        output,
+        turns: 16006,
+        ..ECHOES
+    };
+    is_so(alloc, &row)
+}
+
+/// Whether 1,000 bytes of 2,000 come back.
+fn cuts_its_input(alloc: Global) -> Result<bool, Fail> {
+    let input = bytes_of(alloc, 2000)?;
+    let output = bytes_of(alloc, 1000)?;
+    Ok(echoes_as(alloc, &input, &output))
+}
+
+#[test]
+fn echoes_end(rt: HostRuntime) -> Result<(), Fail> {
+    assert!(rt; cuts_its_input(rt.alloc())?);
     Ok(())
 }
 
-/// A new board of four windows with this input.
-fn board_with<'a>(alloc: Global, input: &'a [u8]) -> Result<Board<4, SlicePort<'a>>, AllocError> {
-    Board::new(alloc, SlicePort::new(alloc, input))
+/// Whether an accepted image declares this budget, and comes back as the other.
+fn comes_back(accepted: Accepted, budget_told: u64, other: &Image) -> bool {
+    let is_budget = budget(accepted.image()) == budget_told;
+    let image = accepted.into_image();
+    image.words() == other.words() && is_budget
 }
 
-/// Whether a run on a board exits with 0 after so many turns, without a call.
-fn exits(board: &mut Board<4, SlicePort<'_>>, accepted: &Accepted, turns: u64) -> bool {
-    match run_board(board, accepted) {
-        Ok(ended) => {
-            ended.status == 0
-                && ended.turns == turns
-                && ended.overflows == 0
-                && ended.underflows == 0
-                && ended.pages == CODE_ALONE
-        }
+/// Whether the row's image is accepted, and comes back as the other.
+fn is_accepted_as(alloc: Global, row: &Row<'_>, other: &Image) -> bool {
+    match row.accepted(alloc) {
+        Some(accepted) => comes_back(accepted, row.budget, other),
+        None => false,
+    }
+}
+
+/// Whether the row's image is accepted with its budget, and comes back.
+fn is_accepted(alloc: Global, row: &Row<'_>) -> bool {
+    match row.image(alloc) {
+        Some(other) => is_accepted_as(alloc, row, &other),
+        None => false,
+    }
+}
+
+#[test]
+fn accepts_workloads(rt: HostRuntime) {
+    for row in &LONG {
+        assert!(rt; is_accepted(rt.alloc(), row), "{}", row.budget);
+    }
+}
+
+/// Whether a raw run puts `!` out, and exits with 0 after 15 turns.
+fn increments(raw: &Raw) -> bool {
+    let told = &raw.outcome;
+    told.ending == Ending::Exit(0)
+        && (told.turns, told.overflows, told.underflows) == (15, 0, 0)
+        && raw.output.as_slice() == b"!".as_slice()
+}
+
+/// Whether the raw run on `N` windows does.
+fn increments_on<const N: usize>(alloc: Global, image: &Image) -> bool
+    requires { (4 ≤ N) × (N ≤ 32) }
+{
+    match run_raw::<N>(alloc, image, b"", 1000) {
+        Ok(raw) => increments(&raw),
         Err(_fault) => false,
     }
 }
 
-/// Whether the two images, and then the first again, exit on one board after so many turns, and it has put this out.
-fn share_a_board(
-    alloc: Global,
-    first: &Accepted,
-    second: &Accepted,
-    input: &[u8],
-    output: &[u8],
-) -> Result<bool, Fail> {
-    let mut board = board_with(alloc, input)?;
-    Ok(
-        exits(&mut board, first, 14)
-            && exits(&mut board, second, 16)
-            && exits(&mut board, first, 14)
-            && board.port().output() == output,
-    )
+/// Returns from the function with what is so on as many windows as there are, if that is one of these numbers, which rise.
+macro_rules! return_on {
+    ($windows:ident, $alloc:ident, $image:ident: $($count:literal)*) => {
+        $(
+            if $windows <= $count {
+                return increments_on::<$count>($alloc, $image);
+            }
+        )*
+    };
 }
 
-/// Whether this image, `HELLO` and this image again share a board, with one byte of input.
-fn shares_with_hello(alloc: Global, copy: &Accepted) -> Result<bool, Fail> {
-    match accepted_of(alloc, &HELLO)? {
-        Some(hello) => share_a_board(alloc, copy, &hello, b"A", b"AHi\xff"),
-        None => Ok(false),
+/// Whether the raw run on so many windows, 4 to 32, does.
+fn increments_by_number(alloc: Global, windows: u32, image: &Image) -> bool {
+    return_on!(windows, alloc, image:
+        4 5 6 7 8 9 10 11 12 13 14 15 16 17 18 19 20 21 22 23 24 25 26 27 28 29 30 31 32);
+    false
+}
+
+/// Whether each raw run does.
+fn increments_on_each(alloc: Global, image: &Image) -> bool {
+    for windows in 4..33u32 {
+        if !increments_by_number(alloc, windows, image) {
+            return false;
+        }
     }
+    true
 }
 
-/// Whether `COPY` and `HELLO` share a board.
-fn copy_shares_with_hello(alloc: Global) -> Result<bool, Fail> {
-    match accepted_of(alloc, &COPY)? {
-        Some(copy) => shares_with_hello(alloc, &copy),
-        None => Ok(false),
+/// Whether each raw run of the row's image does.
+fn increments_raw(alloc: Global, row: &Row<'_>) -> bool {
+    match row.image(alloc) {
+        Some(image) => increments_on_each(alloc, &image),
+        None => false,
     }
 }
 
 #[test]
-fn runs_on_one_board(rt: HostRuntime) -> Result<(), Fail> {
-    assert!(rt; copy_shares_with_hello(rt.alloc())?);
-    Ok(())
+fn raw_runs_agree(rt: HostRuntime) {
+    assert!(rt; increments_raw(rt.alloc(), &INCREMENTS));
 }

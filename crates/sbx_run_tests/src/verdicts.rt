@@ -1,130 +1,290 @@
 //! What `verify` refuses, and how it is told.
-use crate::images::{BARE, HELLO, Shape, image_of};
+use crate::sources::{
+    BARE, BYTES, CALLER, CALLER_OF_39, CHAIN_REST, COUNTDOWN, COUNTDOWN_REST, FRAMED, HELLO,
+    INCREMENT, LINKS, Links, Source,
+};
+use sbx_image::{Image, parse};
 use sbx_run::{Refusal, verify};
 use std::alloc::{AllocError, Global};
 use std::test::Fail;
 
-/// Shapes and code, and how they are refused.
-const ROWS: [(Shape, &[u32], &str); 21] = [
+/// How a source of these pieces and links is refused.
+type Row = (
+    &'static str,
+    &'static [&'static str],
+    Option<&'static Links>,
+);
+
+static ROWS: [Row; 28] = [
     (
-        Shape {
-            budget: 15,
-            fuel: 15,
-            ..BARE
-        },
-        &HELLO,
         "refused V14 in function 0 at 00040014",
+        &[
+            ".services exit,put\n.function main,leaf,0,0,15\n.fuel 15\n",
+            HELLO,
+        ],
+        None,
     ),
     (
-        Shape {
-            budget: 15,
-            fuel: 16,
-            ..BARE
-        },
-        &HELLO,
         "refused V14 in function 0 at 00040000",
+        &[
+            ".services exit,put\n.function main,leaf,0,0,15\n.fuel 16\n",
+            HELLO,
+        ],
+        None,
     ),
-    (BARE, &[0x81e8_0020], "refused V1 in function 0 at 00040000"),
-    (BARE, &[0xffff_ffff], "refused V1 in function 0 at 00040000"),
-    (BARE, &[0x9de3_bfa0], "refused V3 in function 0 at 00040000"),
     (
-        Shape { kind: 1, ..BARE },
-        &HELLO,
         "refused V3 in function 0 at 00040000",
+        &[BARE, " save %sp,-96,%sp\n"],
+        None,
     ),
     (
-        Shape { params: 1, ..BARE },
-        &HELLO,
+        "refused V3 in function 0 at 00040000",
+        &[
+            ".services exit,put\n.function main,framed,0,0,100\n.fuel 100\n",
+            HELLO,
+        ],
+        None,
+    ),
+    (
         "refused V18 in function 0 at 00040000",
+        &[BARE, ".param 0,0,0\n", HELLO],
+        None,
     ),
     (
-        Shape {
-            functions: 2,
-            ..BARE
-        },
-        &HELLO,
         "refused V16 in function 0 at 00040000",
+        &[
+            BARE,
+            " mov 72,%o0\n.function next,leaf,0,0,100\n.fuel 100\n",
+            HELLO,
+        ],
+        None,
     ),
     (
-        Shape { blocks: 2, ..BARE },
-        &HELLO,
         "refused V14 in function 0 at 00040000",
+        &[BARE, " mov 72,%o0\n.block next\n.fuel 100\n", HELLO],
+        None,
     ),
     (
-        Shape { cells: 1, ..BARE },
-        &HELLO,
         "refused V13 in function 0 at 00040000",
+        &[BARE, ".cell %g1,0,0,0\n", HELLO],
+        None,
     ),
     (
-        Shape { terms: 1, ..BARE },
-        &HELLO,
         "refused V14 in function 0 at 00040000",
+        &[BARE, ".term %g1,1\n", HELLO],
+        None,
     ),
     (
-        Shape { frame: 8, ..BARE },
-        &HELLO,
         "refused V3 in function 0 at 00040000",
+        &[
+            ".services exit,put\n.function main,leaf,8,0,100\n.fuel 100\n",
+            HELLO,
+        ],
+        None,
     ),
     (
-        BARE,
-        &[0x9010_2000, 0x91d0_2000, 0x91d0_2000],
         "refused V3 in function 0 at 00040004",
+        &[BARE, " mov 0,%o0\n ta 0\n ta 0\n"],
+        None,
     ),
-    (BARE, &[0x91d0_2000], "refused V6 in function 0 at 00040000"),
     (
-        BARE,
-        &[0x9010_2000, 0x9202_4008, 0x81e8_0020],
+        "refused V6 in function 0 at 00040000",
+        &[BARE, " ta 0\n"],
+        None,
+    ),
+    (
         "refused V6 in function 0 at 00040004",
+        &[BARE, " mov 0,%o0\n add %o1,%o0,%o1\n restore\n"],
+        None,
     ),
-    (BARE, &[0x9c10_2048], "refused V7 in function 0 at 00040000"),
-    (BARE, &[0xa010_2048], "refused V7 in function 0 at 00040000"),
     (
-        BARE,
-        &[0x91d0_2003],
+        "refused V7 in function 0 at 00040000",
+        &[BARE, " mov 72,%sp\n"],
+        None,
+    ),
+    (
+        "refused V7 in function 0 at 00040000",
+        &[BARE, " mov 72,%l0\n"],
+        None,
+    ),
+    (
         "refused V12 in function 0 at 00040000",
+        &[BARE, " ta 3\n"],
+        None,
     ),
     (
-        Shape {
-            services: 5,
-            ..BARE
-        },
-        &[0x91d0_2001],
         "refused V12 in function 0 at 00040000",
+        &[".services exit,put\n.function main,leaf,0,0,100\n.fuel 100\n ta 1\n"],
+        None,
     ),
     (
-        Shape { room: 4033, ..BARE },
-        &HELLO,
         "refused V15 in function 0 at 00040000",
+        &[
+            ".services exit,put\n.function main,leaf,0,4033,100\n.fuel 100\n",
+            HELLO,
+        ],
+        None,
     ),
     (
-        BARE,
-        &[0x9010_2048],
         "refused V16 in function 0 at 00040000",
+        &[BARE, " mov 72,%o0\n"],
+        None,
+    ),
+    (
+        "refused V14 in function 0 at 00040014",
+        &[COUNTDOWN, ".term %l0,3\n", COUNTDOWN_REST],
+        None,
+    ),
+    (
+        "refused V6 in function 0 at 00040004",
+        &[FRAMED, " ld [%sp+64],%o0\n ta 0\n"],
+        None,
+    ),
+    (
+        "refused V14 in function 0 at 00040018",
+        &[
+            ".services exit,get,put\n.function main,framed,96,96,38\n.fuel 38\n",
+            CALLER,
+            BYTES,
+            INCREMENT,
+        ],
+        None,
+    ),
+    (
+        "refused V13 in function 0 at 0004000C",
+        &[
+            CALLER_OF_39,
+            CALLER,
+            ".param 0,31,0\n.result 1,255,0\n",
+            INCREMENT,
+        ],
+        None,
+    ),
+    (
+        "refused V17 in function 1 at 00040020",
+        &[
+            CALLER_OF_39,
+            CALLER,
+            ".param 0,254,0\n.result 1,254,0\n",
+            INCREMENT,
+        ],
+        None,
+    ),
+    // a call to an earlier function
+    (
+        "refused V5 in function 1 at 00040018",
+        &[
+            ".services exit,get,put\n.function main,framed,96,192,131\n.fuel 131\n",
+            " save %sp,-96,%sp\n call again\n nop\n mov 0,%o0\n ta 0\n",
+            ".function again,framed,96,96,100\n.fuel 100\n",
+            " save %sp,-96,%sp\n call main\n nop\n ret\n restore\n",
+        ],
+        None,
+    ),
+    // the first function returns
+    (
+        "refused V18 in function 0 at 00040004",
+        &[FRAMED, " ret\n restore\n"],
+        None,
+    ),
+    // a chain whose first function has a word of stack too few
+    (
+        "refused V15 in function 0 at 00040004",
+        &[
+            ".services exit,get,put\n.function f0,framed,96,3836,2102\n",
+            CHAIN_REST,
+        ],
+        Some(&LINKS),
+    ),
+    // ... and one with a turn too few: its way on is told before the calls of the others
+    (
+        "refused V14 in function 0 at 00040010",
+        &[
+            ".services exit,get,put\n.function f0,framed,96,3840,2101\n.fuel 2101\n",
+            " save %sp,-96,%sp\n call f1\n nop\n mov 0,%o0\n ta 0\n",
+        ],
+        Some(&LINKS),
     ),
 ];
 
 /// Whether the refusal is shown as this line.
-fn is_shown(alloc: Global, refusal: &Refusal, told: &str) -> Result<bool, AllocError> {
-    let text = format!(in alloc; "{refusal}")?;
-    Ok(text.as_str() == told)
+fn is_shown(alloc: Global, refusal: &Refusal, told: &str) -> bool {
+    match format!(in alloc; "{refusal}") {
+        Ok(text) => text.as_str() == told,
+        Err(AllocError) => false,
+    }
 }
 
-/// Whether the image of this shape and code is refused, and comes back, with this line.
-fn is_refused(alloc: Global, shape: &Shape, words: &[u32], told: &str) -> Result<bool, Fail> {
-    let image = image_of(alloc, shape, words)?;
+/// Whether the image is refused with this line, and comes back, as the other.
+fn is_refused(alloc: Global, image: Image, other: &Image, told: &str) -> bool {
     match verify(alloc, image) {
-        Ok(_accepted) => Ok(false),
-        Err((back, refusal)) => {
-            let is_back = back.words() == words;
-            Ok(is_shown(alloc, &refusal, told)? && is_back)
-        }
+        Ok(_accepted) => false,
+        Err((back, refusal)) => { back.words() == other.words() && is_shown(alloc, &refusal, told) }
+    }
+}
+
+/// Whether the source's image is refused so, and comes back as the other.
+fn is_told_of(alloc: Global, source: &Source, other: &Image, told: &str) -> bool {
+    match source.image(alloc) {
+        Some(image) => is_refused(alloc, image, other, told),
+        None => false,
+    }
+}
+
+/// Whether the row's image is refused so.
+fn is_told(alloc: Global, row: &Row) -> bool {
+    let (told, pieces, links) = *row;
+    let source = Source { pieces, links };
+    match source.image(alloc) {
+        Some(other) => is_told_of(alloc, &source, &other, told),
+        None => false,
     }
 }
 
 #[test]
-fn tells_the_first_fault(rt: HostRuntime) -> Result<(), Fail> {
-    for (shape, words, told) in &ROWS {
-        assert!(rt; is_refused(rt.alloc(), shape, *words, *told)?, "{told}");
+fn tells_the_first_fault(rt: HostRuntime) {
+    for row in &ROWS {
+        assert!(rt; is_told(rt.alloc(), row), "{}", row.0);
+    }
+}
+
+/// Images of one word each, of no instruction, or of one with a bit that it doesn't use.
+static WORDS: [[u8; 4]; 2] = [[0xFF; 4], [0x81, 0xE8, 0, 0x20]];
+
+/// The header of an image of one word, and what stands behind the word: one leaf function of one block, of 100 turns.
+const BEFORE: &[u8] = b"SBX8\x00\x01\x00\x07\x00\x00\x00\x01\x00\x00\x00\x00\x00\x01\x00\x01";
+
+const BEHIND: [u8; 42] = [
+    0, 0, 0, 0, 0, 4, 0, 0, 0, 0, 0, 0, 0, 0, 0, 0, 0, 0, 0, 0, 0, 0, 0, 100, 0, 1, 0, 4, 0, 0, 0,
+    0, 0, 0, 0, 0, 0, 0, 0, 0, 0, 100,
+];
+
+/// The image of this word alone, which no source means.
+fn image_of(alloc: Global, word: &[u8]) -> Result<Image, Fail> {
+    let mut bytes = Vec::new(alloc);
+    bytes.extend_from_slice(BEFORE)?;
+    bytes.extend_from_slice(word)?;
+    bytes.extend_from_slice(&BEHIND)?;
+    Ok(parse(alloc, &bytes)?)
+}
+
+/// Whether the word is told as no instruction.
+fn is_none(alloc: Global, word: &[u8]) -> Result<bool, Fail> {
+    let other = image_of(alloc, word)?;
+    is_none_as(alloc, word, &other)
+}
+
+/// Whether its image comes back as the other.
+fn is_none_as(alloc: Global, word: &[u8], other: &Image) -> Result<bool, Fail> {
+    let image = image_of(alloc, word)?;
+    let told = "refused V1 in function 0 at 00040000";
+    Ok(is_refused(alloc, image, other, told))
+}
+
+#[test]
+fn tells_words_that_are_none(rt: HostRuntime) -> Result<(), Fail> {
+    for word in &WORDS {
+        assert!(rt; is_none(rt.alloc(), word)?, "{word:?}");
     }
     Ok(())
 }

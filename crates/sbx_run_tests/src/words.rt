@@ -1,5 +1,4 @@
 //! What the flat machine reads of code words, and the laws that its definitions keep.
-use crate::images::HELLO;
 use sbx_flat::laws::{
     each_step_counts, frames_come_and_go, invariants_make_safe, registers_keep_words,
 };
@@ -16,23 +15,35 @@ fn called(word: u32) -> Option<u32> {
     }
 }
 
+/// The words of `mov 72,%o0; ta 2`.
+const CODE: [u32; 2] = [0x9010_2048, 0x91d0_2002];
+
+/// Words and what they weigh.
+static WEIGHTS: [(u32, u64); 6] = [
+    (0x9de3_bfa0, 25),
+    (0x81e8_0000, 25),
+    (0x91d0_2000, 3),
+    (0x91d0_2001, 5),
+    (0x91d0_2002, 5),
+    (0x9202_2005, 1),
+];
+
+/// Whether a code word is read at its place, and none behind the last.
+fn reads_places() -> bool {
+    word_at(&CODE, 0x0004_0004) == Some(0x91d0_2002) && word_at(&CODE, 0x0004_0008).is_none()
+}
+
+/// Whether services are known by their number.
+fn knows_services() -> bool {
+    called(0x91d0_2002) == Some(2) && declares(Services::EXIT, 0) && !declares(Services::EXIT, 1)
+}
+
 #[test]
 fn reads_code_words(rt: HostRuntime) {
-    let weights = [
-        (0x9de3_bfa0, 25),
-        (0x81e8_0000, 25),
-        (0x91d0_2000, 3),
-        (0x91d0_2001, 5),
-        (0x91d0_2002, 5),
-        (0x9202_2005, 1),
-    ];
-    for (word, weight) in weights {
-        assert!(rt; weight_of(&asked(word)) == weight, "{word}");
+    for (word, weight) in &WEIGHTS {
+        assert!(rt; weight_of(&asked(*word)) == *weight, "{word}");
     }
-    assert!(rt; called(0x91d0_2002) == Some(2));
-    assert!(rt; word_at(&HELLO, 0x0004_0004) == Some(0x91d0_2002));
-    assert!(rt; word_at(&HELLO, 0x0004_0018).is_none());
-    assert!(rt; declares(Services::EXIT, 0) && !declares(Services::EXIT, 1));
+    assert!(rt; reads_places() && knows_services());
 }
 
 #[test]

@@ -1,0 +1,163 @@
+//! Runs of accepted images on a board of the caller's, and what it shows afterwards.
+
+use crate::runs::{CHAINED, COPIES, HI};
+use sbx_raw::SlicePort;
+use sbx_run::{Accepted, Ended, PageUse, run_board};
+use std::alloc::{AllocError, Global};
+use v8_board::Board;
+use v8_word::Reg;
+
+/// A new board of four windows with this input.
+fn board_with<'a>(alloc: Global, input: &'a [u8]) -> Result<Board<4, SlicePort<'a>>, AllocError> {
+    Board::new(alloc, SlicePort::new(alloc, input))
+}
+
+/// What a run on a board gave, if the port had no fault.
+fn ended(board: &mut Board<4, SlicePort<'_>>, accepted: &Accepted) -> Option<Ended> {
+    match run_board(board, accepted) {
+        Ok(ended) => Some(ended),
+        Err(_fault) => None,
+    }
+}
+
+/// Whether a run on a board exits with 0 after so many turns, without a call.
+fn exits(board: &mut Board<4, SlicePort<'_>>, accepted: &Accepted, turns: u64) -> bool {
+    // Code of one page, which is fetched from and never written, uses this.
+    let pages = PageUse {
+        referenced: [1, 0, 0],
+        modified: [0, 0, 0],
+    };
+    match ended(board, accepted) {
+        Some(ended) => {
+            (ended.status, ended.turns, ended.overflows, ended.underflows) == (0, turns, 0, 0)
+                && ended.pages == pages
+        }
+        None => false,
+    }
+}
+
+/// Whether the two images, and then the first again, exit on the board after so many turns, and it has put this out.
+fn share(
+    board: &mut Board<4, SlicePort<'_>>,
+    first: &Accepted,
+    second: &Accepted,
+    output: &[u8],
+) -> bool {
+    exits(board, first, 14)
+        && exits(board, second, 16)
+        && exits(board, first, 14)
+        && board.port().output() == output
+}
+
+/// Whether they do on a new board with this input.
+fn share_a_board(
+    alloc: Global,
+    first: &Accepted,
+    second: &Accepted,
+    input: &[u8],
+    output: &[u8],
+) -> bool {
+    match board_with(alloc, input) {
+        Ok(board) => {
+            let mut board = board;
+            share(&mut board, first, second, output)
+        }
+        Err(AllocError) => false,
+    }
+}
+
+/// Whether the image that copies a byte, with one byte of input, shares a board with one that needs none.
+fn copy_shares(alloc: Global, copy: &Accepted) -> bool {
+    match HI.accepted(alloc) {
+        Some(hello) => share_a_board(alloc, copy, &hello, b"A", b"AHi\xff"),
+        None => false,
+    }
+}
+
+/// Whether the two share a board.
+fn images_share(alloc: Global) -> bool {
+    match COPIES.accepted(alloc) {
+        Some(copy) => copy_shares(alloc, &copy),
+        None => false,
+    }
+}
+
+#[test]
+fn runs_on_one_board(rt: HostRuntime) {
+    assert!(rt; images_share(rt.alloc()));
+}
+
+/// The registers of the current window after the chain's run: it is the one below the first function's, whose outs are its ins, with
+/// the places of the trap that ended the run in %l1 and %l2.
+static REGISTERS: [(u8, u32); 4] = [
+    (17, 0x0004_0010),
+    (18, 0x0004_0014),
+    (24, 0),
+    (30, 0x000F_FF60),
+];
+
+/// Words of RAM after the chain's run: the first function's %fp and the second one's %i7, as they were spilled.
+static SPILLED: [(u64, u32); 2] = [(0x9_FF98, 0x000F_FFC0), (0x9_FF3C, 0x0004_0004)];
+
+fn has_registers(board: &Board<4, SlicePort<'_>>) -> bool {
+    for (number, word) in REGISTERS {
+        if let Some(register) = Reg::new(number)
+            && board.reg(register) != word
+        {
+            return false;
+        }
+    }
+    true
+}
+
+fn has_spilled(board: &Board<4, SlicePort<'_>>) -> bool {
+    for (place, word) in &SPILLED {
+        if board.entry(*place) != Some(*word) {
+            return false;
+        }
+    }
+    true
+}
+
+/// Whether a board is in supervisor mode with traps disabled in window 2, window 0 is the invalid one, and the rest is as above.
+fn is_left(board: &Board<4, SlicePort<'_>>) -> bool {
+    (board.psr(), board.wim()) == (0x82, 1)
+        && board.port().output() == b"!".as_slice()
+        && has_registers(board)
+        && has_spilled(board)
+}
+
+/// Whether a chain's run exits with 0 after so many turns, overflows and underflows, and leaves the board so.
+fn leaves(board: &mut Board<4, SlicePort<'_>>, accepted: &Accepted) -> bool {
+    match ended(board, accepted) {
+        Some(ended) => {
+            (ended.status, ended.turns, ended.overflows, ended.underflows) == (0, 2006, 38, 37)
+                && is_left(board)
+        }
+        None => false,
+    }
+}
+
+/// Whether a chain's run leaves a new board so.
+fn leaves_its_board(alloc: Global, accepted: &Accepted) -> bool {
+    match board_with(alloc, b"") {
+        Ok(board) => {
+            let mut board = board;
+            leaves(&mut board, accepted)
+        }
+        Err(AllocError) => false,
+    }
+}
+
+/// Whether the run of the chain that puts `!` out does.
+fn chain_leaves_its_board(alloc: Global) -> bool {
+    match CHAINED.accepted(alloc) {
+        Some(chain) => leaves_its_board(alloc, &chain),
+        None => false,
+    }
+}
+
+#[test]
+fn shows_what_a_run_leaves(rt: HostRuntime) {
+    assert!(rt; chain_leaves_its_board(rt.alloc()));
+}
