@@ -1,0 +1,96 @@
+//! Lines, one after the other, and how many agree.
+use crate::boards::runs_on_board;
+use crate::faults::LineFault;
+use crate::fields::bytes;
+use crate::flat::runs_flat;
+use crate::runs::run_in;
+use crate::verdicts::{Verdict, is_spelled, verdict_on};
+use sbx_run::Accepted;
+use std::alloc::Global;
+use std::fmt;
+
+/// How many lines of a kind agree, of how many.
+#[derive(Clone, Copy)]
+pub struct Tally {
+    agree: u64,
+    lines: u64,
+}
+
+impl Tally {
+    /// One line more.
+    fn count(&mut self, agrees: bool) {
+        self.lines = self.lines.saturating_add(1);
+        if agrees {
+            self.agree = self.agree.saturating_add(1);
+        }
+    }
+}
+
+impl fmt::Display for Tally {
+    fn fmt<W: fmt::Write>(&self, f: &mut fmt::Formatter<W>) -> fmt::Result {
+        let agree = self.agree;
+        let lines = self.lines;
+        write!(f, "{agree} of {lines}")
+    }
+}
+
+/// What the lines so far came to, and the image of the last verdict, where it is accepted.
+#[derive(Drop)]
+pub struct Comparison {
+    pub images: Tally,
+    pub runs: Tally,
+    accepted: Option<Accepted>,
+}
+
+impl Comparison {
+    /// Before the first line.
+    pub fn new() -> Comparison {
+        let none = Tally { agree: 0, lines: 0 };
+        Comparison {
+            images: none,
+            runs: none,
+            accepted: None,
+        }
+    }
+
+    /// Whether the verdict on an image is the one that the line spells. The image is kept for the runs that follow.
+    fn image(&mut self, alloc: Global, text: &str) -> Result<bool, LineFault> {
+        self.accepted = None;
+        let Some((field, wanted)) = text.split_once(' ') else {
+            return Err(LineFault::NotRead);
+        };
+        let bytes = bytes(alloc, field)?;
+        let verdict = verdict_on(alloc, bytes.as_slice())?;
+        let agrees = is_spelled(alloc, &verdict, wanted)?;
+        if let Verdict::Accepted(accepted) = verdict {
+            self.accepted = Some(accepted);
+        }
+        Ok(agrees)
+    }
+
+    /// Whether the runs of the image that is kept, on a board and on the flat machine, are the line's.
+    fn run(&self, alloc: Global, text: &str) -> Result<bool, LineFault> {
+        let Some(accepted) = &self.accepted else {
+            return Err(LineFault::NotRead);
+        };
+        let run = run_in(alloc, text)?;
+        Ok(runs_on_board(alloc, accepted, &run)? && runs_flat(alloc, accepted.image(), &run)?)
+    }
+
+    /// Whether a line agrees.
+    pub fn line(&mut self, alloc: Global, line: &str) -> Result<bool, LineFault> {
+        match line.split_once(' ') {
+            Some(("image", text)) => {
+                let answer = self.image(alloc, text);
+                self.images.count(answer == Ok(true));
+                answer
+            }
+            Some(("run", text)) => {
+                let answer = self.run(alloc, text);
+                self.runs.count(answer == Ok(true));
+                answer
+            }
+            _ => Err(LineFault::NotRead),
+        }
+    }
+}
