@@ -1,17 +1,26 @@
-//! Measures turns of the board of eight windows. Drives it through each raw loop for a number of turns, in each way: turn by turn, in one
-//! run, in a raw run, and in a trace. Prints what the board counted and the register that the loop counts down, the bytes that were put
-//! out, or the lines of the trace.
+//! Measures turns of the board of eight windows, and verification.
 //!
-//! Arguments, in any order: the number of turns; `arithmetic` or `memory` for that loop alone; `step`, `run`, `raw` or `trace` for that
-//! way alone.
+//! Drives the board through each raw loop for a number of turns, in each way: turn by turn, in one run, in a raw run, and in a trace.
+//! Prints what the board counted and the register that the loop counts down, the bytes that were put out, or the lines of the trace.
+//! Then verifies images of each shape, a great one and one of a quarter of it, and prints the verdicts; the times go to standard error.
+//!
+//! Arguments, in any order: the number of turns; `arithmetic` or `memory` for that loop alone; `straight`, `branches`, `cells` or `calls`
+//! for that shape alone; `step`, `run`, `raw` or `trace` for that way alone, in place of all others and of verification.
 #![tactic(auto)]
 
+mod callers;
 mod loops;
+mod pieces;
+mod rows;
+mod shapes;
 mod tally;
+mod verdicts;
 mod ways;
 
 use anyhow::{Result, anyhow};
+use shapes::Shape;
 use std::env;
+use verdicts::timed_verdict;
 use ways::Way;
 
 /// What a loop does besides counting.
@@ -21,7 +30,21 @@ enum Loop {
     Memory,
 }
 
-const LOOPS: [(&str, Loop); 2] = [("arithmetic", Loop::Arithmetic), ("memory", Loop::Memory)];
+/// What is measured: a loop's turns, or a shape's verification.
+#[derive(Clone, Copy, PartialEq, Eq)]
+enum Subject {
+    Loop(Loop),
+    Shape(Shape),
+}
+
+const SUBJECTS: [(&str, Subject); 6] = [
+    ("arithmetic", Subject::Loop(Loop::Arithmetic)),
+    ("memory", Subject::Loop(Loop::Memory)),
+    ("straight", Subject::Shape(Shape::Straight)),
+    ("branches", Subject::Shape(Shape::Branches)),
+    ("cells", Subject::Shape(Shape::Cells)),
+    ("calls", Subject::Shape(Shape::Calls)),
+];
 
 const WAYS: [(&str, Way); 4] = [
     ("step", Way::Step),
@@ -34,7 +57,7 @@ const WAYS: [(&str, Way); 4] = [
 #[derive(Clone, Copy)]
 struct Plan {
     turns: u64,
-    only_loop: Option<Loop>,
+    only: Option<Subject>,
     only_way: Option<Way>,
 }
 
@@ -50,9 +73,9 @@ fn named<T: Copy>(table: &[(&str, T)], name: &str) -> Option<T> {
 
 /// The plan with one more argument.
 fn with_argument(plan: Plan, argument: &str) -> Result<Plan> {
-    let only_loop = named(LOOPS.as_slice(), argument);
-    if only_loop.is_some() {
-        return Ok(Plan { only_loop, ..plan });
+    let only = named(SUBJECTS.as_slice(), argument);
+    if only.is_some() {
+        return Ok(Plan { only, ..plan });
     }
     let only_way = named(WAYS.as_slice(), argument);
     if only_way.is_some() {
@@ -60,7 +83,7 @@ fn with_argument(plan: Plan, argument: &str) -> Result<Plan> {
     }
     match argument.parse() {
         Ok(turns) => Ok(Plan { turns, ..plan }),
-        Err(_) => Err(anyhow!("an argument is no loop, way or number of turns")),
+        Err(_) => Err(anyhow!("an argument is no loop, shape, way or number of turns")),
     }
 }
 
@@ -68,7 +91,7 @@ fn with_argument(plan: Plan, argument: &str) -> Result<Plan> {
 fn planned(rt: &HostRuntime) -> Result<Plan> {
     let mut plan = Plan {
         turns: 100_000,
-        only_loop: None,
+        only: None,
         only_way: None,
     };
     let arguments: Vec<String> = env::args(rt)?.collect(rt.alloc())?;
@@ -79,7 +102,7 @@ fn planned(rt: &HostRuntime) -> Result<Plan> {
 }
 
 /// Measures a loop in each way of the plan.
-fn measure(rt: &HostRuntime, plan: Plan, loop_name: &str, measured: Loop) -> Result<()> {
+fn measure_loop(rt: &HostRuntime, plan: Plan, loop_name: &str, measured: Loop) -> Result<()> {
     let words = match measured {
         Loop::Arithmetic => loops::ARITHMETIC.as_slice(),
         Loop::Memory => loops::MEMORY.as_slice(),
@@ -96,11 +119,44 @@ fn measure(rt: &HostRuntime, plan: Plan, loop_name: &str, measured: Loop) -> Res
     Ok(())
 }
 
+/// Verifies an image of the shape, prints the verdict, and gives the time in microseconds.
+fn verified(rt: &HostRuntime, name: &str, shape: Shape, count: u16) -> Result<u128> {
+    let Ok(image) = shape.image(rt.alloc(), count) else {
+        return Err(anyhow!("the shape is no image"));
+    };
+    let told = timed_verdict(rt, image)?;
+    let words = told.words;
+    match told.refusal {
+        None => println!(rt; "{name} of {words} words: accepted")?,
+        Some(refusal) => println!(rt; "{name} of {words} words: {refusal}")?,
+    }
+    Ok(told.time)
+}
+
+/// Verifies an image of the shape and one of a quarter of it, and tells how long each took.
+fn measure_shape(rt: &HostRuntime, name: &str, shape: Shape) -> Result<()> {
+    let quarter = verified(rt, name, shape, shape.quarter())?;
+    let whole = verified(rt, name, shape, 4 * shape.quarter())?;
+    let tenths = whole.saturating_mul(10) / quarter.max(1);
+    let (times, tenth) = (tenths / 10, tenths % 10);
+    eprintln!(rt; "{name}: {whole} us, {times}.{tenth} times the {quarter} us of a quarter")?;
+    Ok(())
+}
+
+/// Measures what the plan asks for of a loop or a shape.
+fn measure(rt: &HostRuntime, plan: Plan, name: &str, subject: Subject) -> Result<()> {
+    match subject {
+        Subject::Loop(measured) => measure_loop(rt, plan, name, measured),
+        Subject::Shape(shape) if plan.only_way.is_none() => measure_shape(rt, name, shape),
+        Subject::Shape(_) => Ok(()),
+    }
+}
+
 fn main(rt: HostRuntime) -> Result<()> {
     let plan = planned(&rt)?;
-    for (loop_name, measured) in LOOPS {
-        if plan.only_loop.unwrap_or(measured) == measured {
-            measure(&rt, plan, loop_name, measured)?;
+    for (name, subject) in SUBJECTS {
+        if plan.only.unwrap_or(subject) == subject {
+            measure(&rt, plan, name, subject)?;
         }
     }
     Ok(())
