@@ -1,8 +1,9 @@
 //! Commands on bytes that are or aren't images, over readers and writers that fail at one call.
+mod chain;
 mod sources;
 
 use arrayvec::ArrayVec;
-use sbx_command::{Job, ReadFault, command, decimal, read_whole, turns};
+use sbx_command::{Job, ReadFault, Windows, command, decimal, read_whole, turns, window_count};
 use std::alloc::Global;
 use std::io::{self, Read, Write};
 
@@ -97,22 +98,28 @@ const HELLO: [u8; 86] = [
 
 const VERIFY: Job<'static> = Job::Verify { image: "a.img" };
 
-const RUN: Job<'static> = Job::Run { image: "a.img" };
+const RUN: Job<'static> = Job::Run {
+    image: "a.img",
+    windows: Windows::USUAL,
+};
 
 const LIST: Job<'static> = Job::List { image: "a.img" };
 
 const TRACE: Job<'static> = Job::Trace {
     image: "a.img",
+    windows: Windows::USUAL,
     limit: 100_000,
 };
 
 const TRACE_OF_TWO: Job<'static> = Job::Trace {
     image: "a.img",
+    windows: Windows::USUAL,
     limit: 2,
 };
 
 const TRACE_OF_NONE: Job<'static> = Job::Trace {
     image: "a.img",
+    windows: Windows::USUAL,
     limit: 0,
 };
 
@@ -135,7 +142,7 @@ const LISTING: &[u8] = b"00040000 90102048 or %g0,72,%o0
 /// A command, the calls at which its file, its input and its output fail (0: none), and what it has to answer.
 #[derive(Clone, Copy)]
 struct Case<'a> {
-    job: Job<'a>,
+    job: &'a Job<'a>,
     file: &'a [u8],
     fails: [usize; 3],
     status: u8,
@@ -186,7 +193,7 @@ fn answer_of(alloc: Global, job: &Job<'_>, file: &[u8], fails: [usize; 3]) -> To
 
 /// Whether the command answers as it has to.
 fn is_answered(alloc: Global, case: &Case<'_>) -> bool {
-    let told = answer_of(alloc, &case.job, case.file, case.fails);
+    let told = answer_of(alloc, case.job, case.file, case.fails);
     told.status == case.status
         && told.out.kept.as_slice() == case.out
         && told.err.kept.as_slice() == case.err
@@ -280,6 +287,28 @@ fn reads_a_limit_of_turns(rt: HostRuntime) {
     }
 }
 
+/// Texts, and the count of windows that they give.
+const COUNTS: [(Option<&str>, Option<u32>); 8] = [
+    (None, Some(8)),
+    (Some("4"), Some(4)),
+    (Some("32"), Some(32)),
+    (Some("008"), Some(8)),
+    (Some("3"), None),
+    (Some("33"), None),
+    (Some("+8"), None),
+    (Some("abc"), None),
+];
+
+#[test]
+fn reads_a_count_of_windows(rt: HostRuntime) {
+    for (text, wanted) in COUNTS {
+        assert!(rt;
+            window_count(text).map(Windows::count) == wanted,
+            "at {text:?}"
+        );
+    }
+}
+
 /// The sample and a byte after it.
 fn longer() -> [u8; 87] {
     let mut image = [0; 87];
@@ -290,7 +319,7 @@ fn longer() -> [u8; 87] {
 }
 
 /// A command on whole bytes that has to answer with status 2 and a line.
-fn refused<'a>(job: Job<'a>, file: &'a [u8], err: &'a [u8]) -> Case<'a> {
+fn refused<'a>(job: &'a Job<'a>, file: &'a [u8], err: &'a [u8]) -> Case<'a> {
     Case {
         job,
         file,
@@ -313,9 +342,9 @@ const RANGE: [u8; 95] = [
 
 /// Whether `verify`, `run` and `list` all answer with status 2 and the line.
 fn are_refused<'a>(alloc: Global, file: &'a [u8], line: &'a [u8]) -> bool {
-    is_answered(alloc, &refused(VERIFY, file, line))
-        && is_answered(alloc, &refused(RUN, file, line))
-        && is_answered(alloc, &refused(LIST, file, line))
+    is_answered(alloc, &refused(&VERIFY, file, line))
+        && is_answered(alloc, &refused(&RUN, file, line))
+        && is_answered(alloc, &refused(&LIST, file, line))
 }
 
 #[test]
@@ -383,8 +412,8 @@ const RULES: [Change; 4] = [
 /// Whether `verify` and `run` both refuse the changed sample.
 fn is_rule_named(alloc: Global, (place, bytes, line): Change) -> bool {
     let image = changed(place, bytes);
-    is_answered(alloc, &refused(VERIFY, &image, line))
-        && is_answered(alloc, &refused(RUN, &image, line))
+    is_answered(alloc, &refused(&VERIFY, &image, line))
+        && is_answered(alloc, &refused(&RUN, &image, line))
 }
 
 #[test]
@@ -436,35 +465,35 @@ const TRACES: [End; 9] = [
 ];
 
 /// Whether a job ends as it has to.
-fn is_ended(alloc: Global, (job, fails, status, out, err): End) -> bool {
+fn is_ended(alloc: Global, end: &End) -> bool {
     let case = Case {
-        job,
+        job: &end.0,
         file: &HELLO,
-        fails,
-        status,
-        out,
-        err,
+        fails: end.1,
+        status: end.2,
+        out: end.3,
+        err: end.4,
     };
     is_answered(alloc, &case)
 }
 
 #[test]
 fn lists_and_verifies_up_to_a_fault(rt: HostRuntime) {
-    for end in LISTS_AND_VERDICTS {
+    for end in &LISTS_AND_VERDICTS {
         assert!(rt; is_ended(rt.alloc(), end), "at {end:?}");
     }
 }
 
 #[test]
 fn runs_up_to_a_fault(rt: HostRuntime) {
-    for end in RUNS {
+    for end in &RUNS {
         assert!(rt; is_ended(rt.alloc(), end), "at {end:?}");
     }
 }
 
 #[test]
 fn traces_up_to_a_fault(rt: HostRuntime) {
-    for end in TRACES {
+    for end in &TRACES {
         assert!(rt; is_ended(rt.alloc(), end), "at {end:?}");
     }
 }
@@ -473,7 +502,7 @@ fn traces_up_to_a_fault(rt: HostRuntime) {
 fn ends_with_the_exit_word(rt: HostRuntime) {
     let one = changed(36, &[0x90, 0x10, 0x20, 0x01]);
     let case = Case {
-        job: RUN,
+        job: &RUN,
         file: &one,
         fails: [0, 0, 0],
         status: 1,

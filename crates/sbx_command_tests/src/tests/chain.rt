@@ -106,7 +106,7 @@ fn is_run(alloc: Global, windows: Windows) -> bool {
 /// Whether the lines of a trace are those of such traffic, the last of them the exit.
 fn has_traffic(text: &[u8], (_, turns, overflows, underflows): Traffic) -> bool {
     text.ends_with(b" exit 00000000\n")
-        && count(text, b"") == turns + 1
+        && count(text, b"").checked_sub(1) == Some(turns)
         && count(text, b" trap 05") == overflows
         && count(text, b" trap 06") == underflows
 }

@@ -38,7 +38,7 @@ const ENDS: [End; 9] = [
 /// Whether an assembly ends as it has to.
 fn is_assembled(alloc: Global, (file, fails, status, out, err): End) -> bool {
     let case = Case {
-        job: ASM,
+        job: &ASM,
         file,
         fails,
         status,
