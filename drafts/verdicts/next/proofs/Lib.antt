@@ -1,0 +1,3 @@
+mod Agreed
+mod Answered
+mod Exits

@@ -1,0 +1,49 @@
+//! Compares the verifier's verdicts, and runs of accepted images, with those of a model of the rules that was written apart from the
+//! verifier and shares nothing with it: prints each line that differs, and how many agree.
+//!
+//! The lines stand on standard input, and their words a space apart. `image BYTES accepted` and `image BYTES RULE FUNCTION ADDRESS` are
+//! verdicts: a rule by its number, as V14, a function in decimal, and an address of eight hexadecimal digits.
+//! `run WINDOWS INPUT STATUS OUTPUT TURNS OVERFLOWS UNDERFLOWS` is about the image of the last such line: a count of windows, the input's
+//! bytes, the exit word in hexadecimal, the output's bytes, and three decimal counts. Bytes are hexadecimal, and `-` where there are
+//! none. A line that begins with `#` is a comment.
+//!
+//! A run is compared on a board of as many windows, and twice on the plain flat machine.
+#![tactic(auto)]
+
+mod boards;
+mod comparison;
+mod faults;
+mod fields;
+mod flat;
+mod lines;
+mod runs;
+mod verdicts;
+
+use comparison::Comparison;
+use faults::LineFault;
+use std::alloc::AllocError;
+use std::io::{self, BufRead, BufReader};
+
+/// Compares a line, and prints it where it doesn't agree.
+fn compare(rt: &HostRuntime, comparison: &mut Comparison, line: &str) -> io::Result<()> {
+    if line.starts_with('#') {
+        return Ok(());
+    }
+    match comparison.line(rt.alloc(), line) {
+        Ok(true) => Ok(()),
+        Ok(false) => println!(rt; "differs: {line}"),
+        Err(LineFault::NotRead) => println!(rt; "not read: {line}"),
+        Err(LineFault::Memory) => Err(AllocError)?,
+    }
+}
+
+fn main(rt: HostRuntime) -> io::Result<()> {
+    let mut comparison = Comparison::new();
+    for line in BufReader::new(rt.alloc(), rt.reader())?.lines(rt.alloc()) {
+        compare(&rt, &mut comparison, line?.as_str())?;
+    }
+    println!(rt;
+        "{} images and {} runs agree",
+        comparison.images, comparison.runs
+    )
+}
