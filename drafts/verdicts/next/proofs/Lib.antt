@@ -1,3 +1,0 @@
-mod Agreed
-mod Answered
-mod Exits
