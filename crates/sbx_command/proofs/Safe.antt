@@ -11,6 +11,7 @@ use Rattle.sbx_asm.specs.declared.fault.AsmFault.{AsmFault}
 use Rattle.sbx_asm.specs.Drafts.{close_function}
 use Rattle.sbx_asm.specs.Lines.{lines_of}
 use Rattle.sbx_asm.specs.Meaning.{source_image, image_in, judged, kept, parts_in, draft_in, labels_in}
+use Rattle.sbx_asm.proofs.Fitting.{meant_images_fit}
 use Rattle.sbx_flat.specs.Runs.{FlatSafe}
 use Rattle.sbx_rules.specs.Verdicts.{Checked}
 use Rattle.sbx_sound.proofs.Whole.{checked_is_safe}
@@ -31,6 +32,7 @@ unfolding source_image
 source_keeps source parts told = judged_keeps _ _ _ parts told
 
 pub sources_are_safe : SourcesAreSafe
-sources_are_safe source parts told fits =
+sources_are_safe source parts told =
     let keeps : parts_keep parts ≡ Ok tt = source_keeps source parts told in
+    let fits = meant_images_fit source parts told in
     (reading_again parts fits.0 keeps, checked_is_safe parts (record { kept = keeps; typed = fits.0; bytes = fits.1 }))
