@@ -1,0 +1,6 @@
+//! Images that come in pieces.
+#![tactic(auto)]
+
+mod feeding;
+
+pub use feeding::ImageReader;
