@@ -2,5 +2,6 @@
 #![tactic(auto)]
 
 mod feeding;
+pub mod laws;
 
 pub use feeding::ImageReader;
