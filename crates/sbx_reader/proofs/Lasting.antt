@@ -1,7 +1,7 @@
 -- What is read from the front of bytes stays when bytes are added: a value is the same, with more bytes after it, and so is each fault but that the bytes end.
-use Rattle.std.proofs.Common.{◌≡◌, ◌≢◌, ℕ, zero, suc, ◌+◌, ◌-◌, ◌*◌, ◌≤◌, ◌<◌, ℤ, Bool, true, false, ltb, List, [], ◌∷◌, ◌++◌, length, take, drop, Result, Ok, Err, refl, sym, ap, subst, ◌∙◌, arith, inl, inr}
+use Rattle.std.proofs.Common.{◌≡◌, ◌≢◌, ℕ, zero, suc, ◌+◌, ◌-◌, ◌*◌, ◌≤◌, Bool, true, false, ltb, List, [], ◌∷◌, ◌++◌, length, take, drop, Result, Ok, Err, refl, ap, subst, arith, inl, inr}
 use Rattle.std.specs.Prelude.{◌==◌}
-use Rattle.std.specs.Int.{Width, w8, w16, w32, w64, byte_len, from_be_bytes, cast_signed}
+use Rattle.std.specs.Int.{Width, w8, w16, w32, w64, byte_len, from_be_bytes}
 use Rattle.std.proofs.lemmas.Bool.{cases_lt, lt-ltb, le-ltb, ne_eqb}
 use Rattle.std.proofs.lemmas.List.{length-append, take-append-le, drop-append-le}
 use Rattle.sbx_image.specs.declared.fault.ImageFault.{ImageFault}
@@ -62,9 +62,9 @@ module _ (more : List ℕ) where
       elim (cases_lt (length bytes) (byte_len w)) [
         | inl lt ↦ rw (lt-ltb _ _ lt) (short_lasts grown (number_at w (bytes ++ more)))
         | inr le ↦
-          let long : byte_len w ≤ length (bytes ++ more) = omega (arith, length-append bytes more) in
-          rw (le-ltb _ _ le, le-ltb _ _ long, take-append-le (byte_len w) bytes more le, drop-append-le (byte_len w) bytes more le)
-          (done_lasts grown (from_be_bytes w (take (byte_len w) bytes), drop (byte_len w) bytes))
+            let long : byte_len w ≤ length (bytes ++ more) = omega (arith, length-append bytes more) in
+            rw (le-ltb _ _ le, le-ltb _ _ long, take-append-le (byte_len w) bytes more le, drop-append-le (byte_len w) bytes more le)
+            (done_lasts grown (from_be_bytes w (take (byte_len w) bytes), drop (byte_len w) bytes))
       ]
 
   bytes_last : (count : ℕ) (bytes : List ℕ) → Lasts grown (bytes_at count bytes) (bytes_at count (bytes ++ more))
@@ -72,9 +72,9 @@ module _ (more : List ℕ) where
       elim (cases_lt (length bytes) count) [
         | inl lt ↦ rw (lt-ltb _ _ lt) (short_lasts grown (bytes_at count (bytes ++ more)))
         | inr le ↦
-          let long : count ≤ length (bytes ++ more) = omega (arith, length-append bytes more) in
-          rw (le-ltb _ _ le, le-ltb _ _ long, take-append-le count bytes more le, drop-append-le count bytes more le)
-          (done_lasts grown (take count bytes, drop count bytes))
+            let long : count ≤ length (bytes ++ more) = omega (arith, length-append bytes more) in
+            rw (le-ltb _ _ le, le-ltb _ _ long, take-append-le count bytes more le, drop-append-le count bytes more le)
+            (done_lasts grown (take count bytes, drop count bytes))
       ]
 
   number_in_lasts : (w : Width) (low high : ℕ) (bad : ImageFault) (bytes : List ℕ) → Lasts grown (number_in w low high bad bytes) (number_in w low high bad (bytes ++ more))
