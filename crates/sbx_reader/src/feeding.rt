@@ -46,9 +46,9 @@ impl ImageReader {
         }
     }
 
-    /// Joins the next piece, which may have any length. A fault is told at the first byte that no image has there: it is
-    /// the fault of the pieces joined, which further bytes can't mend, or `Memory` where memory was refused. After a fault
-    /// this call and `finish` tell that fault again.
+    /// Joins the next piece, which may have any length. A fault is told by the piece that brings the last byte of the first
+    /// bad field: it is the fault of the pieces joined, which further bytes can't mend, so never `Short`; or it is `Memory`
+    /// where memory was refused. After a fault this call and `finish` tell that fault again.
     pub fn feed(&mut self, piece: &[u8]) -> Result<(), ImageFault>
         ensures { IsFed self.old piece.now result self.new }
     {
