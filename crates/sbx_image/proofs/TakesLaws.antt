@@ -32,7 +32,7 @@ range_keeps_by : (r : Range) → in_order r.lo r.hi ≡ true → between 0 3 r.a
 unfolding range_keeps
 range_keeps_by r ordered small = rw (ordered, small) refl
 
-range_takes : (bytes : List ℕ) (x : Range × List ℕ) → IsBytes bytes → range_at bytes ≡ Ok x → Takes bytes (range_text x.0) x.1 × (range_keeps x.0 ≡ Ok tt)
+pub range_takes : (bytes : List ℕ) (x : Range × List ℕ) → IsBytes bytes → range_at bytes ≡ Ok x → Takes bytes (range_text x.0) x.1 × (range_keeps x.0 ≡ Ok tt)
 unfolding range_at range_text
 range_takes bytes x fits e =
     let lo = bind_ok _ _ _ e in
@@ -119,7 +119,7 @@ block_head_takes end next bytes x fits e =
     × (admits end next y.0.address ≡ true) × (between 0 64 y.0.cells ≡ true) × (between 0 8 y.0.terms ≡ true) × (is_fuel y.0.fuel ≡ true)) (ok_is made x small.1)
     (whole, admitted.0, t1.1, t2.1, small.0)
 
-block_takes : (end : ℕ) (next : Next) (bytes : List ℕ) (x : Block × (Next × List ℕ)) → IsBytes bytes → block_at end (next, bytes) ≡ Ok x → Takes bytes (block_text x.0) x.1.1 × (block_keeps end next x.0 ≡ Ok x.1.0)
+pub block_takes : (end : ℕ) (next : Next) (bytes : List ℕ) (x : Block × (Next × List ℕ)) → IsBytes bytes → block_at end (next, bytes) ≡ Ok x → Takes bytes (block_text x.0) x.1.1 × (block_keeps end next x.0 ≡ Ok x.1.0)
 unfolding block_at block_text block_keeps
 block_takes end next bytes x fits e =
     let head = bind_ok _ _ _ e in
@@ -210,7 +210,7 @@ bounds_take bytes before left x t e =
     × (between 0 4096 y.0.frame ≡ true) × (between 0 65536 y.0.stack_room ≡ true) × (between 0 1099511627775 y.0.budget ≡ true)) (ok_is made x budget.2)
     (whole, t0.1, t1.1, t2.1)
 
-function_head_takes : (end : ℕ) (place : Place) (bytes : List ℕ) (x : FunctionHead × List ℕ) → IsBytes bytes → function_head_at end place bytes ≡ Ok x
+pub function_head_takes : (end : ℕ) (place : Place) (bytes : List ℕ) (x : FunctionHead × List ℕ) → IsBytes bytes → function_head_at end place bytes ≡ Ok x
     → Takes bytes (head_text x.0) x.1 × HeadKeeps end place x.0
 unfolding function_head_at
 function_head_takes end place bytes x fits e =
@@ -289,7 +289,7 @@ data_length_takes bytes x fits e =
     let t = number_takes w32 (2 ^ 32) wide32 bytes data_bytes.0 fits data_bytes.1 in
     subst (λ (y : ℕ × List ℕ). Takes bytes (to_be_bytes w32 y.0) y.1 × (is_data_length y.0 ≡ true)) (ok_is data_bytes.0 x whole_slots.1) (t.0, whole_slots.0)
 
-header_takes : (bytes : List ℕ) (x : Header × List ℕ) → IsBytes bytes → header_at bytes ≡ Ok x → Takes bytes (counts_text x.0) x.1 × HeaderKeeps x.0
+pub header_takes : (bytes : List ℕ) (x : Header × List ℕ) → IsBytes bytes → header_at bytes ≡ Ok x → Takes bytes (counts_text x.0) x.1 × HeaderKeeps x.0
 unfolding header_at
 header_takes bytes x fits e =
     let services = bind_ok _ _ _ e in
@@ -310,7 +310,7 @@ header_takes bytes x fits e =
 abbrev done_with : ℕ → Result (Unit {0}) ImageFault
 done_with _ = Ok tt
 
-word_takes : (bytes : List ℕ) (x : ℕ × List ℕ) → IsBytes bytes → number_at w32 bytes ≡ Ok x → Takes bytes (to_be_bytes w32 x.0) x.1 × (done_with x.0 ≡ Ok tt)
+pub word_takes : (bytes : List ℕ) (x : ℕ × List ℕ) → IsBytes bytes → number_at w32 bytes ≡ Ok x → Takes bytes (to_be_bytes w32 x.0) x.1 × (done_with x.0 ≡ Ok tt)
 word_takes bytes x fits e = ((number_takes w32 (2 ^ 32) wide32 bytes x fits e).0, refl)
 
 parts_take : (bytes : List ℕ) (x : Parts × List ℕ) → IsBytes bytes → parts_at bytes ≡ Ok x → Takes bytes (spelling x.0) x.1 × (parts_keep x.0 ≡ Ok tt)

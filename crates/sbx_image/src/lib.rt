@@ -16,9 +16,11 @@ mod widths;
 mod writing;
 
 pub use fault::ImageFault;
+pub use heads::{FunctionHead, Header};
 pub use image::Image;
 pub use items::Items;
+pub use order::Next;
 pub use parts::{Block, Cell, Function, Kind, Parts, Range, Term};
-pub use reading::parse;
+pub use reading::{block_of, function_head_of, header_of, parse, ranges_of};
 pub use services::Services;
 pub use writing::write;

@@ -88,8 +88,9 @@ fn block_head_of(end: u32, next: Next, bytes: &[u8]) -> Result<(BlockHead, &[u8]
     Ok((head, rest))
 }
 
+/// A block; behind it, where the next one may lie. `end` is the address behind the code.
 #[tactic(auto, unfolding(crate::specs::Reading::block_at))]
-fn block_of(
+pub fn block_of(
     alloc: Global,
     end: u32,
     next: Next,
@@ -152,8 +153,9 @@ fn bounds_of(bytes: &[u8]) -> Result<(Bounds, &[u8]), ImageFault>
     Ok((bounds, rest))
 }
 
+/// What stands before a function's ranges. `place` is where it may begin, and how many blocks the functions before it have.
 #[tactic(auto, unfolding(crate::specs::Reading::function_head_at))]
-fn function_head_of(
+pub fn function_head_of(
     end: u32,
     place: (Next, u16),
     bytes: &[u8],
@@ -222,7 +224,8 @@ fn terms_of(
     Ok((terms, (at, rest)))
 }
 
-fn ranges_of(alloc: Global, count: u8, bytes: &[u8]) -> Result<(Vec<Range>, &[u8]), ImageFault>
+/// So many ranges, one after the other.
+pub fn ranges_of(alloc: Global, count: u8, bytes: &[u8]) -> Result<(Vec<Range>, &[u8]), ImageFault>
     ensures { Gives (λ x. (x.0.items, x.1.now)) result (items_at range_at count bytes.now) }
 {
     let mut ranges = Vec::with_capacity(alloc, count as usize)?;
@@ -354,8 +357,9 @@ fn data_length_of(bytes: &[u8]) -> Result<(u32, &[u8]), ImageFault>
     Ok((data_bytes, rest))
 }
 
+/// What stands before the words: the services, behind magic and version, and the counts.
 #[tactic(auto, unfolding(crate::specs::Reading::header_at))]
-fn header_of(bytes: &[u8]) -> Result<(Header, &[u8]), ImageFault>
+pub fn header_of(bytes: &[u8]) -> Result<(Header, &[u8]), ImageFault>
     ensures reads { Gives (λ x. (x.0, x.1.now)) result (header_at bytes.now) }
     ensures bound { IfOk result (λ x. x.0.words ≤ 65536) }
 {

@@ -131,7 +131,7 @@ module _ (more : List ℕ) where
   ranges_last : (n : ℕ) (bytes : List ℕ) → Lasts (grown more) (items_at range_at n bytes) (items_at range_at n (bytes ++ more))
   ranges_last n bytes = items_last longer range_at (range_lasts more) n bytes
 
-  block_lasts : (end : ℕ) (cursor : Next × List ℕ) → Lasts (grown_after more) (block_at end cursor) (block_at end (cursor.0, cursor.1 ++ more))
+  pub block_lasts : (end : ℕ) (cursor : Next × List ℕ) → Lasts (grown_after more) (block_at end cursor) (block_at end (cursor.0, cursor.1 ++ more))
   unfolding block_at
   block_lasts end cursor =
       then_lasts _ _ _ _ _ (block_head_lasts more end cursor.0 cursor.1) (λ head.
@@ -184,7 +184,7 @@ module _ (more : List ℕ) where
   unfolding data_length_at
   data_length_lasts bytes = then_lasts _ _ _ _ _ (number_lasts more w32 bytes) (λ count. test_lasts (is_data_length count.0) fault.Limit _ _ (done_lasts _ count))
 
-  header_lasts : (bytes : List ℕ) → Lasts (grown more) (header_at bytes) (header_at (bytes ++ more))
+  pub header_lasts : (bytes : List ℕ) → Lasts (grown more) (header_at bytes) (header_at (bytes ++ more))
   unfolding header_at
   header_lasts bytes =
       then_lasts _ _ _ _ _ (services_last bytes) (λ services.

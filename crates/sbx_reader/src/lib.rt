@@ -3,5 +3,6 @@
 
 mod feeding;
 pub mod laws;
+mod stages;
 
 pub use feeding::ImageReader;

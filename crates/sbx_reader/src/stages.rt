@@ -1,0 +1,131 @@
+//! What comes next in an image's bytes, behind each whole item that was read.
+ghost use Rattle.std.specs.Prelude.{◌≡◌, ◌-◌, suc, length};
+ghost use Rattle.sbx_reader.specs.declared.stages.Stage.TheVariants.{Front, Functions, Blocks};
+ghost use Rattle.sbx_reader.specs.Stages.{IsWhole, IsItem};
+
+use sbx_image::{ImageFault, Next, block_of, function_head_of, header_of, ranges_of};
+use std::alloc::Global;
+use v8_map::CODE_START;
+
+/// What comes next. `end` is the address behind the code, `left` how many functions come behind the one that is read, and
+/// `total` how many blocks the functions have up to that one.
+#[derive(Clone, Copy)]
+pub enum Stage {
+    /// Header, words and data.
+    Front,
+    /// A function, its head and ranges first; behind the last one the end.
+    Functions(u32, u16, Next, u16),
+    /// So many blocks of a function, the last number.
+    Blocks(u32, u16, Next, u16, u16),
+}
+
+/// How far the rest of some bytes lies in them.
+fn read_of(bytes: &[u8], rest: &[u8]) -> usize
+    ensures { result ≡ length bytes.now - length rest.now }
+{
+    bytes.len().saturating_sub(rest.len())
+}
+
+/// Header, words and data. A word or a byte of data has no fault of its own, so both are skipped at once.
+fn front_item(bytes: &[u8]) -> Result<(Stage, usize), ImageFault>
+    ensures { IsWhole Front bytes.now result }
+{
+    let (header, rest) = header_of(bytes)?;
+    let count = 4 * header.words as usize + header.bytes as usize;
+    if rest.len() < count {
+        return Err(ImageFault::Short);
+    }
+    let end = CODE_START + 4 * header.words;
+    let stage = Stage::Functions(end, header.functions, Next::Exactly(CODE_START), 0);
+    Ok((stage, read_of(bytes, rest) + count))
+}
+
+/// A function's head and ranges.
+fn function_item(
+    alloc: Global,
+    end: u32,
+    left: u16,
+    place: (Next, u16),
+    bytes: &[u8],
+) -> Result<(Stage, usize), ImageFault>
+    ensures { IsWhole (Functions end (suc left) place.0 place.1) bytes.now result }
+{
+    let (head, rest) = function_head_of(end, place, bytes)?;
+    let (_, rest) = ranges_of(alloc, head.params, rest)?;
+    let (_, rest) = ranges_of(alloc, head.results, rest)?;
+    let first = Next::Exactly(head.entry);
+    let stage = Stage::Blocks(end, left, first, place.1 + head.blocks, head.blocks);
+    Ok((stage, read_of(bytes, rest)))
+}
+
+/// The item that comes next, as the stage behind it and its length in bytes. A fault is the item's, `Short` where it isn't whole.
+fn whole_item(alloc: Global, stage: Stage, bytes: &[u8]) -> Result<(Stage, usize), ImageFault>
+    ensures { IsWhole stage bytes.now result }
+{
+    match stage {
+        Stage::Front => front_item(bytes),
+        Stage::Functions(end, left, next, total) => {
+            function_or_end(alloc, end, left, (next, total), bytes)
+        }
+        Stage::Blocks(end, left, next, total, blocks) => {
+            if blocks > 0 {
+                block_item(alloc, end, left, (next, total), blocks - 1, bytes)
+            } else {
+                function_or_end(alloc, end, left, (next, total), bytes)
+            }
+        }
+    }
+}
+
+/// A function's head and ranges where one is left; else the end.
+fn function_or_end(
+    alloc: Global,
+    end: u32,
+    left: u16,
+    place: (Next, u16),
+    bytes: &[u8],
+) -> Result<(Stage, usize), ImageFault>
+    ensures { IsWhole (Functions end left place.0 place.1) bytes.now result }
+{
+    if left > 0 {
+        return function_item(alloc, end, left - 1, place, bytes);
+    }
+    if bytes.is_empty() {
+        Err(ImageFault::Short)
+    } else {
+        Err(ImageFault::Trailing)
+    }
+}
+
+/// A block.
+fn block_item(
+    alloc: Global,
+    end: u32,
+    left: u16,
+    place: (Next, u16),
+    blocks: u16,
+    bytes: &[u8],
+) -> Result<(Stage, usize), ImageFault>
+    ensures { IsWhole (Blocks end left place.0 place.1 (suc blocks)) bytes.now result }
+{
+    let (_, (next, rest)) = block_of(alloc, end, place.0, bytes)?;
+    Ok((
+        Stage::Blocks(end, left, next, place.1, blocks),
+        read_of(bytes, rest),
+    ))
+}
+
+/// The item that comes next; none where it isn't whole, which further bytes can mend.
+pub fn next_item(
+    alloc: Global,
+    stage: Stage,
+    bytes: &[u8],
+) -> Result<Option<(Stage, usize)>, ImageFault>
+    ensures { IsItem stage bytes.now result }
+{
+    match whole_item(alloc, stage, bytes) {
+        Ok((next, count)) => Ok(Some((next, count))),
+        Err(ImageFault::Short) => Ok(None),
+        Err(fault) => Err(fault),
+    }
+}
