@@ -9,9 +9,11 @@ use Rattle.sbx_image.specs.declared.fault.ImageFault.TheVariants as fault
 use Rattle.sbx_image.specs.declared.order.Next.{Next}
 use Rattle.sbx_image.specs.declared.order.Next.TheVariants.{Exactly}
 use Rattle.sbx_image.specs.declared.parts.Block.{Block}
+use Rattle.sbx_image.specs.declared.parts.Function.{Function}
+use Rattle.sbx_image.specs.declared.parts.Parts.{Parts}
 use Rattle.sbx_image.specs.declared.heads.Header.{Header}
 use Rattle.sbx_image.specs.Rules.{◌>>=◌, wants, Place, code_start}
-use Rattle.sbx_image.specs.Reading.{number_at, bytes_at, items_at, block_at, function_at, header_at, parts_at, reading}
+use Rattle.sbx_image.specs.Reading.{number_at, bytes_at, items_at, range_at, block_at, function_head_at, function_at, header_at, parts_at, reading}
 use Rattle.sbx_reader.specs.declared.stages.Stage.{Stage}
 use Rattle.sbx_reader.specs.declared.stages.Stage.TheVariants.{Front, Functions, Blocks}
 use Rattle.sbx_reader.specs.Fronts.{lasting, told, front}
@@ -70,3 +72,59 @@ words_skip (suc n) bytes le =
     let rest : 4 * n ≤ length (drop 4 bytes) = omega (arith, length-drop 4 bytes) in
     let others = words_skip n (drop 4 bytes) rest in
     (_, rw (le-ltb _ _ first, others.1) refl)
+
+-- ---- a function's head and ranges
+
+module _ {H P R B F Z : Type 0} where
+  then_1 : (b : Result B ImageFault) (made : B → F) (k : F → Result Z ImageFault) → ((b >>= λ w. Ok (made w)) >>= k) ≡ (b >>= λ w. k (made w))
+  then_1 (Ok w) made k = refl
+  then_1 (Err e) made k = refl
+
+  then_2 : (r : Result R ImageFault) (b : R → Result B ImageFault) (made : R → B → F) (k : F → Result Z ImageFault)
+      → ((r >>= λ z. b z >>= λ w. Ok (made z w)) >>= k) ≡ (r >>= λ z. b z >>= λ w. k (made z w))
+  then_2 (Ok z) b made k = then_1 (b z) (made z) k
+  then_2 (Err e) b made k = refl
+
+  then_3 : (p : Result P ImageFault) (r : P → Result R ImageFault) (b : P → R → Result B ImageFault) (made : P → R → B → F) (k : F → Result Z ImageFault)
+      → ((p >>= λ y. r y >>= λ z. b y z >>= λ w. Ok (made y z w)) >>= k) ≡ (p >>= λ y. r y >>= λ z. b y z >>= λ w. k (made y z w))
+  then_3 (Ok y) r b made k = then_2 (r y) (b y) (made y) k
+  then_3 (Err e) r b made k = refl
+
+  then_4 : (h : Result H ImageFault) (p : H → Result P ImageFault) (r : H → P → Result R ImageFault) (b : H → P → R → Result B ImageFault) (made : H → P → R → B → F) (k : F → Result Z ImageFault)
+      → ((h >>= λ x. p x >>= λ y. r x y >>= λ z. b x y z >>= λ w. Ok (made x y z w)) >>= k) ≡ (h >>= λ x. p x >>= λ y. r x y >>= λ z. b x y z >>= λ w. k (made x y z w))
+  then_4 (Ok x) p r b made k = then_3 (p x) (r x) (b x) (made x) k
+  then_4 (Err e) p r b made k = refl
+
+functions_then : (end left : ℕ) (place : Place) (bytes : List ℕ)
+    → functions_end end (suc left) place bytes ≡ (function_at end (place, bytes) >>= λ f. functions_end end left f.1.0 f.1.1)
+unfolding functions_end items_at
+functions_then end left place bytes = cases (function_at end (place, bytes)) where
+  cases : (r : Result (Function × (Place × List ℕ)) ImageFault)
+      → ((r >>= λ first. items_at (function_at end) left first.1 >>= λ others. Ok (first.0 ∷ others.0, others.1)) >>= λ functions. wants (length functions.1.1 == 0) fault.Trailing)
+      ≡ (r >>= λ f. items_at (function_at end) left f.1 >>= λ functions. wants (length functions.1.1 == 0) fault.Trailing)
+  cases (Ok f) = then_then (items_at (function_at end) left f.1) (λ others. Ok (f.0 ∷ others.0, others.1)) (λ functions. wants (length functions.1.1 == 0) fault.Trailing)
+  cases (Err e) = refl
+
+-- head and ranges first, and then as many blocks as the head says
+function_then : (end left total : ℕ) (next : Next) (bytes : List ℕ)
+    → rest_of (Functions end (suc left) next total) bytes
+    ≡ (function_head_at end (next, total) bytes >>= λ h. items_at range_at h.0.params h.1 >>= λ p. items_at range_at h.0.results p.1 >>= λ r. rest_of (Blocks end left (Exactly h.0.entry) (total + h.0.blocks) h.0.blocks) r.1)
+unfolding rest_of function_at
+function_then end left total next bytes = functions_then end left (next, total) bytes ∙ then_4 _ _ _ _ _ _
+
+-- ---- header, words and data
+
+tested : (b : Bool) (parts : Parts) → ((wants b fault.Trailing >>= λ _. Ok parts) >>= λ _. Ok tt) ≡ wants b fault.Trailing
+tested true parts = refl
+tested false parts = refl
+
+closed : (r : Result (Parts × List ℕ) ImageFault)
+    → ((r >>= λ parts. wants (length parts.1 == 0) fault.Trailing >>= λ _. Ok parts.0) >>= λ _. Ok tt) ≡ (r >>= λ parts. wants (length parts.1 == 0) fault.Trailing)
+closed (Ok x) = tested (length x.1 == 0) x.0
+closed (Err e) = refl
+
+front_then : (bytes : List ℕ)
+    → rest_of Front bytes
+    ≡ (header_at bytes >>= λ h. items_at (number_at w32) h.0.words h.1 >>= λ w. bytes_at h.0.bytes w.1 >>= λ d. rest_of (Functions (code_start + 4 * h.0.words) h.0.functions (Exactly code_start) 0) d.1)
+unfolding rest_of reading parts_at functions_end
+front_then bytes = closed (parts_at bytes) ∙ then_4 _ _ _ _ _ _
