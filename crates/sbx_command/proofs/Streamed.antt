@@ -1,5 +1,5 @@
 -- What a run over a reader and a writer gives, and what it leaves where it stops.
-use Rattle.std.proofs.Common.{◌≡◌, ℕ, Bool, true, false, List, [], ◌∷◌, ◌++◌, Option, Some, None, IfSome, Result, Ok, Err, IfOk, IfErr, refl, sym, ◌∙◌, subst, append-nil, rules}
+use Rattle.std.proofs.Common.{◌≡◌, ℕ, suc, Bool, true, false, List, [], ◌∷◌, ◌++◌, Option, Some, None, IfSome, Result, Ok, Err, IfOk, IfErr, refl, sym, ◌∙◌, subst, append-nil, rules}
 use Rattle.std.specs.Io.KnownBytes.{Appends, Consumes, Keeps}
 use Rattle.std.proofs.KnownBytes.{Appends-nil, Consumes-nil}
 use Rattle.sbx_image.specs.declared.parts.Parts.{Parts}
@@ -16,7 +16,7 @@ use Rattle.sbx_stream.specs.Streams.{IsAnswerWritten, IsFront, IsStreamed}
 use Rattle.sbx_command.specs.Laws.{KnownInputsAreAnswered}
 use Rattle.sbx_command.specs.declared.stops.Stop.{Stop}
 use Rattle.sbx_command.specs.declared.stops.Stop.TheVariants.{Source, Image, Refused, File, Input, Output, Memory}
-use Rattle.sbx_command.specs.Stops.{IsRefusal, IsTrueOf, stop_of_run}
+use Rattle.sbx_command.specs.Stops.{IsEarly, IsRefusal, IsTrueOf, stop_of_run}
 use Rattle.sbx_command.specs.Streaming.{HasFront, HasNothing, Leaves, LeavesOn, Left, OfAccepted, Ran, RanOn, RunGives, status_of_word}
 use Rattle.sbx_command.proofs.Verdicts.{appends_kept}
 
@@ -114,7 +114,7 @@ own_is_true parts File read met written so bytes = absurd so
 
 pub own_stop : (file a b c d : Option (List ℕ)) (parts : Parts) (stop : Stop) → Streamed a b c d (LeavesOn parts stop) → IfSome file (IsTrueOf stop)
 own_stop None a b c d parts stop left = tt
-own_stop (Some bytes) a b c d parts stop (read, met, written, so, others) = own_is_true parts stop read met written so bytes
+own_stop (Some bytes) a b c d parts stop (read, met, written, so, fit, got, all, put) = own_is_true parts stop read met written so bytes
 
 own_refuses_none : (parts : Parts) (stop : Stop) (read : List ℕ) (met : Bool) (written : List ℕ) → LeavesOn parts stop read met written → IsRefusal stop → ⊥
 own_refuses_none parts Input read met written so refuses = refuses
@@ -126,21 +126,16 @@ own_refuses_none parts (Refused refusal) read met written so refuses = so
 own_refuses_none parts File read met written so refuses = so
 
 pub own_untouched : (a b c d : Option (List ℕ)) (parts : Parts) (stop : Stop) → Streamed a b c d (LeavesOn parts stop) → IsRefusal stop → ⊥
-own_untouched a b c d parts stop (read, met, written, so, others) refuses = own_refuses_none parts stop read met written so refuses
+own_untouched a b c d parts stop (read, met, written, so, fit, got, all, put) refuses = own_refuses_none parts stop read met written so refuses
 
 -- ---- before a run
 
 nothing : HasNothing [] false []
 nothing = (refl, refl, refl)
 
--- the stops of a verdict
-pub record IsEarly (stop : Stop) : Type 0 where
-  pub not_input : stop ≡ Input → ⊥
-  pub not_output : stop ≡ Output → ⊥
-
 early_leaves : (file : Option (List ℕ)) (stop : Stop) → IsEarly stop → Leaves file stop [] false []
-early_leaves file Input early = absurd (early.not_input refl)
-early_leaves file Output early = absurd (early.not_output refl)
+early_leaves file Input early = absurd early
+early_leaves file Output early = absurd early
 early_leaves file Memory early = nothing
 early_leaves file (Source fault) early = nothing
 early_leaves file (Image fault) early = nothing
@@ -167,5 +162,5 @@ answer_of_whole windows parts finished input read written false (Some rest) so f
     subst (λ (i : List ℕ). IsAnswerWritten parts windows i finished written) (sym got) (so rest (bytes_behind read rest (subst AreBytes got fit)))
 
 pub known_inputs_are_answered : KnownInputsAreAnswered
-known_inputs_are_answered windows bytes input now old new status fit (parts, is, finished, (read, met, written, so, small, got, all, put), told) =
+known_inputs_are_answered windows bytes input now old new status fit (parts, is, (finished, (read, met, written, so, small, got, all, put), told)) =
     (parts, finished, written, is, answer_of_whole windows parts finished input read written met now so fit got all, put, told)

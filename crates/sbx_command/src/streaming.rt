@@ -10,7 +10,6 @@ use std::alloc::Global;
 use std::io::{Read, Write};
 
 /// The run on `N` windows, which are as many as the number says.
-#[tactic(auto, using(crate::proofs::Streamed::run_at))]
 fn stream_on<const N: usize, I: Read, O: Write>(
     alloc: Global,
     windows: u32,
