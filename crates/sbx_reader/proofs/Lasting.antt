@@ -27,7 +27,7 @@ done x = Ok x
 err_is : {X : Type 0} (d e : ImageFault) → failed {X = X} d ≡ failed {X = X} e → d ≡ e
 err_is d e p = cc
 
-done_lasts : {X : Type 0} (grow : X → X) (x : X) → Lasts grow (Ok x) (Ok (grow x))
+pub done_lasts : {X : Type 0} (grow : X → X) (x : X) → Lasts grow (Ok x) (Ok (grow x))
 done_lasts {X = X} grow x = record { ok = λ y p. let q : x ≡ y = cc in ap (λ (z : X). done (grow z)) q; err = λ e ne p. absurd cc }
 
 failed_lasts : {X : Type 0} (grow : X → X) (e : ImageFault) → Lasts grow (Err e) (Err e)
@@ -36,7 +36,7 @@ failed_lasts grow e = record { ok = λ y p. absurd cc; err = λ d ne p. cc }
 short_lasts : {X : Type 0} (grow : X → X) (long : Result X ImageFault) → Lasts grow (Err fault.Short) long
 short_lasts grow long = record { ok = λ y p. absurd cc; err = λ d ne p. absurd (ne (cc)) }
 
-then_lasts : {X Y : Type 0} (gx : X → X) (gy : Y → Y) (r s : Result X ImageFault) (f : X → Result Y ImageFault) → Lasts gx r s → ((x : X) → Lasts gy (f x) (f (gx x))) → Lasts gy (r >>= f) (s >>= f)
+pub then_lasts : {X Y : Type 0} (gx : X → X) (gy : Y → Y) (r s : Result X ImageFault) (f : X → Result Y ImageFault) → Lasts gx r s → ((x : X) → Lasts gy (f x) (f (gx x))) → Lasts gy (r >>= f) (s >>= f)
 then_lasts gx gy (Ok x) s f h k = rw (h.ok x refl) (k x)
 then_lasts {X = X} gx gy (Err d) s f h k = record {
   ok = λ y p. absurd cc;
@@ -51,13 +51,13 @@ no_zero : (n : ℕ) → (suc n == 0) ≡ false
 no_zero n = ne_eqb (suc n) 0 (λ e. omega (arith, e))
 
 module _ (more : List ℕ) where
-  abbrev grown : {A : Type 0} → A × List ℕ → A × List ℕ
+  abbrev pub grown : {A : Type 0} → A × List ℕ → A × List ℕ
   grown x = (x.0, x.1 ++ more)
 
   abbrev grown_after : {A S : Type 0} → A × (S × List ℕ) → A × (S × List ℕ)
   grown_after x = (x.0, (x.1.0, x.1.1 ++ more))
 
-  number_lasts : (w : Width) (bytes : List ℕ) → Lasts grown (number_at w bytes) (number_at w (bytes ++ more))
+  pub number_lasts : (w : Width) (bytes : List ℕ) → Lasts grown (number_at w bytes) (number_at w (bytes ++ more))
   number_lasts w bytes =
       elim (cases_lt (length bytes) (byte_len w)) [
         | inl lt ↦ rw (lt-ltb _ _ lt) (short_lasts grown (number_at w (bytes ++ more)))
@@ -67,7 +67,7 @@ module _ (more : List ℕ) where
             (done_lasts grown (from_be_bytes w (take (byte_len w) bytes), drop (byte_len w) bytes))
       ]
 
-  bytes_last : (count : ℕ) (bytes : List ℕ) → Lasts grown (bytes_at count bytes) (bytes_at count (bytes ++ more))
+  pub bytes_last : (count : ℕ) (bytes : List ℕ) → Lasts grown (bytes_at count bytes) (bytes_at count (bytes ++ more))
   bytes_last count bytes =
       elim (cases_lt (length bytes) count) [
         | inl lt ↦ rw (lt-ltb _ _ lt) (short_lasts grown (bytes_at count (bytes ++ more)))
@@ -114,7 +114,7 @@ module _ (more : List ℕ) where
 
 -- ---- lists of items
 
-items_last : {A C : Type 0} (grow : C → C) (item : C → Result (A × C) ImageFault) → ((c : C) → Lasts (λ x. (x.0, grow x.1)) (item c) (item (grow c)))
+pub items_last : {A C : Type 0} (grow : C → C) (item : C → Result (A × C) ImageFault) → ((c : C) → Lasts (λ x. (x.0, grow x.1)) (item c) (item (grow c)))
     → (n : ℕ) (c : C) → Lasts (λ x. (x.0, grow x.1)) (items_at item n c) (items_at item n (grow c))
 unfolding items_at
 items_last grow item one zero c = done_lasts _ _
@@ -122,13 +122,13 @@ items_last grow item one (suc n) c =
     then_lasts _ _ _ _ _ (one c) (λ first. then_lasts _ _ _ _ _ (items_last grow item one n first.1) (λ others. done_lasts _ _))
 
 module _ (more : List ℕ) where
-  abbrev longer : List ℕ → List ℕ
+  abbrev pub longer : List ℕ → List ℕ
   longer bytes = bytes ++ more
 
   abbrev longer_after : {S : Type 0} → S × List ℕ → S × List ℕ
   longer_after c = (c.0, c.1 ++ more)
 
-  ranges_last : (n : ℕ) (bytes : List ℕ) → Lasts (grown more) (items_at range_at n bytes) (items_at range_at n (bytes ++ more))
+  pub ranges_last : (n : ℕ) (bytes : List ℕ) → Lasts (grown more) (items_at range_at n bytes) (items_at range_at n (bytes ++ more))
   ranges_last n bytes = items_last longer range_at (range_lasts more) n bytes
 
   pub block_lasts : (end : ℕ) (cursor : Next × List ℕ) → Lasts (grown_after more) (block_at end cursor) (block_at end (cursor.0, cursor.1 ++ more))
@@ -157,7 +157,7 @@ module _ (more : List ℕ) where
       then_lasts _ _ _ _ _ (number_in_lasts more w32 0 65536 fault.Limit frame.1) (λ room.
       then_lasts _ _ _ _ _ (number_in_lasts more w64 0 1099511627775 fault.Limit room.1) (λ budget. done_lasts _ _)))
 
-  function_head_lasts : (end : ℕ) (place : Place) (bytes : List ℕ) → Lasts (grown more) (function_head_at end place bytes) (function_head_at end place (bytes ++ more))
+  pub function_head_lasts : (end : ℕ) (place : Place) (bytes : List ℕ) → Lasts (grown more) (function_head_at end place bytes) (function_head_at end place (bytes ++ more))
   unfolding function_head_at
   function_head_lasts end place bytes =
       then_lasts _ _ _ _ _ (counts_last bytes) (λ counts.

@@ -1,2 +1,3 @@
 pub mod Lasting
+pub mod Leaving
 pub mod Resuming

@@ -44,14 +44,9 @@ fn read_on(
 {
     let mut next = stage;
     let mut place = at;
-    for _ in at..=bytes.len() {
-        match next_item(alloc, next, &bytes[place..])? {
-            None => return Ok((next, place)),
-            Some((behind, count)) => {
-                next = behind;
-                place += count;
-            }
-        }
+    while let Some((behind, count)) = next_item(alloc, next, &bytes[place..])? {
+        next = behind;
+        place += count;
     }
     Ok((next, place))
 }
