@@ -167,3 +167,34 @@ fn each_fault_is_told_at_the_end_of_its_field(rt: HostRuntime) {
         assert!(rt; is_told_at(rt.alloc(), &bytes, row.told, row.fault));
     }
 }
+
+/// The greatest front that an image has: 65,536 words and 262,144 bytes of data, all of them zeros, before the worked image's function.
+fn greatest(alloc: Global) -> Result<Vec<u8>, AllocError> {
+    let mut bytes = Vec::from_slice(alloc, &HELLO[..8])?;
+    bytes.extend_from_slice(&[0, 1, 0, 0, 0, 4, 0, 0, 0, 1, 0, 1])?;
+    bytes.resize(20 + 2 * 262_144, 0)?;
+    bytes.extend_from_slice(&HELLO[44..])?;
+    Ok(bytes)
+}
+
+/// Whether the greatest front is read by pieces of a size, and spells its bytes again; where a growth was refused, the answer says so.
+fn is_greatest_read(alloc: Global, size: usize) -> bool {
+    let Ok(bytes) = greatest(alloc) else {
+        return true;
+    };
+    match in_pieces(alloc, bytes.as_slice(), size) {
+        Ok(image) => match write(&image, alloc) {
+            Ok(text) => text.as_slice() == bytes.as_slice(),
+            Err(AllocError) => true,
+        },
+        Err(fault) => fault == ImageFault::Memory,
+    }
+}
+
+/// Pieces of one byte cost no more time than their number, since what was read isn't read again.
+#[test]
+fn the_greatest_front_is_read_by_small_pieces(rt: HostRuntime) {
+    for size in [1, 4096] {
+        assert!(rt; is_greatest_read(rt.alloc(), size));
+    }
+}
