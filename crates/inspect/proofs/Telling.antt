@@ -5,7 +5,7 @@ use Rattle.sbx_image.specs.declared.parts.Parts.{Parts}
 use Rattle.sbx_image.specs.Reading.{reading}
 use Rattle.sbx_rules.specs.declared.cause.Refusal.{Refusal}
 use Rattle.sbx_rules.specs.Verdicts.{Checked, IsFirst}
-use Rattle.sbx_explain.specs.Images.{image_text}
+use Rattle.sbx_declare.specs.Images.{image_text}
 use Rattle.inspect.specs.Told.{Explained, IsVerdict, Shown}
 
 -- a flush keeps what a write appended

@@ -5,7 +5,7 @@ use Rattle.sbx_image.specs.declared.parts.Parts.{Parts}
 use Rattle.sbx_image.specs.Reading.{reading}
 use Rattle.sbx_rules.specs.declared.cause.Refusal.{Refusal}
 use Rattle.sbx_rules.specs.Verdicts.{Checked, IsFirst}
-use Rattle.sbx_explain.specs.Images.{image_text}
+use Rattle.sbx_declare.specs.Images.{image_text}
 
 -- The output grew by the text of the image that the bytes spell.
 abbrev pub Shown : Option (List ℕ) → Option (List ℕ) → Option (List ℕ) → Type 0

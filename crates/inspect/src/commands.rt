@@ -6,7 +6,8 @@ ghost use Rattle.sbx_command.specs.Stops.{IsTrueOfImage};
 ghost use Rattle.inspect.specs.Told.{Explained, Shown};
 
 use sbx_command::{ReadFault, Stop, read_whole};
-use sbx_explain::{push_image, push_why};
+use sbx_declare::push_image;
+use sbx_explain::push_why;
 use sbx_image::{Image, parse};
 use sbx_rules::Refusal;
 use std::alloc::{AllocError, Global};

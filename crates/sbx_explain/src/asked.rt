@@ -4,9 +4,9 @@ ghost use Rattle.sbx_known.specs.Courses.{IsWell};
 ghost use Rattle.sbx_known.specs.Spots.{IsSpot};
 ghost use Rattle.sbx_inspect.specs.Sights.{IsSeen};
 
-use crate::names::{Bounds, Location};
 use crate::sights::push_known;
 use crate::values::{Known, push_form};
+use sbx_declare::{Bounds, Location};
 use sbx_domain::State;
 use sbx_form::FormTerm;
 use sbx_image::{Cell, Image, Range};

@@ -4,9 +4,9 @@ ghost use Rattle.sbx_known.specs.Courses.{IsWell};
 ghost use Rattle.sbx_known.specs.Spots.{IsSpot};
 ghost use Rattle.sbx_inspect.specs.Sights.{IsSeen};
 
-use crate::names::Location;
 use crate::reads::{Registers, frame_word_read, reads_codes, reads_y, registers_read};
 use crate::values::Known;
+use sbx_declare::Location;
 use sbx_domain::State;
 use sbx_image::{Image, Range};
 use sbx_inspect::Sight;

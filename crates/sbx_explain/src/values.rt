@@ -2,7 +2,7 @@
 ghost use Rattle.std.specs.Prelude.{◌≡◌, Some};
 ghost use Rattle.sbx_explain.specs.Values.{known_text, multiple_text, values_text};
 
-use crate::names::Location;
+use sbx_declare::Location;
 use sbx_form::FormTerm;
 use sbx_image::Range;
 use std::alloc::AllocError;

@@ -6,10 +6,10 @@ ghost use Rattle.sbx_inspect.specs.Sights.{IsSeen};
 ghost use Rattle.sbx_explain.specs.Refusals.{head_text};
 
 use crate::asked::{push_arrivals, push_fuel, push_room};
-use crate::image::{push_function_head, push_numbered, push_params, push_results};
 use crate::rules::rule_text;
 use crate::sights::push_sight;
 use arrayvec::ArrayString;
+use sbx_declare::{push_function_head, push_numbered, push_params, push_results};
 use sbx_image::Image;
 use sbx_inspect::{NotKnown, Sight, known_at};
 use sbx_known::{Spot, block_at, function_at};

@@ -1,7 +1,7 @@
 //! What an image declares, in the source language's own words.
 ghost use Rattle.std.specs.Prelude.{◌≡◌, ◌++◌, OnOk, string_bytes};
 ghost use Rattle.std.specs.List.{flat_map};
-ghost use Rattle.sbx_explain.specs.Images.{block_head, block_lines, block_text, blocks_text, cell_line, function_head, function_text, functions_text, image_text, kind_text, param_line, result_line, services_line, sizes_lines, term_line};
+ghost use Rattle.sbx_declare.specs.Images.{block_head, block_lines, block_text, blocks_text, cell_line, function_head, function_text, functions_text, image_text, kind_text, param_line, result_line, services_line, sizes_lines, term_line};
 
 use crate::names::{Bounds, Location};
 use sbx_image::{Block, Cell, Function, Image, Kind, Range, Services, Term};

@@ -1,7 +1,7 @@
 use Rattle.std.proofs.Common.{◌≡◌, ◌++◌, ap, ◌∙◌, string_bytes, List, ℕ}
-use Rattle.sbx_explain.specs.Images.{services_line}
-use Rattle.sbx_explain.proofs.Texts.{pieces}
-use Rattle.sbx_explain.proofs.image.push_image.Goals as goal
+use Rattle.sbx_declare.specs.Images.{services_line}
+use Rattle.sbx_declare.proofs.Texts.{pieces}
+use Rattle.sbx_declare.proofs.image.push_image.Goals as goal
 
 pub returns : goal.returns
 returns c =

@@ -1,7 +1,7 @@
 use Rattle.std.proofs.Common.{◌+◌, ap, string_bytes}
-use Rattle.sbx_explain.specs.Images.{block_text}
-use Rattle.sbx_explain.proofs.Texts.{numbered_more}
-use Rattle.sbx_explain.proofs.image.push_blocks.Goals as goal
+use Rattle.sbx_declare.specs.Images.{block_text}
+use Rattle.sbx_declare.proofs.Texts.{numbered_more}
+use Rattle.sbx_declare.proofs.image.push_blocks.Goals as goal
 
 pub loop-block-preserved : goal.loop-block-preserved
 loop-block-preserved c = (

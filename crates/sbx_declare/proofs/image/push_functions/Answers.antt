@@ -1,7 +1,7 @@
 use Rattle.std.proofs.Common.{◌+◌, ap, string_bytes}
-use Rattle.sbx_explain.specs.Images.{function_text}
-use Rattle.sbx_explain.proofs.Texts.{numbered_more}
-use Rattle.sbx_explain.proofs.image.push_functions.Goals as goal
+use Rattle.sbx_declare.specs.Images.{function_text}
+use Rattle.sbx_declare.proofs.Texts.{numbered_more}
+use Rattle.sbx_declare.proofs.image.push_functions.Goals as goal
 
 pub loop-function-preserved : goal.loop-function-preserved
 loop-function-preserved c = (

@@ -11,7 +11,7 @@ use Rattle.sbx_image.specs.declared.parts.Parts.{Parts}
 use Rattle.sbx_image.specs.declared.parts.Range.{Range}
 use Rattle.sbx_image.specs.declared.parts.Term.{Term}
 use Rattle.sbx_rules.specs.Causes.{eight_digits}
-use Rattle.sbx_explain.specs.Names.{bounds_text, location_text}
+use Rattle.sbx_declare.specs.Names.{bounds_text, location_text}
 
 abbrev pub line_end : List ℕ
 line_end = 10 ∷ []

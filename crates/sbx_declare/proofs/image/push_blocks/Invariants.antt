@@ -1,6 +1,6 @@
 use Rattle.std.proofs.Common.{◌≡◌, ◌++◌, drop, string_bytes}
-use Rattle.sbx_explain.specs.Images.{block_text, numbered}
-use Rattle.sbx_explain.proofs.image.push_blocks.Given as goal
+use Rattle.sbx_declare.specs.Images.{block_text, numbered}
+use Rattle.sbx_declare.proofs.image.push_blocks.Given as goal
 
 -- the text so far and that of the blocks that are left is all of it
 abbrev pub invariant-loop-block : goal.invariant-loop-block

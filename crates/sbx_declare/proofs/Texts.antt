@@ -3,7 +3,7 @@ use Rattle.std.proofs.Common.{◌≡◌, refl, ℕ, suc, ◌+◌, ◌<◌, List,
 use Rattle.sbx_image.specs.declared.parts.Parts.{Parts}
 use Rattle.sbx_image.specs.declared.parts.Function.{Function}
 use Rattle.sbx_image.specs.declared.services.Services.{Services}
-use Rattle.sbx_explain.specs.Images.{functions_text, image_text, numbered, services_line, sizes_lines}
+use Rattle.sbx_declare.specs.Images.{functions_text, image_text, numbered, services_line, sizes_lines}
 
 -- one item more of a numbered list
 pub numbered_more : {A : Type 0} (text : ℕ → A → List ℕ) (mid new total : List ℕ) (n i : ℕ) (xs : List A) (x : A) → i < length xs → x ≡ get_or xs i x

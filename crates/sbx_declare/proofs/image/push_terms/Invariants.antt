@@ -1,7 +1,7 @@
 use Rattle.std.proofs.Common.{◌≡◌, ◌++◌, drop, string_bytes}
 use Rattle.std.specs.List.{flat_map}
-use Rattle.sbx_explain.specs.Images.{term_line}
-use Rattle.sbx_explain.proofs.image.push_terms.Given as goal
+use Rattle.sbx_declare.specs.Images.{term_line}
+use Rattle.sbx_declare.proofs.image.push_terms.Given as goal
 
 -- the lines so far and those of what is left are all of them
 abbrev pub invariant-loop-term : goal.invariant-loop-term

@@ -1,7 +1,7 @@
 //! Names and numbers in the source language's own words.
 ghost use Rattle.std.specs.Prelude.{◌≡◌, Some};
 ghost use Rattle.v8_forms.specs.Text.{group_text};
-ghost use Rattle.sbx_explain.specs.Names.{bounds_text, location_text};
+ghost use Rattle.sbx_declare.specs.Names.{bounds_text, location_text};
 
 use sbx_image::Range;
 use std::fmt::{self, Display, Formatter, Write};

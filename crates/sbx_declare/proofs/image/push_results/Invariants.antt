@@ -1,7 +1,7 @@
 use Rattle.std.proofs.Common.{◌≡◌, ◌++◌, drop, string_bytes}
 use Rattle.std.specs.List.{flat_map}
-use Rattle.sbx_explain.specs.Images.{result_line}
-use Rattle.sbx_explain.proofs.image.push_results.Given as goal
+use Rattle.sbx_declare.specs.Images.{result_line}
+use Rattle.sbx_declare.proofs.image.push_results.Given as goal
 
 -- the lines so far and those of what is left are all of them
 abbrev pub invariant-loop-range : goal.invariant-loop-range
