@@ -3,7 +3,7 @@ ghost use Rattle.std.specs.Prelude.{◌≡◌, ◌++◌, IfOk, IfSome, None, OnO
 ghost use Rattle.sbx_rules.specs.Verdicts.{Checked, IsFirst};
 ghost use Rattle.sbx_known.specs.Spots.{IsSpot};
 ghost use Rattle.sbx_inspect.specs.Sights.{IsSeen};
-ghost use Rattle.sbx_explain.specs.Refusals.{head_text};
+ghost use Rattle.sbx_explain.specs.Refusals.{IsTold, Tells, head_text};
 
 use crate::asked::{push_arrivals, push_fuel, push_room};
 use crate::rules::rule_text;
@@ -80,14 +80,13 @@ fn push_asked(
     }
 }
 
-/// A refusal explained, where its function has a word at its address.
-fn explain(
+/// What explains a refusal, where its function has a word at its address.
+fn push_reasons(
     alloc: Global,
     out: &mut String,
     image: &Image,
     refusal: Refusal,
 ) -> Result<(), AllocError> {
-    push_head(out, refusal)?;
     let sight = match known_at(alloc, image, refusal.function, refusal.address) {
         Ok(sight) => sight,
         Err(NotKnown::NoMemory) => return Err(AllocError),
@@ -97,6 +96,22 @@ fn explain(
     push_words(out, image, refusal.address, sight.spot.word)?;
     push_sight(out, image, &sight)?;
     push_asked(alloc, out, image, refusal.cause, sight)
+}
+
+/// A refusal explained.
+fn explain(
+    alloc: Global,
+    out: &mut String,
+    image: &Image,
+    refusal: Refusal,
+) -> Result<(), AllocError>
+    ensures { OnOk result (IsTold refusal (string_bytes out.old) (string_bytes out.new)) }
+{
+    let mut reasons = String::new(alloc);
+    push_reasons(alloc, &mut reasons, image, refusal)?;
+    push_head(out, refusal)?;
+    out.push_str(reasons.as_str())?;
+    Ok(())
 }
 
 /// Pushes why an image is refused: the refusal and its rule in words; function, block and word; what is known of each location that
@@ -110,6 +125,7 @@ pub fn push_why(
 ) -> Result<Option<Refusal>, AllocError>
     ensures accepted { IfOk result (λ found. found ≡ None → Checked image) }
     ensures refused { IfOk result (λ found. IfSome found (IsFirst image)) }
+    ensures told { IfOk result (λ found. Tells found (string_bytes out.old) (string_bytes out.new)) }
 {
     match verify(alloc, image) {
         Ok(_accepted) => {

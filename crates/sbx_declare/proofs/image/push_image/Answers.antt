@@ -1,5 +1,4 @@
-use Rattle.std.proofs.Common.{◌≡◌, ◌++◌, ap, ◌∙◌, string_bytes, List, ℕ}
-use Rattle.sbx_declare.specs.Images.{services_line}
+use Rattle.std.proofs.Common.{◌++◌, ap, ◌∙◌, string_bytes, List, ℕ}
 use Rattle.sbx_declare.proofs.Texts.{pieces}
 use Rattle.sbx_declare.proofs.image.push_image.Goals as goal
 
