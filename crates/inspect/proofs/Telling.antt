@@ -1,11 +1,12 @@
 -- What is told of known bytes.
-use Rattle.std.proofs.Common.{◌≡◌, refl, subst, ℕ, List, Option, None, Some, IfSome, Ok, ◌∙◌}
+use Rattle.std.proofs.Common.{◌≡◌, refl, subst, ℕ, List, [], Option, None, Some, IfSome, Ok, ◌∙◌}
 use Rattle.std.specs.Io.KnownBytes.{Appends, Keeps}
 use Rattle.sbx_image.specs.declared.parts.Parts.{Parts}
 use Rattle.sbx_image.specs.Reading.{reading}
 use Rattle.sbx_rules.specs.declared.cause.Refusal.{Refusal}
 use Rattle.sbx_rules.specs.Verdicts.{Checked, IsFirst}
 use Rattle.sbx_declare.specs.Images.{image_text}
+use Rattle.sbx_explain.specs.Refusals.{Tells}
 use Rattle.inspect.specs.Told.{Explained, IsVerdict, Shown}
 
 -- a flush keeps what a write appended
@@ -24,7 +25,8 @@ verdict_of : (parts : Parts) (found : Option Refusal) → (found ≡ None → Ch
 verdict_of parts None accepted refused = accepted refl
 verdict_of parts (Some refusal) accepted refused = refused
 
-pub explained_on : (file : Option (List ℕ)) (parts : Parts) (found : Option Refusal) → IfSome file (λ bytes. reading bytes ≡ Ok parts)
-    → (found ≡ None → Checked parts) → IfSome found (IsFirst parts) → Explained file found
-explained_on None parts found read accepted refused = tt
-explained_on (Some bytes) parts found read accepted refused = (parts, read, verdict_of parts found accepted refused)
+pub explained_on : (file old new : Option (List ℕ)) (parts : Parts) (found : Option Refusal) (start text : List ℕ) → IfSome file (λ bytes. reading bytes ≡ Ok parts)
+    → (found ≡ None → Checked parts) → IfSome found (IsFirst parts) → start ≡ [] → Tells found start text → Appends old new text → Explained file found old new
+explained_on None old new parts found start text read accepted refused empty told grown = tt
+explained_on (Some bytes) old new parts found start text read accepted refused empty told grown =
+    (parts, text, read, verdict_of parts found accepted refused, subst (λ (s : List ℕ). Tells found s text) empty told, grown)

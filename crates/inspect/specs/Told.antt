@@ -1,11 +1,12 @@
 -- What is told of the image of a file, where its bytes are known.
-use Rattle.std.specs.Prelude.{◌≡◌, ℕ, List, Ok, Option, Some, None, IfSome}
+use Rattle.std.specs.Prelude.{◌≡◌, ℕ, List, [], Ok, Option, Some, None, IfSome}
 use Rattle.std.specs.Io.KnownBytes.{Appends}
 use Rattle.sbx_image.specs.declared.parts.Parts.{Parts}
 use Rattle.sbx_image.specs.Reading.{reading}
 use Rattle.sbx_rules.specs.declared.cause.Refusal.{Refusal}
 use Rattle.sbx_rules.specs.Verdicts.{Checked, IsFirst}
 use Rattle.sbx_declare.specs.Images.{image_text}
+use Rattle.sbx_explain.specs.Refusals.{Tells}
 
 -- The output grew by the text of the image that the bytes spell.
 abbrev pub Shown : Option (List ℕ) → Option (List ℕ) → Option (List ℕ) → Type 0
@@ -16,5 +17,7 @@ abbrev pub IsVerdict : Parts → Option Refusal → Type 0
 IsVerdict parts None = Checked parts
 IsVerdict parts (Some refusal) = IsFirst parts refusal
 
-abbrev pub Explained : Option (List ℕ) → Option Refusal → Type 0
-Explained file found = IfSome file (λ bytes. (parts : Parts) × (reading bytes ≡ Ok parts) × IsVerdict parts found)
+-- The verdict is that of the image that the bytes spell, and the output grew by a text that tells it.
+abbrev pub Explained : Option (List ℕ) → Option Refusal → Option (List ℕ) → Option (List ℕ) → Type 0
+Explained file found old new = IfSome file (λ bytes. (parts : Parts) × (text : List ℕ)
+    × (reading bytes ≡ Ok parts) × IsVerdict parts found × Tells found [] text × Appends old new text)

@@ -58,14 +58,14 @@ pub fn show_image<F: Read, O: Write>(alloc: Global, file: &mut F, out: &mut O) -
     }
 }
 
-/// Tells why the image of a file is refused, and gives the refusal; none of an image that breaks no rule.
+/// Tells why the image of a file is refused, and gives the refusal; none of an image that breaks no rule, of which it says so.
 #[tactic(auto, using(crate::proofs::Telling::explained_on))]
 pub fn explain_image<F: Read, O: Write>(
     alloc: Global,
     file: &mut F,
     out: &mut O,
 ) -> Result<Option<Refusal>, Stop>
-    ensures explained { IfOk result (Explained (F.remaining file.old)) }
+    ensures explained { IfOk result (λ found. Explained (F.remaining file.old) found (O.contents out.old) (O.contents out.new)) }
     ensures stop { IfErr result (λ stop. IfSome (F.remaining file.old) (IsTrueOfImage stop)) }
 {
     let image = image_in(alloc, file)?;
