@@ -3,17 +3,19 @@ ghost use Rattle.std.specs.Prelude.{◌≡◌, ◌⊎◌, IfErr, IfOk, IfSome, O
 ghost use Rattle.std.specs.Io.KnownBytes.{Appends};
 ghost use Rattle.sbx_image.specs.Reading.{reading};
 ghost use Rattle.sbx_command.specs.Stops.{IsTrueOfImage};
-ghost use Rattle.inspect.specs.Told.{Explained, Shown};
+ghost use Rattle.sbx_tell.specs.Reports.{run_text};
+ghost use Rattle.inspect.specs.Told.{Explained, Ran, Shown};
 
-use sbx_command::{ReadFault, Stop, read_whole};
+use sbx_command::{ReadFault, Stop, Windows, read_whole};
 use sbx_declare::push_image;
 use sbx_explain::push_why;
 use sbx_image::{Image, parse};
 use sbx_rules::Refusal;
+use sbx_tell::{Progress, Run, push_run, run_windows};
 use std::alloc::{AllocError, Global};
 use std::io::{Read, Write};
 
-/// The most bytes that an image file may have.
+/// The most bytes that an image file, or the input of a run, may have.
 const MOST: usize = 16_777_216;
 
 /// The image that the bytes of a file spell.
@@ -27,6 +29,18 @@ fn image_in<F: Read>(alloc: Global, file: &mut F) -> Result<Image, Stop>
         Err(ReadFault::Reader | ReadFault::TooLong) => return Err(Stop::File),
     };
     Ok(parse(alloc, bytes.as_slice())?)
+}
+
+/// All of standard input.
+fn input_of<I: Read>(alloc: Global, input: &mut I) -> Result<Vec<u8>, Stop>
+    ensures whole { IfOk result (λ bytes. IfSome (I.remaining input.old) (λ all. bytes.items ≡ all)) }
+    ensures stop { IfErr result (λ stop. (stop ≡ Stop.Memory) ⊎ (stop ≡ Stop.Input)) }
+{
+    match read_whole(alloc, input, MOST) {
+        Ok(bytes) => Ok(bytes),
+        Err(ReadFault::Memory) => Err(Stop::Memory),
+        Err(ReadFault::Reader | ReadFault::TooLong) => Err(Stop::Input),
+    }
 }
 
 /// Writes a text, through to the end.
@@ -56,6 +70,45 @@ pub fn show_image<F: Read, O: Write>(alloc: Global, file: &mut F, out: &mut O) -
         Ok(()) => put_out(out, text.as_bytes()),
         Err(AllocError) => Err(Stop::Memory),
     }
+}
+
+/// Tells a run.
+#[tactic(auto, using(crate::proofs::Telling::told_on))]
+fn tell_run<O: Write>(
+    alloc: Global,
+    windows: u32,
+    limit: u64,
+    run: &Run,
+    out: &mut O,
+) -> Result<(), Stop>
+    ensures told { OnOk result (Appends (O.contents out.old) (O.contents out.new) (run_text windows limit run.now)) }
+    ensures stop { IfErr result (λ stop. (stop ≡ Stop.Memory) ⊎ (stop ≡ Stop.Output)) }
+{
+    let mut text = String::new(alloc);
+    match push_run(&mut text, windows, limit, run) {
+        Ok(()) => put_out(out, text.as_bytes()),
+        Err(AllocError) => Err(Stop::Memory),
+    }
+}
+
+/// Runs the image of a file on the input, which is read whole first, on so many windows, up to so many turns, and tells its run.
+pub fn run_image<F: Read, I: Read, O: Write, P: Progress>(
+    alloc: Global,
+    windows: Windows,
+    limit: u64,
+    file: &mut F,
+    input: &mut I,
+    out: &mut O,
+    progress: &mut P,
+) -> Result<(), Stop>
+    ensures ran { OnOk result (Ran windows limit (F.remaining file.old) (I.remaining input.old) (O.contents out.old) (O.contents out.new)) }
+    ensures stop { IfErr result (λ stop. IfSome (F.remaining file.old) (IsTrueOfImage stop)) }
+{
+    let image = image_in(alloc, file)?;
+    let bytes = input_of(alloc, input)?;
+    let count = windows.count();
+    let run = run_windows(alloc, count, &image, bytes.as_slice(), limit, progress)?;
+    tell_run(alloc, count, limit, &run, out)
 }
 
 /// Tells why the image of a file is refused, and gives the refusal; none of an image that breaks no rule, of which it says so.

@@ -1,10 +1,12 @@
-//! The second program: it tells of an image file what it declares, and why it is refused.
+//! The second program: it tells of an image file what it declares, what its run gives, and why it is refused.
 #![tactic(auto)]
 
 mod commands;
+mod progress;
 mod words;
 
-use commands::{explain_image, show_image};
+use commands::{explain_image, run_image, show_image};
+use progress::Lines;
 use sbx_command::Stop;
 use std::alloc::AllocError;
 use std::fs::File;
@@ -27,13 +29,22 @@ fn opened(rt: &HostRuntime, path: &str) -> Result<File, Stop> {
 
 /// Does a job, and tells on standard output.
 fn perform(rt: &HostRuntime, job: Job<'_>) -> Result<(), Stop> {
-    let (Job::Image { image } | Job::Why { image }) = job;
+    let (Job::Image { image } | Job::Run { image, .. } | Job::Why { image }) = job;
     let mut file = opened(rt, image)?;
     let Ok(mut out) = BufWriter::new(rt.alloc(), rt.stdout()) else {
         return Err(Stop::Memory);
     };
     match job {
         Job::Image { .. } => show_image(rt.alloc(), &mut file, &mut out),
+        Job::Run { windows, limit, .. } => run_image(
+            rt.alloc(),
+            windows,
+            limit,
+            &mut file,
+            &mut rt.stdin(),
+            &mut out,
+            &mut Lines::new(rt),
+        ),
         Job::Why { .. } => {
             explain_image(rt.alloc(), &mut file, &mut out)?;
             Ok(())

@@ -20,12 +20,12 @@ access_text a =
 abbrev pub error_text : ℕ → List ℕ
 error_text f =
     if f == 0 then codes "none"
-    else (if f == 1 then codes "invalid address error"
-    else (if f == 2 then codes "protection error"
-    else (if f == 3 then codes "privilege violation error"
-    else (if f == 4 then codes "translation error"
-    else (if f == 5 then codes "access bus error"
-    else (if f == 6 then codes "internal error"
+    else (if f == 1 then codes "invalid address"
+    else (if f == 2 then codes "protection"
+    else (if f == 3 then codes "privilege violation"
+    else (if f == 4 then codes "translation"
+    else (if f == 5 then codes "access bus"
+    else (if f == 6 then codes "internal"
     else codes "reserved"))))))
 
 -- a status that isn't 0: the fault, the level of the entry that ended the walk, and the access

@@ -5,7 +5,7 @@ ghost use Rattle.sbx_tell.specs.Faults.{access_text, error_text, status_text};
 use std::fmt::{self, Display, Formatter, Write};
 use v8_word::bits_of;
 
-/// A fault status of the reference MMU in words (appendix H): `0000038A: protection error at level 3, store to user data`, or `none`.
+/// A fault status of the reference MMU in words (appendix H): `0000038A: protection at level 3, store to user data`, or `none`.
 #[derive(Clone, Copy)]
 pub struct FaultStatus(pub u32);
 
@@ -31,12 +31,12 @@ fn error_text(number: u32) -> &'static str
 {
     match number {
         0 => "none",
-        1 => "invalid address error",
-        2 => "protection error",
-        3 => "privilege violation error",
-        4 => "translation error",
-        5 => "access bus error",
-        6 => "internal error",
+        1 => "invalid address",
+        2 => "protection",
+        3 => "privilege violation",
+        4 => "translation",
+        5 => "access bus",
+        6 => "internal",
         _ => "reserved",
     }
 }
