@@ -1,0 +1,132 @@
+//! What is told of the image of a file.
+ghost use Rattle.std.specs.Prelude.{◌≡◌, ◌⊎◌, IfErr, IfOk, IfSome, Ok, OnOk};
+ghost use Rattle.std.specs.Io.KnownBytes.{Appends};
+ghost use Rattle.sbx_image.specs.Reading.{reading};
+ghost use Rattle.sbx_command.specs.Stops.{IsTrueOfImage};
+ghost use Rattle.sbx_tell.specs.Reports.{run_text};
+ghost use Rattle.inspect.specs.Told.{Explained, Ran, Shown};
+
+use sbx_command::{ReadFault, Stop, Windows, read_whole};
+use sbx_declare::push_image;
+use sbx_explain::push_why;
+use sbx_image::{Image, parse};
+use sbx_rules::Refusal;
+use sbx_tell::{Progress, Run, push_run, run_windows};
+use std::alloc::{AllocError, Global};
+use std::io::{Read, Write};
+
+/// The most bytes that an image file, or the input of a run, may have.
+const MOST: usize = 16_777_216;
+
+/// The image that the bytes of a file spell.
+fn image_in<F: Read>(alloc: Global, file: &mut F) -> Result<Image, Stop>
+    ensures image { IfOk result (λ image. IfSome (F.remaining file.old) (λ bytes. reading bytes ≡ Ok image)) }
+    ensures stop { IfErr result (λ stop. IfSome (F.remaining file.old) (IsTrueOfImage stop)) }
+{
+    let bytes = match read_whole(alloc, file, MOST) {
+        Ok(bytes) => bytes,
+        Err(ReadFault::Memory) => return Err(Stop::Memory),
+        Err(ReadFault::Reader | ReadFault::TooLong) => return Err(Stop::File),
+    };
+    Ok(parse(alloc, bytes.as_slice())?)
+}
+
+/// All of standard input.
+fn input_of<I: Read>(alloc: Global, input: &mut I) -> Result<Vec<u8>, Stop>
+    ensures whole { IfOk result (λ bytes. IfSome (I.remaining input.old) (λ all. bytes.items ≡ all)) }
+    ensures stop { IfErr result (λ stop. (stop ≡ Stop.Memory) ⊎ (stop ≡ Stop.Input)) }
+{
+    match read_whole(alloc, input, MOST) {
+        Ok(bytes) => Ok(bytes),
+        Err(ReadFault::Memory) => Err(Stop::Memory),
+        Err(ReadFault::Reader | ReadFault::TooLong) => Err(Stop::Input),
+    }
+}
+
+/// Writes a text, through to the end.
+#[tactic(auto, using(crate::proofs::Telling::appends_kept))]
+fn put_out<O: Write>(out: &mut O, text: &[u8]) -> Result<(), Stop>
+    ensures bytes { OnOk result (Appends (O.contents out.old) (O.contents out.new) text.now) }
+    ensures stop { IfErr result (λ stop. stop ≡ Stop.Output) }
+{
+    if out.write_all(text).is_err() {
+        return Err(Stop::Output);
+    }
+    match out.flush() {
+        Ok(()) => Ok(()),
+        Err(_) => Err(Stop::Output),
+    }
+}
+
+/// Tells what the image of a file declares.
+#[tactic(auto, using(crate::proofs::Telling::shown_on))]
+pub fn show_image<F: Read, O: Write>(alloc: Global, file: &mut F, out: &mut O) -> Result<(), Stop>
+    ensures shown { OnOk result (Shown (F.remaining file.old) (O.contents out.old) (O.contents out.new)) }
+    ensures stop { IfErr result (λ stop. IfSome (F.remaining file.old) (IsTrueOfImage stop)) }
+{
+    let image = image_in(alloc, file)?;
+    let mut text = String::new(alloc);
+    match push_image(&mut text, &image) {
+        Ok(()) => put_out(out, text.as_bytes()),
+        Err(AllocError) => Err(Stop::Memory),
+    }
+}
+
+/// Tells a run.
+#[tactic(auto, using(crate::proofs::Telling::told_on))]
+fn tell_run<O: Write>(
+    alloc: Global,
+    windows: u32,
+    limit: u64,
+    run: &Run,
+    out: &mut O,
+) -> Result<(), Stop>
+    ensures told { OnOk result (Appends (O.contents out.old) (O.contents out.new) (run_text windows limit run.now)) }
+    ensures stop { IfErr result (λ stop. (stop ≡ Stop.Memory) ⊎ (stop ≡ Stop.Output)) }
+{
+    let mut text = String::new(alloc);
+    match push_run(&mut text, windows, limit, run) {
+        Ok(()) => put_out(out, text.as_bytes()),
+        Err(AllocError) => Err(Stop::Memory),
+    }
+}
+
+/// Runs the image of a file on the input, which is read whole first, on so many windows, up to so many turns, and tells its run.
+pub fn run_image<F: Read, I: Read, O: Write, P: Progress>(
+    alloc: Global,
+    windows: Windows,
+    limit: u64,
+    file: &mut F,
+    input: &mut I,
+    out: &mut O,
+    progress: &mut P,
+) -> Result<(), Stop>
+    ensures ran { OnOk result (Ran windows limit (F.remaining file.old) (I.remaining input.old) (O.contents out.old) (O.contents out.new)) }
+    ensures stop { IfErr result (λ stop. IfSome (F.remaining file.old) (IsTrueOfImage stop)) }
+{
+    let image = image_in(alloc, file)?;
+    let bytes = input_of(alloc, input)?;
+    let count = windows.count();
+    let run = run_windows(alloc, count, &image, bytes.as_slice(), limit, progress)?;
+    tell_run(alloc, count, limit, &run, out)
+}
+
+/// Tells why the image of a file is refused, and gives the refusal; none of an image that breaks no rule, of which it says so.
+#[tactic(auto, using(crate::proofs::Telling::explained_on))]
+pub fn explain_image<F: Read, O: Write>(
+    alloc: Global,
+    file: &mut F,
+    out: &mut O,
+) -> Result<Option<Refusal>, Stop>
+    ensures explained { IfOk result (λ found. Explained (F.remaining file.old) found (O.contents out.old) (O.contents out.new)) }
+    ensures stop { IfErr result (λ stop. IfSome (F.remaining file.old) (IsTrueOfImage stop)) }
+{
+    let image = image_in(alloc, file)?;
+    let mut text = String::new(alloc);
+    let found = match push_why(alloc, &mut text, image) {
+        Ok(found) => found,
+        Err(AllocError) => return Err(Stop::Memory),
+    };
+    put_out(out, text.as_bytes())?;
+    Ok(found)
+}

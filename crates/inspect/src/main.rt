@@ -1,0 +1,87 @@
+//! The second program: it tells of an image file what it declares, what its run gives, and why it is refused.
+#![tactic(auto)]
+
+mod commands;
+mod progress;
+mod words;
+
+use commands::{explain_image, run_image, show_image};
+use progress::Lines;
+use sbx_command::Stop;
+use std::alloc::AllocError;
+use std::fs::File;
+use std::io::BufWriter;
+use std::process::ExitCode;
+use std::{env, fs, io};
+use words::{Job, USAGE, read_words};
+
+/// The exit status of words that ask for nothing.
+const OTHER_WORDS: u8 = 3;
+
+/// The file at a path, to be read.
+fn opened(rt: &HostRuntime, path: &str) -> Result<File, Stop> {
+    match fs::open(rt, path) {
+        Ok(file) => Ok(file),
+        Err(error) if error.kind() == io::ErrorKind::OutOfMemory => Err(Stop::Memory),
+        Err(_) => Err(Stop::File),
+    }
+}
+
+/// Does a job, and tells on standard output.
+fn perform(rt: &HostRuntime, job: Job<'_>) -> Result<(), Stop> {
+    let (Job::Image { image } | Job::Run { image, .. } | Job::Why { image }) = job;
+    let mut file = opened(rt, image)?;
+    let Ok(mut out) = BufWriter::new(rt.alloc(), rt.stdout()) else {
+        return Err(Stop::Memory);
+    };
+    match job {
+        Job::Image { .. } => show_image(rt.alloc(), &mut file, &mut out),
+        Job::Run { windows, limit, .. } => run_image(
+            rt.alloc(),
+            windows,
+            limit,
+            &mut file,
+            &mut rt.stdin(),
+            &mut out,
+            &mut Lines::new(rt),
+        ),
+        Job::Why { .. } => {
+            explain_image(rt.alloc(), &mut file, &mut out)?;
+            Ok(())
+        }
+    }
+}
+
+/// The words after the program's name.
+fn words_of(rt: &HostRuntime) -> io::Result<Vec<String>> {
+    let mut words: Vec<String> = env::args(rt)?.collect(rt.alloc())?;
+    if !words.is_empty() {
+        words.remove(0);
+    }
+    Ok(words)
+}
+
+/// Does what the words ask for, and gives the exit status.
+fn answer(rt: &HostRuntime, words: &[String]) -> Result<u8, Stop> {
+    let Some(job) = read_words(words) else {
+        let _ = eprint!(rt; "{USAGE}");
+        return Ok(OTHER_WORDS);
+    };
+    perform(rt, job)?;
+    Ok(0)
+}
+
+fn main(rt: HostRuntime) -> ExitCode {
+    let status = match words_of(&rt) {
+        Ok(words) => answer(&rt, words.as_slice()),
+        Err(error) if error.kind() == io::ErrorKind::OutOfMemory => Err(Stop::Memory),
+        Err(_) => {
+            let _ = eprint!(rt; "{USAGE}");
+            Ok(OTHER_WORDS)
+        }
+    };
+    match status {
+        Ok(status) => ExitCode::from(status),
+        Err(stop) => ExitCode::from(stop.report(&mut rt.stderr())),
+    }
+}

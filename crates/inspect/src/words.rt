@@ -1,0 +1,123 @@
+//! What the words of a command line ask for.
+ghost use Rattle.std.specs.Prelude.{IfSome};
+ghost use Rattle.inspect.specs.Jobs.{IsInRange};
+
+use sbx_command::{Windows, turns, window_count};
+use std::convert::AsStr;
+
+/// One thing to tell of an image file.
+#[derive(Clone, Copy)]
+pub enum Job<'a> {
+    /// What it declares.
+    Image {
+        image: &'a str,
+    },
+    /// Its run on so many register windows, up to a limit of turns.
+    Run {
+        image: &'a str,
+        windows: Windows,
+        limit: u64,
+    },
+    /// Why it is refused.
+    Why {
+        image: &'a str,
+    },
+}
+
+/// What is told of words that ask for nothing.
+pub const USAGE: &str = "Usage: inspect COMMAND [--windows N] [--limit T] IMG
+
+  image IMG    tells what an image declares, in the source language's own words
+  run IMG      runs any image on standard input and tells what it put out, how it ended, its turns and its pages
+  why IMG      tells why an image is refused: the rule, the word, and what is known there
+
+run: --windows N for N register windows, 4 to 32 (8), --limit T for at most T turns, 0 to 9999999999 (100000).
+Status 0: told. 2: no image. 3: other words. 4: a file, the input or the output fails. 5: memory.
+";
+
+/// What the words after the command give, each at most once.
+#[derive(Clone, Copy)]
+struct Options<'a> {
+    image: Option<&'a str>,
+    windows: Option<&'a str>,
+    limit: Option<&'a str>,
+}
+
+/// What the next word is.
+#[derive(Clone, Copy)]
+enum Next {
+    /// A path, or the name of a number.
+    Any,
+    /// A count of windows.
+    Windows,
+    /// A limit of turns.
+    Limit,
+}
+
+/// Puts a word where none is yet.
+fn put<'a>(place: &mut Option<&'a str>, word: &'a str) -> Option<Next> {
+    match place {
+        Some(_) => None,
+        None => {
+            *place = Some(word);
+            Some(Next::Any)
+        }
+    }
+}
+
+impl<'a> Options<'a> {
+    /// Takes a word, and says what the one after it is; nothing where the word has no place.
+    fn take(&mut self, next: Next, word: &'a str) -> Option<Next> {
+        match next {
+            Next::Windows => put(&mut self.windows, word),
+            Next::Limit => put(&mut self.limit, word),
+            Next::Any => match word {
+                "--windows" => Some(Next::Windows),
+                "--limit" => Some(Next::Limit),
+                path => put(&mut self.image, path),
+            },
+        }
+    }
+}
+
+/// What the words after the command give; nothing where one of them has no place, or a number lacks.
+fn options_of<S: AsStr>(words: &[S]) -> Option<Options<'_>> {
+    let mut options = Options {
+        image: None,
+        windows: None,
+        limit: None,
+    };
+    let mut next = Next::Any;
+    for word in words {
+        next = options.take(next, word.as_str())?;
+    }
+    match next {
+        Next::Any => Some(options),
+        Next::Windows | Next::Limit => None,
+    }
+}
+
+/// The job of a command on an image.
+fn job_of<'a>(command: &str, image: &'a str, options: &Options<'a>) -> Option<Job<'a>>
+    ensures { IfSome result IsInRange }
+{
+    match (command, options.windows, options.limit) {
+        ("image", None, None) => Some(Job::Image { image }),
+        ("why", None, None) => Some(Job::Why { image }),
+        ("run", windows, limit) => Some(Job::Run {
+            image,
+            windows: window_count(windows)?,
+            limit: turns(limit)?,
+        }),
+        _ => None,
+    }
+}
+
+/// The job that the words after the program's name ask for.
+pub fn read_words<S: AsStr>(words: &[S]) -> Option<Job<'_>>
+    ensures { IfSome result IsInRange }
+{
+    let (command, rest) = words.split_first()?;
+    let options = options_of(rest)?;
+    job_of(command.as_str(), options.image?, &options)
+}

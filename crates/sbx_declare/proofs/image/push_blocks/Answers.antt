@@ -1,0 +1,11 @@
+use Rattle.std.proofs.Common.{◌+◌, ap, string_bytes}
+use Rattle.sbx_declare.specs.Images.{block_text}
+use Rattle.sbx_declare.proofs.Texts.{numbered_more}
+use Rattle.sbx_declare.proofs.image.push_blocks.Goals as goal
+
+pub loop-block-preserved : goal.loop-block-preserved
+loop-block-preserved c = (
+  ap (λ n. n + 1) c.loop-block.invariant.0,
+  numbered_more (block_text c.args.function) (string_bytes c.loop-block.out) (string_bytes c.push_numbered.new.out) _ c.loop-block.number c.loop-block.block-index c.args.blocks.now c.block-item.result
+      c.loop-block-test.true c.block-item.is c.in_ok-push_numbered.ensures c.loop-block.invariant.1,
+)

@@ -1,0 +1,132 @@
+//! What is known at a word, on each of its ways.
+ghost use Rattle.std.specs.Prelude.{◌<◌, IfSome, length};
+ghost use Rattle.sbx_known.specs.Courses.{IsWell};
+ghost use Rattle.sbx_known.specs.Spots.{IsSpot};
+ghost use Rattle.sbx_inspect.specs.Sights.{IsSeen};
+
+use crate::reads::{Registers, frame_word_read, reads_codes, reads_y, registers_read};
+use crate::values::Known;
+use sbx_declare::Location;
+use sbx_domain::State;
+use sbx_image::{Image, Range};
+use sbx_inspect::Sight;
+use sbx_known::{Course, Going, Spot, block_at, function_at};
+use std::alloc::AllocError;
+
+/// Where a way leads.
+pub fn push_going(
+    out: &mut String,
+    image: &Image,
+    function: usize,
+    going: Going,
+) -> Result<(), AllocError>
+    requires function { function < length image.now.functions }
+    requires well { IsWell image.now function going }
+{
+    let place = match going {
+        Going::Next => "to the next word",
+        Going::To(block) => {
+            let address = block_at(image, function, block).address;
+            return write!(out, "to the block at {address:08X}");
+        }
+        Going::Back => "back to the caller",
+        Going::Over => "to the end of the run",
+        Going::Past => "past the function's last word",
+        Going::Astray => "to no block of the function",
+    };
+    out.push_str(place)
+}
+
+/// A location, and what is known of it.
+pub fn push_known(out: &mut String, location: u16, range: Option<Range>) -> Result<(), AllocError> {
+    let (location, known) = (Location(location), Known(range));
+    writeln!(out, "  {location} is {known}")
+}
+
+/// A register that is read. Those that hold the frames and the ways back have no range.
+fn push_register(out: &mut String, register: u8, state: &State) -> Result<(), AllocError> {
+    let location = Location(u16::from(register));
+    match register {
+        0 => out.push_str("  %g0 is 0\n"),
+        14 | 30 => writeln!(out, "  {location} holds a frame"),
+        15 | 31 => writeln!(out, "  {location} holds the way back"),
+        _ => push_known(out, u16::from(register), state.range(u16::from(register))),
+    }
+}
+
+fn push_registers(
+    out: &mut String,
+    registers: &Registers,
+    state: &State,
+) -> Result<(), AllocError> {
+    for register in registers.as_slice() {
+        push_register(out, *register, state)?;
+    }
+    Ok(())
+}
+
+fn push_slot(out: &mut String, slot: Option<u16>, state: &State) -> Result<(), AllocError> {
+    match slot {
+        Some(location) => push_known(out, location, state.range(location)),
+        None => Ok(()),
+    }
+}
+
+/// The condition codes and Y, where they are read.
+fn push_flags(out: &mut String, codes: bool, y: bool, state: &State) -> Result<(), AllocError> {
+    if codes {
+        out.push_str(if state.icc() {
+            "  the condition codes are defined\n"
+        } else {
+            "  the condition codes are undefined\n"
+        })?;
+    }
+    if y {
+        let known = Known(state.y());
+        return writeln!(out, "  Y is {known}");
+    }
+    Ok(())
+}
+
+/// What a word reads, and what is known of it.
+fn push_reads(out: &mut String, image: &Image, spot: &Spot, state: &State) -> Result<(), AllocError>
+    requires { IsSpot image.now spot.now }
+{
+    let function = function_at(image, spot.function);
+    let registers = registers_read(function, &spot.operation);
+    push_registers(out, &registers, state)?;
+    push_slot(out, frame_word_read(function, &spot.operation), state)?;
+    let (codes, y) = (reads_codes(&spot.operation), reads_y(&spot.operation));
+    push_flags(out, codes, y, state)
+}
+
+/// A way on which a word runs, with what is known before the word of what it reads.
+fn push_course(
+    out: &mut String,
+    image: &Image,
+    spot: &Spot,
+    course: Option<Course>,
+    state: &State,
+) -> Result<(), AllocError>
+    requires spot { IsSpot image.now spot.now }
+    requires well { IfSome course (λ c. IsWell image.now spot.now.function c.going) }
+{
+    let Some(course) = course else {
+        return Ok(());
+    };
+    out.push_str("\non the way ")?;
+    push_going(out, image, spot.function, course.going)?;
+    if course.annulled {
+        return out.push_str(" the word is annulled\n");
+    }
+    out.push_str(" it reads what is known so:\n")?;
+    push_reads(out, image, spot, state)
+}
+
+/// The ways on which a word runs, with what is known before it on each.
+pub fn push_sight(out: &mut String, image: &Image, sight: &Sight) -> Result<(), AllocError>
+    requires { IsSeen image.now sight.now }
+{
+    push_course(out, image, &sight.spot, sight.courses.first, &sight.first)?;
+    push_course(out, image, &sight.spot, sight.courses.second, &sight.second)
+}

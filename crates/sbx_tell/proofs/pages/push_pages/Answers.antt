@@ -1,0 +1,9 @@
+use Rattle.std.proofs.Common.{string_bytes}
+use Rattle.sbx_tell.proofs.Texts.{pieces}
+use Rattle.sbx_tell.proofs.pages.push_pages.Goals as goal
+
+pub returns : goal.returns
+returns c =
+    pieces (string_bytes c.args.out.now) (string_bytes c.push_str.new.self) (string_bytes c.push_table.new.out) (string_bytes c.push_table-2.new.out)
+    (string_bytes c.push_table-3.new.out) (string_bytes c.push_str-2.new.self) _ _ _ _ _
+    c.in_ok-push_str.ensures.bytes c.in_ok-push_table.ensures c.in_ok-push_table-2.ensures c.in_ok-push_table-3.ensures c.in_ok-push_str-2.ensures.bytes

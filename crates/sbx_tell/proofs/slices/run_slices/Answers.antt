@@ -1,0 +1,20 @@
+use Rattle.std.proofs.Common.{arith}
+use Rattle.v8_board.proofs.Contained.{run_kept}
+use Rattle.sbx_tell.proofs.Sliced.{no_slice, one_slice_more, slices_and_rest}
+use Rattle.sbx_tell.proofs.slices.run_slices.Goals as goal
+
+pub loop-init : goal.loop-init
+loop-init g c = no_slice g.row.N c.args.board.now.state
+
+pub loop-preserved : goal.loop-preserved
+loop-preserved g c =
+    one_slice_more g.row.N c.loop.counter c.args.board.now.state c.loop.board.state c.run.new.self.state c.loop.invariant c.in-Ok.ensures.run
+
+pub returns-in-Ok-run-clause-run : goal.returns-in-Ok-run-clause-run
+returns-in-Ok-run-clause-run g c =
+    slices_and_rest g.row.N c.loop.counter c.args.limit c.args.board.now.state c.loop.board.state c.run-2.new.self.state (omega arith) c.loop.invariant c.in-Ok-run.ensures.run
+
+pub returns-in-Ok-run-clause-contained : goal.returns-in-Ok-run-clause-contained
+returns-in-Ok-run-clause-contained g c =
+    run_kept g.row.N c.args.limit c.args.board.now.state c.run-2.new.self.state
+    (slices_and_rest g.row.N c.loop.counter c.args.limit c.args.board.now.state c.loop.board.state c.run-2.new.self.state (omega arith) c.loop.invariant c.in-Ok-run.ensures.run)

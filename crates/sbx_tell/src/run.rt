@@ -1,0 +1,151 @@
+//! Runs of any image, on a count of windows that is a number.
+ghost use Rattle.std.specs.Prelude.{◌≡◌, ◌≤◌, IfErr, IfOk};
+ghost use Rattle.sbx_tell.specs.Runs.{IsRun};
+
+use crate::slices::{Progress, run_slices};
+use sbx_image::Image;
+use sbx_raw::{Raw, RunFault, begun};
+use std::alloc::Global;
+use v8_word::Reg;
+
+/// A run, and %l1 of the window in which it ended: after a trap that no handler serves, the address of the instruction that trapped
+/// (chapter 7).
+#[derive(Drop)]
+pub struct Run {
+    pub raw: Raw,
+    pub trapped_at: u32,
+}
+
+/// The run on `N` windows, which are as many as the number says.
+fn run_on<const N: usize, P: Progress>(
+    alloc: Global,
+    windows: u32,
+    image: &Image,
+    input: &[u8],
+    limit: u64,
+    progress: &mut P,
+) -> Result<Run, RunFault>
+    requires range { (4 ≤ N) × (N ≤ 32) }
+    requires same { windows ≡ N }
+    ensures run { IfOk result (λ run. IsRun windows image.now input.now limit run) }
+    ensures fault { IfErr result (λ fault. fault ≡ RunFault.Memory) }
+{
+    let _ = windows;
+    let mut board = begun::<N>(alloc, image, input)?;
+    let outcome = run_slices(&mut board, limit, progress)?;
+    let mut output = Vec::new(alloc);
+    match output.extend_from_slice(board.port().output()) {
+        Ok(()) => Ok(Run {
+            raw: Raw {
+                outcome,
+                output,
+                pages: board.page_use(),
+                fault_status: board.fault_status(),
+            },
+            trapped_at: board.reg(Reg::L1),
+        }),
+        Err(_refused) => Err(RunFault::Memory),
+    }
+}
+
+/// The run on as many windows as there are, of these numbers, which rise from the least that it can be to the greatest.
+macro_rules! run_on_these {
+    ($windows:ident, $alloc:ident, $image:ident, $input:ident, $limit:ident, $progress:ident: $($count:literal)* or $last:literal) => {{
+        $(
+            if $windows <= $count {
+                return run_on::<$count, P>($alloc, $windows, $image, $input, $limit, $progress);
+            }
+        )*
+        run_on::<$last, P>($alloc, $windows, $image, $input, $limit, $progress)
+    }};
+}
+
+/// The run on 4 to 10 windows.
+fn run_to_10<P: Progress>(
+    alloc: Global,
+    windows: u32,
+    image: &Image,
+    input: &[u8],
+    limit: u64,
+    progress: &mut P,
+) -> Result<Run, RunFault>
+    requires { (4 ≤ windows) × (windows ≤ 10) }
+    ensures run { IfOk result (λ run. IsRun windows image.now input.now limit run) }
+    ensures fault { IfErr result (λ fault. fault ≡ RunFault.Memory) }
+{
+    run_on_these!(windows, alloc, image, input, limit, progress: 4 5 6 7 8 9 or 10)
+}
+
+/// The run on 11 to 17 windows.
+fn run_to_17<P: Progress>(
+    alloc: Global,
+    windows: u32,
+    image: &Image,
+    input: &[u8],
+    limit: u64,
+    progress: &mut P,
+) -> Result<Run, RunFault>
+    requires { (11 ≤ windows) × (windows ≤ 17) }
+    ensures run { IfOk result (λ run. IsRun windows image.now input.now limit run) }
+    ensures fault { IfErr result (λ fault. fault ≡ RunFault.Memory) }
+{
+    run_on_these!(windows, alloc, image, input, limit, progress: 11 12 13 14 15 16 or 17)
+}
+
+/// The run on 18 to 24 windows.
+fn run_to_24<P: Progress>(
+    alloc: Global,
+    windows: u32,
+    image: &Image,
+    input: &[u8],
+    limit: u64,
+    progress: &mut P,
+) -> Result<Run, RunFault>
+    requires { (18 ≤ windows) × (windows ≤ 24) }
+    ensures run { IfOk result (λ run. IsRun windows image.now input.now limit run) }
+    ensures fault { IfErr result (λ fault. fault ≡ RunFault.Memory) }
+{
+    run_on_these!(windows, alloc, image, input, limit, progress: 18 19 20 21 22 23 or 24)
+}
+
+/// The run on 25 to 32 windows.
+fn run_to_32<P: Progress>(
+    alloc: Global,
+    windows: u32,
+    image: &Image,
+    input: &[u8],
+    limit: u64,
+    progress: &mut P,
+) -> Result<Run, RunFault>
+    requires { (25 ≤ windows) × (windows ≤ 32) }
+    ensures run { IfOk result (λ run. IsRun windows image.now input.now limit run) }
+    ensures fault { IfErr result (λ fault. fault ≡ RunFault.Memory) }
+{
+    run_on_these!(windows, alloc, image, input, limit, progress: 25 26 27 28 29 30 31 or 32)
+}
+
+/// Runs an image that need not be verified on so many windows, 4 to 32, as `sbx_raw::run_raw` does, and tells in between how far it
+/// has come. Each count is a machine of its own, and each function has few of them, since a function costs its proof by its ways
+/// out. The only fault is `RunFault::Memory`.
+pub fn run_windows<P: Progress>(
+    alloc: Global,
+    windows: u32,
+    image: &Image,
+    input: &[u8],
+    limit: u64,
+    progress: &mut P,
+) -> Result<Run, RunFault>
+    requires { (4 ≤ windows) × (windows ≤ 32) }
+    ensures run { IfOk result (λ run. IsRun windows image.now input.now limit run) }
+    ensures fault { IfErr result (λ fault. fault ≡ RunFault.Memory) }
+{
+    if windows <= 10 {
+        run_to_10(alloc, windows, image, input, limit, progress)
+    } else if windows <= 17 {
+        run_to_17(alloc, windows, image, input, limit, progress)
+    } else if windows <= 24 {
+        run_to_24(alloc, windows, image, input, limit, progress)
+    } else {
+        run_to_32(alloc, windows, image, input, limit, progress)
+    }
+}
