@@ -25,4 +25,4 @@ Explains policy bytes (Refused refusal) = (parts : Parts) × (reading bytes ≡ 
 Explains policy bytes (Services asked) = (parts : Parts) × (reading bytes ≡ Ok parts) × (asked ≡ parts.services)
     × (grants_services policy parts ≡ false)
 Explains policy bytes (Turns asked) = (parts : Parts) × (reading bytes ≡ Ok parts) × (asked ≡ budget parts) × (policy.turns < asked)
-Explains policy bytes Memory = Unit {0}
+Explains policy bytes (Memory want) = Unit {0}

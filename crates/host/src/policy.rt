@@ -7,6 +7,7 @@ use sbx_image::{ImageFault, Services, parse};
 use sbx_run::{Accepted, Cause, Refusal, budget, verify};
 use std::alloc::Global;
 use std::fmt::{self, Display, Formatter, Write};
+use want::Want;
 
 /// What a host grants an image: the services that it may ask for, and the turns that it may take.
 #[derive(Clone, Copy)]
@@ -27,7 +28,7 @@ pub enum Denial {
     /// It declares so many turns, more than are granted.
     Turns(u64),
     /// Memory was refused.
-    Memory,
+    Memory(Want),
 }
 
 impl Display for Denial {
@@ -37,7 +38,7 @@ impl Display for Denial {
             Denial::Refused(refusal) => write!(f, "{refusal}"),
             Denial::Services(_) => f.write_str("it asks for a service that isn't granted"),
             Denial::Turns(turns) => write!(f, "it asks for {turns} turns"),
-            Denial::Memory => f.write_str("memory"),
+            Denial::Memory(_) => f.write_str("memory"),
         }
     }
 }
@@ -49,13 +50,15 @@ pub fn admit(alloc: Global, policy: Policy, bytes: &[u8]) -> Result<Accepted, De
 {
     let image = match parse(alloc, bytes) {
         Ok(image) => image,
-        Err(ImageFault::Memory) => return Err(Denial::Memory),
+        Err(ImageFault::Memory(want)) => return Err(Denial::Memory(want)),
         Err(fault) => return Err(Denial::Image(fault)),
     };
     let accepted = match verify(alloc, image) {
         Ok(accepted) => accepted,
-        Err((_image, refusal)) if refusal.cause == Cause::NoMemory => return Err(Denial::Memory),
-        Err((_image, refusal)) => return Err(Denial::Refused(refusal)),
+        Err((_image, refusal)) => match refusal.cause {
+            Cause::NoMemory(want) => return Err(Denial::Memory(want)),
+            _ => return Err(Denial::Refused(refusal)),
+        },
     };
     let services = accepted.image().services();
     if !policy.services.contains(services) {

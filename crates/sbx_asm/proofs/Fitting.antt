@@ -274,7 +274,7 @@ with_data_fits : (r : Result (List ℕ) DataFault) (d : Draft) → IfOk r Bytes 
 with_data_fits (Ok bs) d fits h = more_bytes_fit bs d fits h
 with_data_fits (Err data_faults.UnknownSymbol) d fits h = h
 with_data_fits (Err data_faults.Malformed) d fits h = h
-with_data_fits (Err data_faults.Memory) d fits h = h
+with_data_fits (Err (data_faults.Memory want)) d fits h = h
 
 add_values_fits : (width : Width) (n : ℕ) (r : Result (List ℕ) DataFault) (d : Draft) → IfOk r Bytes → DraftFits d → DraftFits (add_values width n r d)
 unfolding add_values

@@ -228,7 +228,7 @@ abbrev pub with_data : Result (List ℕ) DataFault → Draft → Draft
 with_data (Ok bytes) d = record d { bytes = d.bytes ++ bytes }
 with_data (Err data_faults.UnknownSymbol) d = begun (noted (causes.Syntax UnknownSymbol) d)
 with_data (Err data_faults.Malformed) d = noted causes.Directive d
-with_data (Err data_faults.Memory) d = d
+with_data (Err (data_faults.Memory want)) d = d
 
 abbrev pub with_zeros : Bool → ℕ → Draft → Draft
 with_zeros true n d = record d { bytes = d.bytes ++ replicate n 0 }

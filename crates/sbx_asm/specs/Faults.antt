@@ -17,7 +17,7 @@ code_of causes.DuplicateLabel = codes "A1"
 code_of causes.Directive = codes "A2"
 code_of causes.Limit = codes "A3"
 code_of causes.Annotation = codes "A4"
-code_of causes.Memory = codes "A5"
+code_of (causes.Memory want) = codes "A5"
 
 abbrev pub shown : AsmFault → List ℕ
 shown a = codes "line " ++ (decimal a.line ++ (codes ": " ++ code_of a.cause))
@@ -31,7 +31,7 @@ rank causes.DuplicateLabel = 2
 rank causes.Directive = 3
 rank causes.Limit = 4
 rank causes.Annotation = 5
-rank causes.Memory = 6
+rank (causes.Memory want) = 6
 
 abbrev pub is_earlier : AsmFault → AsmFault → Bool
 is_earlier a b = nat_lt a.line b.line || (a.line == b.line && nat_lt (rank a.cause) (rank b.cause))

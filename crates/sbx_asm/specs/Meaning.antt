@@ -5,6 +5,7 @@ use Rattle.std.specs.List.{fold}
 use Rattle.sbx_image.specs.declared.fault.ImageFault.{ImageFault}
 use Rattle.sbx_image.specs.declared.parts.Parts.{Parts}
 use Rattle.sbx_image.specs.Rules.{parts_keep}
+use Rattle.want.specs.Wants.{refused}
 use Rattle.sbx_asm.specs.declared.fault.AsmFault.{AsmFault}
 use Rattle.sbx_asm.specs.declared.fault.Cause.TheVariants as causes
 use Rattle.sbx_asm.specs.declared.draft.Draft.{Draft}
@@ -56,4 +57,4 @@ source_image source = image_in (length (lines_of source) + 1) (close_function (d
 
 -- what a call gives is this, but want of memory, told at line 0, may stand in the place of any answer
 abbrev pub Gives : Result Parts AsmFault → Result Parts AsmFault → Type 0
-Gives result meant = MatchResult result (λ p. meant ≡ Ok p) (λ f. (f ≡ at 0 causes.Memory) ⊎ (meant ≡ Err f))
+Gives result meant = MatchResult result (λ p. meant ≡ Ok p) (λ f. (f ≡ at 0 (causes.Memory refused)) ⊎ (meant ≡ Err f))

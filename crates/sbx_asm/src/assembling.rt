@@ -78,6 +78,6 @@ pub fn assemble(alloc: Global, source: &[u8]) -> Result<Image, AsmFault>
 {
     match draft_of(alloc, source) {
         Ok((draft, count)) => finish(count + 1, draft),
-        Err(AllocError) => Err(AsmFault::MEMORY),
+        Err(error) => Err(AsmFault::from(error)),
     }
 }

@@ -1,10 +1,14 @@
 //! Why a source has no image.
 ghost use Rattle.std.specs.Prelude.{◌≡◌, Some};
-ghost use Rattle.sbx_asm.specs.Faults.{code_of, shown, rank, is_earlier, told};
+ghost use Rattle.sbx_asm.specs.Faults.{at, code_of, shown, rank, is_earlier, told};
+ghost use Rattle.sbx_asm.specs.declared.fault.Cause.TheVariants.{Memory};
+ghost use Rattle.want.specs.Wants.{refused};
 
 use sbx_text::TextFault;
+use std::alloc::AllocError;
 use std::fmt::{self, Error, Formatter, Write};
 use v8_syntax::SyntaxFault;
+use want::Want;
 
 /// What is wrong at a line. Shown as `X1` to `X4`, `S1` to `S5`, or `A1` to `A5`, the last five in this order.
 #[derive(Clone, Copy, Debug, PartialEq, Eq)]
@@ -22,7 +26,7 @@ pub enum Cause {
     /// An annotation out of place.
     Annotation,
     /// Memory was refused.
-    Memory,
+    Memory(Want),
 }
 
 /// A cause, and the line where it is told, from 1; 0 for want of memory.
@@ -32,12 +36,15 @@ pub struct AsmFault {
     pub cause: Cause,
 }
 
-impl AsmFault {
-    /// Want of memory.
-    pub const MEMORY: AsmFault = AsmFault {
-        line: 0,
-        cause: Cause::Memory,
-    };
+impl From<AllocError> for AsmFault {
+    ghost from_gives = { λ _ fault. fault ≡ at 0 (Memory refused) };
+
+    fn from(error: AllocError) -> AsmFault {
+        AsmFault {
+            line: 0,
+            cause: Cause::Memory(Want::from(error)),
+        }
+    }
 }
 
 impl fmt::Display for Cause {
@@ -51,7 +58,7 @@ impl fmt::Display for Cause {
             Cause::Directive => f.write_str("A2"),
             Cause::Limit => f.write_str("A3"),
             Cause::Annotation => f.write_str("A4"),
-            Cause::Memory => f.write_str("A5"),
+            Cause::Memory(_) => f.write_str("A5"),
         }
     }
 }
@@ -77,7 +84,7 @@ fn rank(cause: Cause) -> u8
         Cause::Directive => 3,
         Cause::Limit => 4,
         Cause::Annotation => 5,
-        Cause::Memory => 6,
+        Cause::Memory(_) => 6,
     }
 }
 

@@ -54,6 +54,6 @@ pub fn finish(after: usize, draft: Draft) -> Result<Image, AsmFault>
     }
     match parts_of(draft) {
         Ok(parts) => image_of(after, parts),
-        Err(AllocError) => Err(AsmFault::MEMORY),
+        Err(error) => Err(AsmFault::from(error)),
     }
 }

@@ -12,7 +12,7 @@ pub fn read_tokens(alloc: Global, line: &[u8]) -> Result<Result<Vec<Token>, Text
     match tokens(alloc, line) {
         Ok(found) => Ok(Ok(found)),
         Err(fault) => match fault {
-            TextFault::Memory => Err(AllocError),
+            TextFault::Memory(want) => Err(AllocError::from(want)),
             TextFault::NotAscii => Ok(Err(TextFault::NotAscii)),
             TextFault::BadCharacter => Ok(Err(TextFault::BadCharacter)),
             TextFault::NumberTooLarge => Ok(Err(TextFault::NumberTooLarge)),

@@ -72,7 +72,7 @@ impl Draft {
                 self.block.begun = true;
             }
             Err(DataFault::Malformed) => self.note(Cause::Directive),
-            Err(DataFault::Memory) => return Err(AllocError),
+            Err(DataFault::Memory(want)) => return Err(AllocError::from(want)),
         }
         Ok(())
     }

@@ -2,6 +2,7 @@
 ghost use Rattle.std.specs.Prelude.{◌≡◌, ◌⊎◌, length, IfErr, IfOk};
 ghost use Rattle.sbx_image.specs.declared.fault.ImageFault.TheVariants as fault_of;
 ghost use Rattle.sbx_bench.specs.Images.{image_of, IsCodeLength};
+ghost use Rattle.want.specs.Wants.{refused};
 
 use sbx_image::{Block, Function, Image, ImageFault, Items, Kind, Parts, Services};
 use std::alloc::{AllocError, Global};
@@ -71,11 +72,12 @@ fn parts(alloc: Global, words: &[u32]) -> Result<Parts, AllocError>
 /// The image of these words, 1 to 65,536 of them, else `Limit`. `Memory` may come in the place of either.
 pub fn image(alloc: Global, words: &[u32]) -> Result<Image, ImageFault>
     ensures made { IfOk result (λ image. (image ≡ image_of words.now) × IsCodeLength (length words.now)) }
-    ensures fault { IfErr result (λ fault. (fault ≡ fault_of.Memory)
+    ensures fault { IfErr result (λ fault. (fault ≡ fault_of.Memory refused)
         ⊎ ((fault ≡ fault_of.Limit) × (IsCodeLength (length words.now) → ⊥))) }
 {
-    let Ok(parts) = parts(alloc, words) else {
-        return Err(ImageFault::Memory);
+    let parts = match parts(alloc, words) {
+        Ok(parts) => parts,
+        Err(error) => return Err(ImageFault::from(error)),
     };
     match Image::from_parts(parts) {
         Ok(image) => Ok(image),

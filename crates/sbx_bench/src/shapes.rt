@@ -31,8 +31,9 @@ impl Shape {
 
     /// An image of the shape, of so many of its parts.
     pub fn image(self, alloc: Global, count: u16) -> Result<Image, ImageFault> {
-        let Ok(parts) = self.parts(alloc, count) else {
-            return Err(ImageFault::Memory);
+        let parts = match self.parts(alloc, count) {
+            Ok(parts) => parts,
+            Err(error) => return Err(ImageFault::from(error)),
         };
         match Image::from_parts(parts) {
             Ok(image) => Ok(image),

@@ -6,7 +6,7 @@ use Rattle.sbx_image.specs.Spelling.{spelling}
 use Rattle.sbx_asm.specs.declared.fault.AsmFault.{AsmFault}
 use Rattle.sbx_asm.specs.Meaning.{source_image}
 use Rattle.sbx_command.specs.declared.stops.Stop.{Stop}
-use Rattle.sbx_command.specs.declared.stops.Stop.TheVariants.{Source, Image, Refused, File, Input, Output, Memory}
+use Rattle.sbx_command.specs.declared.stops.Stop.TheVariants.{Source, Image, Refused, File, Input, Output, Memory, NoRoom}
 use Rattle.sbx_command.specs.Stops.{IsTrueOfSource, IsRefusal}
 use Rattle.sbx_command.specs.Verdicts.{IsSource, Assembled, FitsItsFields}
 
@@ -22,7 +22,8 @@ source_stops (Refused refusal) bytes refuses told source = told
 source_stops File bytes refuses told source = absurd refuses
 source_stops Input bytes refuses told source = absurd refuses
 source_stops Output bytes refuses told source = absurd refuses
-source_stops Memory bytes refuses told source = absurd refuses
+source_stops (Memory want) bytes refuses told source = absurd refuses
+source_stops NoRoom bytes refuses told source = absurd refuses
 
 -- the spelling of the image of the known bytes of a file
 pub assembled_on : (file old new : Option (List ℕ)) (parts : Parts) (object : List ℕ) → IfSome file (λ bytes. source_image bytes ≡ Ok parts)

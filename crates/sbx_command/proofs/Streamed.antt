@@ -15,7 +15,7 @@ use Rattle.sbx_run.specs.RunFault.TheVariants as runs
 use Rattle.sbx_stream.specs.Streams.{IsAnswerWritten, IsFront, IsStreamed}
 use Rattle.sbx_command.specs.Laws.{KnownInputsAreAnswered}
 use Rattle.sbx_command.specs.declared.stops.Stop.{Stop}
-use Rattle.sbx_command.specs.declared.stops.Stop.TheVariants.{Source, Image, Refused, File, Input, Output, Memory}
+use Rattle.sbx_command.specs.declared.stops.Stop.TheVariants.{Source, Image, Refused, File, Input, Output, Memory, NoRoom}
 use Rattle.sbx_command.specs.Stops.{IsEarly, IsRefusal, IsTrueOf, stop_of_run}
 use Rattle.sbx_command.specs.Streaming.{HasFront, HasNothing, Leaves, LeavesOn, Left, OfAccepted, Ran, RanOn, RunGives, status_of_word}
 use Rattle.sbx_command.proofs.Verdicts.{appends_kept}
@@ -65,7 +65,7 @@ fault_leaves parts runs.Reader read met written front =
     let (rest, status, path, behaves, says) = front [] (none_beyond met) in
     (says, λ j more. let f = front j more in (f.0, f.1, f.2, f.3))
 fault_leaves parts runs.Writer read met written front = λ j more. let f = front j more in (f.0, f.1, f.2, f.3)
-fault_leaves parts runs.Memory read met written front =
+fault_leaves parts (runs.Memory want) read met written front =
     let (rest, status, path, behaves, says) = front [] (none_beyond met) in
     says
 
@@ -90,11 +90,12 @@ leaves_of : (file : Option (List ℕ)) (parts : Parts) (stop : Stop) (read : Lis
     → LeavesOn parts stop read met written → Leaves file stop read met written
 leaves_of file parts Input read met written accepted so = of_accepted (λ parts. (met ≡ false) × HasFront parts read met written) file parts accepted so
 leaves_of file parts Output read met written accepted so = of_accepted (λ parts. HasFront parts read met written) file parts accepted so
-leaves_of file parts Memory read met written accepted so = so
+leaves_of file parts (Memory want) read met written accepted so = so
 leaves_of file parts (Source fault) read met written accepted so = absurd so
 leaves_of file parts (Image fault) read met written accepted so = absurd so
 leaves_of file parts (Refused refusal) read met written accepted so = absurd so
 leaves_of file parts File read met written accepted so = absurd so
+leaves_of file parts NoRoom read met written accepted so = absurd so
 
 pub left_of : (file a b c d : Option (List ℕ)) (parts : Parts) (stop : Stop) → IfSome file (λ bytes. (reading bytes ≡ Ok parts) × Checked parts)
     → Streamed a b c d (LeavesOn parts stop) → Left file a b c d stop
@@ -106,11 +107,12 @@ own_is_true : (parts : Parts) (stop : Stop) (read : List ℕ) (met : Bool) (writ
     → (bytes : List ℕ) → IsTrueOf stop bytes
 own_is_true parts Input read met written so bytes = tt
 own_is_true parts Output read met written so bytes = tt
-own_is_true parts Memory read met written so bytes = tt
+own_is_true parts (Memory want) read met written so bytes = tt
 own_is_true parts (Source fault) read met written so bytes = absurd so
 own_is_true parts (Image fault) read met written so bytes = absurd so
 own_is_true parts (Refused refusal) read met written so bytes = absurd so
 own_is_true parts File read met written so bytes = absurd so
+own_is_true parts NoRoom read met written so bytes = absurd so
 
 pub own_stop : (file a b c d : Option (List ℕ)) (parts : Parts) (stop : Stop) → Streamed a b c d (LeavesOn parts stop) → IfSome file (IsTrueOf stop)
 own_stop None a b c d parts stop left = tt
@@ -119,11 +121,12 @@ own_stop (Some bytes) a b c d parts stop (read, met, written, so, fit, got, all,
 own_refuses_none : (parts : Parts) (stop : Stop) (read : List ℕ) (met : Bool) (written : List ℕ) → LeavesOn parts stop read met written → IsRefusal stop → ⊥
 own_refuses_none parts Input read met written so refuses = refuses
 own_refuses_none parts Output read met written so refuses = refuses
-own_refuses_none parts Memory read met written so refuses = refuses
+own_refuses_none parts (Memory want) read met written so refuses = refuses
 own_refuses_none parts (Source fault) read met written so refuses = so
 own_refuses_none parts (Image fault) read met written so refuses = so
 own_refuses_none parts (Refused refusal) read met written so refuses = so
 own_refuses_none parts File read met written so refuses = so
+own_refuses_none parts NoRoom read met written so refuses = so
 
 pub own_untouched : (a b c d : Option (List ℕ)) (parts : Parts) (stop : Stop) → Streamed a b c d (LeavesOn parts stop) → IsRefusal stop → ⊥
 own_untouched a b c d parts stop (read, met, written, so, fit, got, all, put) refuses = own_refuses_none parts stop read met written so refuses
@@ -136,7 +139,8 @@ nothing = (refl, refl, refl)
 early_leaves : (file : Option (List ℕ)) (stop : Stop) → IsEarly stop → Leaves file stop [] false []
 early_leaves file Input early = absurd early
 early_leaves file Output early = absurd early
-early_leaves file Memory early = nothing
+early_leaves file (Memory want) early = nothing
+early_leaves file NoRoom early = absurd early
 early_leaves file (Source fault) early = nothing
 early_leaves file (Image fault) early = nothing
 early_leaves file (Refused refusal) early = nothing

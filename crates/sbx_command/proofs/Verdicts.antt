@@ -8,7 +8,7 @@ use Rattle.sbx_rules.specs.Verdicts.{Checked, IsFirst}
 use Rattle.sbx_command.specs.declared.jobs.Job.{Job}
 use Rattle.sbx_command.specs.declared.jobs.Job.TheVariants.{Asm, Verify, Run, List as Listing, Trace}
 use Rattle.sbx_command.specs.declared.stops.Stop.{Stop}
-use Rattle.sbx_command.specs.declared.stops.Stop.TheVariants.{Source, Image, Refused, File, Input, Output, Memory}
+use Rattle.sbx_command.specs.declared.stops.Stop.TheVariants.{Source, Image, Refused, File, Input, Output, Memory, NoRoom}
 use Rattle.sbx_command.specs.Stops.{IsRefusal, IsTrueOf, IsTrueOfImage, status_of}
 use Rattle.sbx_command.proofs.Sources.{source_stops}
 use Rattle.sbx_command.specs.Verdicts.{Traced, WroteTrace, Deserves, IsAccepted, IsImage, IsTold, StopsFor}
@@ -38,7 +38,8 @@ image_stop (Refused refusal) bytes refuses told image = told
 image_stop File bytes refuses told image = absurd refuses
 image_stop Input bytes refuses told image = absurd refuses
 image_stop Output bytes refuses told image = absurd refuses
-image_stop Memory bytes refuses told image = absurd refuses
+image_stop (Memory want) bytes refuses told image = absurd refuses
+image_stop NoRoom bytes refuses told image = absurd refuses
 
 pub rule_stop : (stop : Stop) (bytes : List ℕ) → IsRefusal stop → IsTrueOf stop bytes → IsAccepted bytes → ⊥
 rule_stop (Source fault) bytes refuses told accepted = told
@@ -48,7 +49,8 @@ rule_stop (Refused refusal) bytes refuses told accepted =
 rule_stop File bytes refuses told accepted = absurd refuses
 rule_stop Input bytes refuses told accepted = absurd refuses
 rule_stop Output bytes refuses told accepted = absurd refuses
-rule_stop Memory bytes refuses told accepted = absurd refuses
+rule_stop (Memory want) bytes refuses told accepted = absurd refuses
+rule_stop NoRoom bytes refuses told accepted = absurd refuses
 
 pub told_is_refused : (job : Job) (stop : Stop) (bytes : List ℕ) → IsRefusal stop → IsTold job stop bytes → Deserves job bytes → ⊥
 told_is_refused (Asm source object) stop bytes refuses told deserved = source_stops stop bytes refuses told deserved

@@ -7,4 +7,4 @@ use Rattle.sbx_command.specs.declared.reading.ReadFault.TheVariants.{Reader, Too
 abbrev pub Explains : ReadFault → ℕ → Option (List ℕ) → Type 0
 Explains TooLong most left = IfSome left (λ all. most < length all)
 Explains Reader most left = Unit {0}
-Explains Memory most left = Unit {0}
+Explains (Memory want) most left = Unit {0}

@@ -15,7 +15,7 @@ use Rattle.sbx_run.specs.RunFault.TheVariants as runs
 use Rattle.sbx_rules.specs.Verdicts.{IsFirst}
 use Rattle.sbx_image.specs.declared.parts.Parts.{Parts}
 use Rattle.sbx_command.specs.declared.stops.Stop.{Stop}
-use Rattle.sbx_command.specs.declared.stops.Stop.TheVariants.{Source, Image, Refused, File, Input, Output, Memory}
+use Rattle.sbx_command.specs.declared.stops.Stop.TheVariants.{Source, Image, Refused, File, Input, Output, Memory, NoRoom}
 
 -- 2 says that the bytes are at fault, 4 that the system is, 5 that memory is used up
 abbrev pub status_of : Stop → ℕ
@@ -25,7 +25,8 @@ status_of (Refused refusal) = 2
 status_of File = 4
 status_of Input = 4
 status_of Output = 4
-status_of Memory = 5
+status_of (Memory want) = 5
+status_of NoRoom = 5
 
 -- The bytes of the file are at fault. The other stops tell of the system or of memory.
 abbrev pub IsRefusal : Stop → Type 0
@@ -35,7 +36,8 @@ IsRefusal (Refused refusal) = Unit {0}
 IsRefusal File = ⊥
 IsRefusal Input = ⊥
 IsRefusal Output = ⊥
-IsRefusal Memory = ⊥
+IsRefusal (Memory want) = ⊥
+IsRefusal NoRoom = ⊥
 
 -- the stops up to the verdict, which is before any input or output
 abbrev pub IsEarly : Stop → Type 0
@@ -45,7 +47,8 @@ IsEarly (Refused refusal) = Unit {0}
 IsEarly File = Unit {0}
 IsEarly Input = ⊥
 IsEarly Output = ⊥
-IsEarly Memory = Unit {0}
+IsEarly (Memory want) = Unit {0}
+IsEarly NoRoom = ⊥
 
 -- the line on standard error
 abbrev pub line_of : Stop → List ℕ
@@ -55,15 +58,16 @@ line_of (Refused refusal) = rules.shown refusal
 line_of File = codes "file"
 line_of Input = codes "input"
 line_of Output = codes "output"
-line_of Memory = codes "memory"
+line_of (Memory want) = codes "memory"
+line_of NoRoom = codes "memory"
 
 -- want of memory is told as such, whichever part met it
 abbrev pub stop_of_image : ImageFault → Stop
-stop_of_image fault.Memory = Memory
+stop_of_image (fault.Memory want) = Memory want
 stop_of_image other = Image other
 
 abbrev pub source_stop : Cause → AsmFault → Stop
-source_stop causes.Memory fault = Memory
+source_stop (causes.Memory want) fault = Memory want
 source_stop (causes.Text f) fault = Source fault
 source_stop (causes.Syntax f) fault = Source fault
 source_stop causes.DuplicateLabel fault = Source fault
@@ -76,7 +80,7 @@ stop_of_source fault = source_stop fault.cause fault
 
 -- a run reads the input and writes the output
 abbrev pub stop_of_run : RunFault → Stop
-stop_of_run runs.Memory = Memory
+stop_of_run (runs.Memory want) = Memory want
 stop_of_run runs.Reader = Input
 stop_of_run runs.Writer = Output
 
@@ -88,7 +92,8 @@ IsTrueOfSource (Refused refusal) bytes = ⊥
 IsTrueOfSource File bytes = Unit {0}
 IsTrueOfSource Input bytes = Unit {0}
 IsTrueOfSource Output bytes = Unit {0}
-IsTrueOfSource Memory bytes = Unit {0}
+IsTrueOfSource (Memory want) bytes = Unit {0}
+IsTrueOfSource NoRoom bytes = Unit {0}
 
 -- what is told of an image and of the rules holds of the bytes of the file
 abbrev pub IsTrueOf : Stop → List ℕ → Type 0
@@ -98,7 +103,8 @@ IsTrueOf (Refused refusal) bytes = (parts : Parts) × (reading bytes ≡ Ok part
 IsTrueOf File bytes = Unit {0}
 IsTrueOf Input bytes = Unit {0}
 IsTrueOf Output bytes = Unit {0}
-IsTrueOf Memory bytes = Unit {0}
+IsTrueOf (Memory want) bytes = Unit {0}
+IsTrueOf NoRoom bytes = ⊥
 
 -- the same where no rule is looked at
 abbrev pub IsTrueOfImage : Stop → List ℕ → Type 0
@@ -108,4 +114,5 @@ IsTrueOfImage (Refused refusal) bytes = ⊥
 IsTrueOfImage File bytes = Unit {0}
 IsTrueOfImage Input bytes = Unit {0}
 IsTrueOfImage Output bytes = Unit {0}
-IsTrueOfImage Memory bytes = Unit {0}
+IsTrueOfImage (Memory want) bytes = Unit {0}
+IsTrueOfImage NoRoom bytes = ⊥

@@ -12,7 +12,7 @@ use Rattle.sbx_run.specs.declared.runner.Finished.{Finished}
 use Rattle.sbx_run.specs.RunFault.{RunFault}
 use Rattle.sbx_stream.specs.Streams.{IsAnswerWritten, IsFront, IsStreamed}
 use Rattle.sbx_command.specs.declared.stops.Stop.{Stop}
-use Rattle.sbx_command.specs.declared.stops.Stop.TheVariants.{Source, Image, Refused, File, Input, Output, Memory}
+use Rattle.sbx_command.specs.declared.stops.Stop.TheVariants.{Source, Image, Refused, File, Input, Output, Memory, NoRoom}
 
 -- 0 where the exit word is 0, else 1
 abbrev pub status_of_word : ℕ → ℕ
@@ -65,11 +65,12 @@ HasNothing read met written = (read ≡ []) × (met ≡ false) × (written ≡ [
 abbrev pub LeavesOn : Parts → Stop → List ℕ → Bool → List ℕ → Type 0
 LeavesOn parts Input read met written = (met ≡ false) × HasFront parts read met written
 LeavesOn parts Output read met written = HasFront parts read met written
-LeavesOn parts Memory read met written = HasNothing read met written
+LeavesOn parts (Memory want) read met written = HasNothing read met written
 LeavesOn parts (Source fault) read met written = ⊥
 LeavesOn parts (Image fault) read met written = ⊥
 LeavesOn parts (Refused refusal) read met written = ⊥
 LeavesOn parts File read met written = ⊥
+LeavesOn parts NoRoom read met written = ⊥
 
 -- the image that the bytes of the file spell is accepted, and it is so of that image
 abbrev pub OfAccepted : (Parts → Type 0) → Option (List ℕ) → Type 0
@@ -80,11 +81,12 @@ OfAccepted P file = IfSome file (λ bytes. (parts : Parts) × (reading bytes ≡
 abbrev pub Leaves : Option (List ℕ) → Stop → List ℕ → Bool → List ℕ → Type 0
 Leaves file Input read met written = OfAccepted (λ parts. (met ≡ false) × HasFront parts read met written) file
 Leaves file Output read met written = OfAccepted (λ parts. HasFront parts read met written) file
-Leaves file Memory read met written = HasNothing read met written
+Leaves file (Memory want) read met written = HasNothing read met written
 Leaves file (Source fault) read met written = HasNothing read met written
 Leaves file (Image fault) read met written = HasNothing read met written
 Leaves file (Refused refusal) read met written = HasNothing read met written
 Leaves file File read met written = HasNothing read met written
+Leaves file NoRoom read met written = ⊥
 
 -- of what was read of the input, and written to the output
 abbrev pub Left : Option (List ℕ) → Option (List ℕ) → Option (List ℕ) → Option (List ℕ) → Option (List ℕ) → Stop → Type 0

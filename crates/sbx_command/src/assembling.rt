@@ -11,8 +11,9 @@ use crate::reading::{MOST, ReadFault, read_whole};
 use crate::stops::Stop;
 use sbx_asm::assemble;
 use sbx_image::{Image, write};
-use std::alloc::{AllocError, Global};
+use std::alloc::Global;
 use std::io::{ErrorKind, Read, Write};
+use want::Want;
 
 /// Tells that bytes are bytes.
 fn tells_bytes(bytes: &[u8])
@@ -36,7 +37,7 @@ fn source_in<F: Read>(alloc: Global, file: &mut F) -> Result<Image, Stop>
 {
     let source = match read_whole(alloc, file, MOST) {
         Ok(source) => source,
-        Err(ReadFault::Memory) => return Err(Stop::Memory),
+        Err(ReadFault::Memory(want)) => return Err(Stop::Memory(want)),
         Err(ReadFault::Reader | ReadFault::TooLong) => return Err(Stop::File),
     };
     Ok(assemble(alloc, source.as_slice())?)
@@ -46,11 +47,11 @@ fn source_in<F: Read>(alloc: Global, file: &mut F) -> Result<Image, Stop>
 #[tactic(auto, using(crate::proofs::Verdicts::appends_kept))]
 fn store<O: Write>(out: &mut O, bytes: &[u8]) -> Result<(), Stop>
     ensures bytes { OnOk result (Appends (O.contents out.old) (O.contents out.new) bytes.now) }
-    ensures stop { IfErr result (λ stop. (stop ≡ Stop.Output) ⊎ (stop ≡ Stop.Memory)) }
+    ensures stop { IfErr result (λ stop. (stop ≡ Stop.Output) ⊎ (stop ≡ Stop.NoRoom)) }
 {
     match out.write_all(bytes) {
         Ok(()) => {}
-        Err(error) if error.kind() == ErrorKind::OutOfMemory => return Err(Stop::Memory),
+        Err(error) if error.kind() == ErrorKind::OutOfMemory => return Err(Stop::NoRoom),
         Err(_) => return Err(Stop::Output),
     }
     match out.flush() {
@@ -75,6 +76,6 @@ pub fn assemble_file<F: Read, O: Write>(
     tells_fields(&image);
     match write(&image, alloc) {
         Ok(bytes) => store(out, bytes.as_slice()),
-        Err(AllocError) => Err(Stop::Memory),
+        Err(error) => Err(Stop::Memory(Want::from(error))),
     }
 }

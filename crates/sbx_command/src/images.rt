@@ -17,7 +17,7 @@ pub fn image_in<F: Read>(alloc: Global, file: &mut F) -> Result<Image, Stop>
 {
     let bytes = match read_whole(alloc, file, MOST) {
         Ok(bytes) => bytes,
-        Err(ReadFault::Memory) => return Err(Stop::Memory),
+        Err(ReadFault::Memory(want)) => return Err(Stop::Memory(want)),
         Err(ReadFault::Reader | ReadFault::TooLong) => return Err(Stop::File),
     };
     Ok(parse(alloc, bytes.as_slice())?)

@@ -5,6 +5,7 @@ ghost use Rattle.sbx_command.specs.Reading.{Explains};
 
 use std::alloc::Global;
 use std::io::Read;
+use want::Want;
 
 /// The most bytes that a file, or the input of a trace, may have.
 pub const MOST: usize = 16_777_216;
@@ -17,7 +18,7 @@ pub enum ReadFault {
     /// There are more bytes than the bound allows.
     TooLong,
     /// No memory was left for the bytes.
-    Memory,
+    Memory(Want),
 }
 
 /// All bytes that a reader has left, if they are at most `most`.
@@ -38,8 +39,9 @@ pub fn read_whole<R: Read>(alloc: Global, from: &mut R, most: usize) -> Result<V
         if count > most - bytes.len() {
             return Err(ReadFault::TooLong);
         }
-        if bytes.extend_from_slice(&piece[..count]).is_err() {
-            return Err(ReadFault::Memory);
+        match bytes.extend_from_slice(&piece[..count]) {
+            Ok(()) => {}
+            Err(error) => return Err(ReadFault::Memory(Want::from(error))),
         }
     }
     Err(ReadFault::Reader)

@@ -8,6 +8,7 @@ use sbx_run::RunFault;
 use sbx_verify::Refusal;
 use std::fmt::{self, Display, Formatter, Write};
 use std::io;
+use want::Want;
 
 /// Why a command stops before its job is done. Its text is its line on standard error.
 #[derive(Clone, Copy, Debug, PartialEq, Eq)]
@@ -24,8 +25,10 @@ pub enum Stop {
     Input,
     /// The output can't be written.
     Output,
-    /// Memory is used up.
-    Memory,
+    /// Memory was refused.
+    Memory(Want),
+    /// There was no room for a file or a stream, as its fault of the kind `OutOfMemory` tells, which holds no evidence of that.
+    NoRoom,
 }
 
 impl Stop {
@@ -37,7 +40,7 @@ impl Stop {
         match self {
             Stop::Source(_) | Stop::Image(_) | Stop::Refused(_) => 2,
             Stop::File | Stop::Input | Stop::Output => 4,
-            Stop::Memory => 5,
+            Stop::Memory(_) | Stop::NoRoom => 5,
         }
     }
 
@@ -61,7 +64,7 @@ impl Display for Stop {
             Stop::File => f.write_str("file"),
             Stop::Input => f.write_str("input"),
             Stop::Output => f.write_str("output"),
-            Stop::Memory => f.write_str("memory"),
+            Stop::Memory(_) | Stop::NoRoom => f.write_str("memory"),
         }
     }
 }
@@ -71,7 +74,7 @@ impl From<ImageFault> for Stop {
 
     fn from(fault: ImageFault) -> Stop {
         match fault {
-            ImageFault::Memory => Stop::Memory,
+            ImageFault::Memory(want) => Stop::Memory(want),
             fault => Stop::Image(fault),
         }
     }
@@ -82,7 +85,7 @@ impl From<AsmFault> for Stop {
 
     fn from(fault: AsmFault) -> Stop {
         match fault.cause {
-            Cause::Memory => Stop::Memory,
+            Cause::Memory(want) => Stop::Memory(want),
             _ => Stop::Source(fault),
         }
     }
@@ -93,7 +96,7 @@ impl From<RunFault> for Stop {
 
     fn from(fault: RunFault) -> Stop {
         match fault {
-            RunFault::Memory => Stop::Memory,
+            RunFault::Memory(want) => Stop::Memory(want),
             RunFault::Reader => Stop::Input,
             RunFault::Writer => Stop::Output,
         }

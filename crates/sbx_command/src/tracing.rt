@@ -19,7 +19,7 @@ fn input_of<I: Read>(alloc: Global, input: &mut I) -> Result<Vec<u8>, Stop>
 {
     match read_whole(alloc, input, MOST) {
         Ok(bytes) => Ok(bytes),
-        Err(ReadFault::Memory) => Err(Stop::Memory),
+        Err(ReadFault::Memory(want)) => Err(Stop::Memory(want)),
         Err(ReadFault::Reader | ReadFault::TooLong) => Err(Stop::Input),
     }
 }

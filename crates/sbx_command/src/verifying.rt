@@ -23,8 +23,10 @@ pub fn accepted_in<F: Read>(alloc: Global, file: &mut F) -> Result<Accepted, Sto
     let image = image_in(alloc, file)?;
     match verify(alloc, image) {
         Ok(accepted) => Ok(accepted),
-        Err((_image, refusal)) if refusal.cause == Cause::NoMemory => Err(Stop::Memory),
-        Err((_image, refusal)) => Err(Stop::Refused(refusal)),
+        Err((_image, refusal)) => match refusal.cause {
+            Cause::NoMemory(want) => Err(Stop::Memory(want)),
+            _ => Err(Stop::Refused(refusal)),
+        },
     }
 }
 

@@ -203,7 +203,7 @@ fn is_answered(alloc: Global, case: &Case<'_>) -> bool {
 /// What is read of a reader that fails at a call. Where a growth was refused, it is read once more.
 fn read(alloc: Global, bytes: &[u8], most: usize, fails: usize) -> Result<Vec<u8>, ReadFault> {
     match read_whole(alloc, &mut Reader::new(bytes, fails), most) {
-        Err(ReadFault::Memory) => read_whole(alloc, &mut Reader::new(bytes, fails), most),
+        Err(ReadFault::Memory(_)) => read_whole(alloc, &mut Reader::new(bytes, fails), most),
         first => first,
     }
 }

@@ -8,6 +8,7 @@ use Rattle.sbx_directives.specs.declared.directive.Width.{Width}
 use Rattle.sbx_directives.specs.declared.directive.Width.TheVariants as widths
 use Rattle.sbx_directives.specs.declared.fault.DataFault.{DataFault}
 use Rattle.sbx_directives.specs.declared.fault.DataFault.TheVariants.{UnknownSymbol, Malformed, Memory}
+use Rattle.want.specs.Wants.{refused}
 use Rattle.sbx_directives.specs.declared.operand.Operand.{Operand}
 use Rattle.sbx_directives.specs.declared.operand.Operand.TheVariants as operands
 use Rattle.sbx_directives.specs.Lines.{text_of}
@@ -84,4 +85,4 @@ module _ (values : List ℕ → Option ℕ) (line : List ℕ) where
 
 -- what a call gives is this, but want of memory may stand in the place of any answer
 abbrev pub Gives : Result (Unit {0}) DataFault → List ℕ → List ℕ → Result (List ℕ) DataFault → Type 0
-Gives result old new meant = MatchResult result (λ _. (bytes : List ℕ) × (meant ≡ Ok bytes) × (new ≡ old ++ bytes)) (λ e. (e ≢ Memory → meant ≡ Err e) × (new ≡ old))
+Gives result old new meant = MatchResult result (λ _. (bytes : List ℕ) × (meant ≡ Ok bytes) × (new ≡ old ++ bytes)) (λ e. (e ≢ Memory refused → meant ≡ Err e) × (new ≡ old))

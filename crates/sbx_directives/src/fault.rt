@@ -1,8 +1,10 @@
 // Why the values of a data directive have no bytes.
 ghost use Rattle.std.specs.Prelude.{◌≡◌};
 ghost use Rattle.sbx_directives.specs.declared.fault.DataFault.TheVariants.{Memory};
+ghost use Rattle.want.specs.Wants.{refused};
 
 use std::alloc::{AllocError, AllocFailed};
+use want::Want;
 
 /// Why the values of a data directive have no bytes. An unknown symbol is told before a value that does not fit.
 #[derive(Clone, Copy, PartialEq, Eq, Debug)]
@@ -10,21 +12,22 @@ pub enum DataFault {
     UnknownSymbol,
     /// The list is none of expressions, or a value does not fit the width.
     Malformed,
-    Memory,
+    /// Memory was refused.
+    Memory(Want),
 }
 
 impl From<AllocError> for DataFault {
-    ghost from_gives = { λ _ e. e ≡ Memory };
+    ghost from_gives = { λ _ e. e ≡ Memory refused };
 
-    fn from(_e: AllocError) -> DataFault {
-        DataFault::Memory
+    fn from(error: AllocError) -> DataFault {
+        DataFault::Memory(Want::from(error))
     }
 }
 
 impl<T: Drop> From<AllocFailed<T>> for DataFault {
-    ghost from_gives = { λ _ e. e ≡ Memory };
+    ghost from_gives = { λ _ e. e ≡ Memory refused };
 
-    fn from(_e: AllocFailed<T>) -> DataFault {
-        DataFault::Memory
+    fn from(failed: AllocFailed<T>) -> DataFault {
+        DataFault::Memory(Want::from(failed))
     }
 }

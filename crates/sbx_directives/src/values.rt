@@ -224,9 +224,9 @@ pub fn push_values<S: Symbols>(
     let before = out.len();
     match push_all(width, symbols, line, values, out) {
         Ok(()) => Ok(()),
-        Err(AllocError) => {
+        Err(error) => {
             out.truncate(before);
-            Err(DataFault::Memory)
+            Err(DataFault::from(error))
         }
     }
 }

@@ -3,6 +3,7 @@ use Rattle.std.specs.Prelude.{◌≡◌, ◌≢◌, ℕ, zero, suc, ◌+◌, ◌
 use Rattle.std.specs.Int.{Width, w8, w16, w32, w64, byte_len, from_be_bytes, cast_signed}
 use Rattle.sbx_image.specs.declared.fault.ImageFault.{ImageFault}
 use Rattle.sbx_image.specs.declared.fault.ImageFault.TheVariants as fault
+use Rattle.want.specs.Wants.{refused}
 use Rattle.sbx_image.specs.declared.order.Next.{Next}
 use Rattle.sbx_image.specs.declared.order.Next.TheVariants.{Exactly, Above}
 use Rattle.sbx_image.specs.declared.heads.Header.{Header}
@@ -23,7 +24,7 @@ use Rattle.sbx_image.specs.Rules.{◌>>=◌, wants, between, code_start, admits,
 
 -- What a function returned, seen by view, is what reading gives, unless memory ran out.
 abbrev pub Gives : {X Y : Type 0} → (X → Y) → Result X ImageFault → Result Y ImageFault → Type 0
-Gives view result read = MatchResult result (λ x. read ≡ Ok (view x)) (λ e. e ≢ fault.Memory → read ≡ Err e)
+Gives view result read = MatchResult result (λ x. read ≡ Ok (view x)) (λ e. e ≢ fault.Memory refused → read ≡ Err e)
 
 -- an unsigned number
 abbrev pub number_at : Width → List ℕ → Result (ℕ × List ℕ) ImageFault

@@ -2,9 +2,11 @@
 ghost use Rattle.std.specs.Prelude.{◌≡◌, Some};
 ghost use Rattle.sbx_image.specs.declared.fault.ImageFault.TheVariants.{Memory};
 ghost use Rattle.sbx_image.specs.Faults.{code_of};
+ghost use Rattle.want.specs.Wants.{refused};
 
 use std::alloc::{AllocError, AllocFailed};
 use std::fmt::{self, Error, Formatter, Write};
+use want::Want;
 
 /// What is wrong with the first bad field of an image. It is written as `I1` to `I9`, in this order.
 #[derive(Clone, Copy, Debug, PartialEq, Eq)]
@@ -26,7 +28,7 @@ pub enum ImageFault {
     /// A range's ends are exchanged, or its alignment is above 3.
     Range,
     /// Memory was refused.
-    Memory,
+    Memory(Want),
 }
 
 impl fmt::Display for ImageFault {
@@ -42,23 +44,23 @@ impl fmt::Display for ImageFault {
             ImageFault::Trailing => "I6",
             ImageFault::Order => "I7",
             ImageFault::Range => "I8",
-            ImageFault::Memory => "I9",
+            ImageFault::Memory(_want) => "I9",
         })
     }
 }
 
 impl From<AllocError> for ImageFault {
-    ghost from_gives = { λ _ e. e ≡ Memory };
+    ghost from_gives = { λ _ e. e ≡ Memory refused };
 
-    fn from(_e: AllocError) -> ImageFault {
-        ImageFault::Memory
+    fn from(error: AllocError) -> ImageFault {
+        ImageFault::Memory(Want::from(error))
     }
 }
 
 impl<T: Drop> From<AllocFailed<T>> for ImageFault {
-    ghost from_gives = { λ _ e. e ≡ Memory };
+    ghost from_gives = { λ _ e. e ≡ Memory refused };
 
-    fn from(_e: AllocFailed<T>) -> ImageFault {
-        ImageFault::Memory
+    fn from(failed: AllocFailed<T>) -> ImageFault {
+        ImageFault::Memory(Want::from(failed))
     }
 }

@@ -27,7 +27,7 @@ const CALLS: [u8; 212] = [
 /// What is read of bytes. Where a growth was refused, they are read once more.
 fn read(alloc: Global, bytes: &[u8]) -> Result<Image, ImageFault> {
     match parse(alloc, bytes) {
-        Err(ImageFault::Memory) => parse(alloc, bytes),
+        Err(ImageFault::Memory(_)) => parse(alloc, bytes),
         first => first,
     }
 }

@@ -42,4 +42,4 @@ pub record IsAfter (parts : Parts) (s t : Sight) : Type 0 where
 abbrev pub IsReason : Parts → ℕ → ℕ → NotKnown → Type 0
 IsReason parts f address NoFunction = length parts.functions ≤ f
 IsReason parts f address NoWord = (f < length parts.functions) × HasNone parts f address
-IsReason parts f address NoMemory = (b : ℕ) × (i : ℕ) × IsAt parts f address b i
+IsReason parts f address (NoMemory want) = (b : ℕ) × (i : ℕ) × IsAt parts f address b i

@@ -11,6 +11,7 @@ use sbx_domain::State;
 use sbx_image::Image;
 use sbx_known::{Courses, Spot, courses_of, perform_on, return_to};
 use std::alloc::{AllocError, Global};
+use want::Want;
 
 /// A word, the ways on which it runs, and what is known before it on each.
 #[derive(Drop)]
@@ -33,7 +34,7 @@ pub enum NotKnown {
     /// No word of that function stands at the address.
     NoWord,
     /// Memory was refused for what is known at the word.
-    NoMemory,
+    NoMemory(Want),
 }
 
 /// The sight of a word, by the numbers of function, block and word. It fails where memory is refused.
@@ -86,7 +87,7 @@ pub fn known_at(
     };
     match sight_of(alloc, image, function, block, number) {
         Ok(sight) => Ok(sight),
-        Err(AllocError) => Err(NotKnown::NoMemory),
+        Err(error) => Err(NotKnown::NoMemory(Want::from(error))),
     }
 }
 

@@ -44,7 +44,7 @@ const L0: u16 = 16;
 
 fn read(alloc: Global, bytes: &[u8]) -> Result<Image, ImageFault> {
     match parse(alloc, bytes) {
-        Err(ImageFault::Memory) => parse(alloc, bytes),
+        Err(ImageFault::Memory(_)) => parse(alloc, bytes),
         first => first,
     }
 }
@@ -53,7 +53,7 @@ fn seen(alloc: Global, image: &Image, function: u16, address: u32) -> Result<Sig
     ensures { IfOk result (λ sight. IsSeen image.now sight) }
 {
     match known_at(alloc, image, function, address) {
-        Err(NotKnown::NoMemory) => known_at(alloc, image, function, address),
+        Err(NotKnown::NoMemory(_)) => known_at(alloc, image, function, address),
         first => first,
     }
 }

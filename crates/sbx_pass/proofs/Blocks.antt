@@ -2,6 +2,7 @@
 use Rattle.std.proofs.Common.{◌≡◌, ℕ, ◌+◌, ◌<◌, ◌≤◌, Bool, true, false, refl, subst, arith}
 use Rattle.std.specs.Prelude.{nat_lt}
 use Rattle.std.proofs.lemmas.Bool.Decides.{nat_tests}
+use Rattle.want.specs.Wants.{refused}
 use Rattle.sbx_image.specs.declared.parts.Parts.{Parts}
 use Rattle.sbx_rules.specs.declared.cause.Cause.{Cause}
 use Rattle.sbx_rules.specs.declared.cause.Cause.TheVariants.{BadShape, NoMemory}
@@ -12,11 +13,11 @@ use Rattle.sbx_pass.specs.Firsts.{AreKept, IsFirstOfBlock, IsLeastOf}
 
 -- each rule has a number from 1 on, and only want of memory, which no word breaks, has one from 19 on
 from_one : (cause : Cause) → 1 ≤ number_of cause
-from_one NoMemory = omega arith
+from_one (NoMemory want) = omega arith
 from_one _ = omega arith
 
-none_broken : (Broken : Cause → Type 0) → AreKept Broken 1 19 → (Broken NoMemory → ⊥) → (cause : Cause) → Broken cause → ⊥
-none_broken Broken kept memory NoMemory h = memory h
+none_broken : (Broken : Cause → Type 0) → AreKept Broken 1 19 → (Broken (NoMemory refused) → ⊥) → (cause : Cause) → Broken cause → ⊥
+none_broken Broken kept memory (NoMemory want) h = memory h
 none_broken Broken kept memory cause h = kept cause (omega arith) (omega arith) h
 
 not_so : (x : Bool) → (x ≡ true → ⊥) → x ≡ false

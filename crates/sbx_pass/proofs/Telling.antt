@@ -4,6 +4,7 @@ use Rattle.std.specs.Prelude.{slice_get, nat_lt}
 use Rattle.std.specs.Option.{option_or}
 use Rattle.std.specs.Bool.{then_some}
 use Rattle.std.proofs.lemmas.Bool.Decides.{nat_tests}
+use Rattle.want.specs.Wants.{refused}
 use Rattle.v8_meaning.specs.declared.operation.Operation.{Operation}
 use Rattle.sbx_image.specs.declared.parts.Function.{Function}
 use Rattle.sbx_rules.specs.declared.cause.Cause.{Cause}
@@ -13,7 +14,7 @@ use Rattle.sbx_rules.specs.Ways.{Visit}
 use Rattle.sbx_pass.specs.Firsts.{AreKept, Tells}
 
 or_memory : Option Cause → Cause
-or_memory None = NoMemory
+or_memory None = NoMemory refused
 or_memory (Some cause) = cause
 
 -- a rule by its number
@@ -40,7 +41,7 @@ numbered OutOfStack = refl
 numbered RunsPastEnd = refl
 numbered UnkeptResults = refl
 numbered BadEntry = refl
-numbered NoMemory = refl
+numbered (NoMemory want) = refl
 
 same_rule : (cause other : Cause) → number_of cause ≡ number_of other → cause ≡ other
 same_rule cause other e = sym (numbered cause) ∙ ap rule_of e ∙ numbered other

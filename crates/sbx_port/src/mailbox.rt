@@ -61,7 +61,7 @@ impl Mailbox {
             slot: None,
             calls: 0,
             failures: 0,
-            fault: PortFault::Memory,
+            fault: PortFault::Reader,
         }
     }
 

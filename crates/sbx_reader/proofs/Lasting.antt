@@ -229,7 +229,7 @@ lasting_is fault.Limit e p = (err_is _ _ p, λ q. absurd cc)
 lasting_is fault.Trailing e p = (err_is _ _ p, λ q. absurd cc)
 lasting_is fault.Order e p = (err_is _ _ p, λ q. absurd cc)
 lasting_is fault.Range e p = (err_is _ _ p, λ q. absurd cc)
-lasting_is fault.Memory e p = (err_is _ _ p, λ q. absurd cc)
+lasting_is (fault.Memory want) e p = (err_is _ _ p, λ q. absurd cc)
 
 told_is : (r : Result Parts ImageFault) (e : ImageFault) → told r ≡ Err e → (r ≡ Err e) × (e ≢ fault.Short)
 told_is (Ok parts) e p = absurd cc

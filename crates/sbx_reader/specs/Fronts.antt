@@ -15,7 +15,7 @@ lasting Limit = Err Limit
 lasting Trailing = Err Trailing
 lasting Order = Err Order
 lasting Range = Err Range
-lasting Memory = Err Memory
+lasting (Memory want) = Err (Memory want)
 
 abbrev pub told : Result Parts ImageFault → Result (Unit {0}) ImageFault
 told (Ok parts) = Ok tt

@@ -31,13 +31,13 @@ fn is_hello(alloc: Global, read: &Result<Image, ImageFault>) -> bool {
             Ok(text) => text.as_slice() == &HELLO[..],
             Err(AllocError) => true,
         },
-        Err(fault) => *fault == ImageFault::Memory,
+        Err(fault) => matches!(fault, ImageFault::Memory(_)),
     }
 }
 
 /// Whether bytes were taken; where a growth was refused, the answer says so.
 fn is_taken(fed: Result<(), ImageFault>) -> bool {
-    fed == Ok(()) || fed == Err(ImageFault::Memory)
+    matches!(&fed, Ok(()) | Err(ImageFault::Memory(_)))
 }
 
 /// Whether a fault is told by both calls; where a growth was refused, that is.
@@ -46,7 +46,7 @@ fn is_refused(reader: ImageReader, fed: Result<(), ImageFault>, wanted: ImageFau
         Ok(_) => return false,
         Err(fault) => fault,
     };
-    (fed == Err(wanted) || fed == Err(ImageFault::Memory)) && fed == Err(end)
+    (fed == Err(wanted) || matches!(&fed, Err(ImageFault::Memory(_)))) && fed == Err(end)
 }
 
 /// The byte at which a fault is told where bytes are fed one by one, and the fault, if the next piece gets it too.
@@ -66,7 +66,7 @@ fn told_of(alloc: Global, bytes: &[u8]) -> Option<(usize, ImageFault)> {
 /// Whether a fault is told at a byte. Where a growth was refused, the bytes are fed once more.
 fn is_told_at(alloc: Global, bytes: &[u8], at: usize, wanted: ImageFault) -> bool {
     let told = match told_of(alloc, bytes) {
-        Some((_, ImageFault::Memory)) => told_of(alloc, bytes),
+        Some((_, ImageFault::Memory(_))) => told_of(alloc, bytes),
         first => first,
     };
     match told {
@@ -148,7 +148,7 @@ fn each_cut_is_short_at_the_end_alone(rt: HostRuntime) {
         let mut reader = ImageReader::new(rt.alloc());
         assert!(rt; is_taken(reader.feed(&HELLO[..count])));
         let end = reader.finish();
-        assert!(rt; matches!(&end, Err(ImageFault::Short | ImageFault::Memory)));
+        assert!(rt; matches!(&end, Err(ImageFault::Short | ImageFault::Memory(_))));
     }
 }
 

@@ -6,6 +6,7 @@ use Rattle.std.proofs.lemmas.Bool.Decides.{nat_tests}
 use Rattle.v8_formats.specs.Table.{IsCanonical, lookup_unused, meaning, table}
 use Rattle.v8_meaning.specs.Admitted.{is_admitted}
 use Rattle.sbx_image.specs.declared.parts.Parts.{Parts}
+use Rattle.want.specs.Wants.{refused}
 use Rattle.sbx_rules.specs.declared.cause.Cause.{Cause}
 use Rattle.sbx_rules.specs.declared.cause.Cause.TheVariants.{NotAnInstruction, NotAdmitted, BadShape, BadBranch, BadCall, UndefinedRead, ReservedRegister, Misaligned, OutOfBounds, ZeroDivisor, TagOverflow, UndeclaredService, UnkeptCells, OutOfFuel, OutOfStack, RunsPastEnd, UnkeptResults, BadEntry, NoMemory}
 use Rattle.sbx_rules.specs.declared.cause.Refusal.{Refusal}
@@ -40,7 +41,7 @@ one_of false false false e (inr (inl h)) = cc
 one_of false false false e (inr (inr h)) = cc
 
 causes : List Cause
-causes = NotAnInstruction ∷ NotAdmitted ∷ BadShape ∷ BadBranch ∷ BadCall ∷ UndefinedRead ∷ ReservedRegister ∷ Misaligned ∷ OutOfBounds ∷ ZeroDivisor ∷ TagOverflow ∷ UndeclaredService ∷ UnkeptCells ∷ OutOfFuel ∷ OutOfStack ∷ RunsPastEnd ∷ UnkeptResults ∷ BadEntry ∷ NoMemory ∷ []
+causes = NotAnInstruction ∷ NotAdmitted ∷ BadShape ∷ BadBranch ∷ BadCall ∷ UndefinedRead ∷ ReservedRegister ∷ Misaligned ∷ OutOfBounds ∷ ZeroDivisor ∷ TagOverflow ∷ UndeclaredService ∷ UnkeptCells ∷ OutOfFuel ∷ OutOfStack ∷ RunsPastEnd ∷ UnkeptResults ∷ BadEntry ∷ NoMemory refused ∷ []
 
 and_left : (x y : Bool) → (x && y) ≡ true → x ≡ true
 and_left true y h = refl
@@ -78,7 +79,7 @@ every t h OutOfStack = one_all t causes 14 OutOfStack h refl
 every t h RunsPastEnd = one_all t causes 15 RunsPastEnd h refl
 every t h UnkeptResults = one_all t causes 16 UnkeptResults h refl
 every t h BadEntry = one_all t causes 17 BadEntry h refl
-every t h NoMemory = one_all t causes 18 NoMemory h refl
+every t h (NoMemory want) = one_all t causes 18 (NoMemory want) h refl
 
 below_is_tested : (n m : ℕ) (x : Bool) → n < m → not (nat_lt n m && x) ≡ true → x ≡ false
 below_is_tested n m x less e = grind (arith, nat_tests)
@@ -125,7 +126,7 @@ module _ (parts : Parts) (f b i : ℕ) where
   test_of RunsPastEnd = list_any (λ v. is_past v.way) (visits_at parts f b i)
   test_of UnkeptResults = list_any (λ v. is_back v.way && not (has_outs 8 (function_at parts f).results (now parts f b i v))) (visits_at parts f b i)
   test_of BadEntry = (f == 0) && ((is_entry b i && not (length (function_at parts f).params == 0)) || is_return (op_at parts f b i))
-  test_of NoMemory = false
+  test_of (NoMemory want) = false
 
   not_quiet : (cause : Cause) → test_of cause ≡ false → Holds parts f b i cause → (cause ≡ OutOfFuel) × LacksFuel parts f b i
   unfolding IsCanonical
@@ -147,7 +148,7 @@ module _ (parts : Parts) (f b i : ℕ) where
   not_quiet RunsPastEnd e h = absurd (refute (test_of RunsPastEnd) e h)
   not_quiet UnkeptResults e h = absurd (refute (test_of UnkeptResults) e h)
   not_quiet BadEntry e h = absurd (refute (test_of BadEntry) e h)
-  not_quiet NoMemory e h = absurd h
+  not_quiet (NoMemory want) e h = absurd h
 
   -- no test of a number below n tells
   unfoldable pub quiet_below : ℕ → Bool
@@ -194,7 +195,7 @@ module _ (parts : Parts) (f b i : ℕ) where
   few_causes RunsPastEnd = omega arith
   few_causes UnkeptResults = omega arith
   few_causes BadEntry = omega arith
-  few_causes NoMemory = omega arith
+  few_causes (NoMemory want) = omega arith
 
   -- a word at which no rule is broken
   pub no_rule : quiet_below 20 ≡ true → Lasts → (cause : Cause) → Holds parts f b i cause → ⊥

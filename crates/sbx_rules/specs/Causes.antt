@@ -24,7 +24,7 @@ number_of OutOfStack = 15
 number_of RunsPastEnd = 16
 number_of UnkeptResults = 17
 number_of BadEntry = 18
-number_of NoMemory = 19
+number_of (NoMemory want) = 19
 
 -- a rule is shown by its number
 abbrev pub shown_cause : Cause → List ℕ
@@ -46,7 +46,7 @@ shown_cause OutOfStack = codes "V15"
 shown_cause RunsPastEnd = codes "V16"
 shown_cause UnkeptResults = codes "V17"
 shown_cause BadEntry = codes "V18"
-shown_cause NoMemory = codes "V19"
+shown_cause (NoMemory want) = codes "V19"
 
 -- a word in hexadecimal, of eight digits
 abbrev pub eight_digits : ℕ → List ℕ

@@ -395,4 +395,4 @@ module _ (parts : Parts) (f b i : ℕ) where
   Holds RunsPastEnd = RunsPast
   Holds UnkeptResults = BreaksResults
   Holds BadEntry = IsBadEntry
-  Holds NoMemory = ⊥
+  Holds (NoMemory want) = ⊥

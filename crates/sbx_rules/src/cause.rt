@@ -3,6 +3,7 @@ ghost use Rattle.std.specs.Prelude.{◌≡◌, Some};
 ghost use Rattle.sbx_rules.specs.Causes.{number_of, shown, shown_cause};
 
 use std::fmt;
+use want::Want;
 
 /// The rule that an image breaks. It is shown by its number, as `V14`.
 #[derive(Clone, Copy, Debug, PartialEq, Eq)]
@@ -44,7 +45,7 @@ pub enum Cause {
     /// The entry function has parameters or returns.
     BadEntry,
     /// Memory was refused.
-    NoMemory,
+    NoMemory(Want),
 }
 
 impl Cause {
@@ -71,7 +72,7 @@ impl Cause {
             Cause::RunsPastEnd => 16,
             Cause::UnkeptResults => 17,
             Cause::BadEntry => 18,
-            Cause::NoMemory => 19,
+            Cause::NoMemory(_) => 19,
         }
     }
 }
@@ -99,7 +100,7 @@ impl fmt::Display for Cause {
             Cause::RunsPastEnd => "V16",
             Cause::UnkeptResults => "V17",
             Cause::BadEntry => "V18",
-            Cause::NoMemory => "V19",
+            Cause::NoMemory(_) => "V19",
         })
     }
 }

@@ -23,6 +23,7 @@ use Rattle.v8_board.proofs.Contained.{run_kept, stays_contained}
 use Rattle.sbx_image.specs.declared.parts.Parts.{Parts}
 use Rattle.sbx_flat.specs.Runs.{AreBytes, Behaves, FlatSafe, budget}
 use Rattle.sbx_flat.specs.declared.path.Place.{Place}
+use Rattle.want.specs.Wants.{refused}
 use Rattle.sbx_windows.specs.Runs.{IsImage}
 use Rattle.sbx_port.specs.Following.{beyond, with_input}
 use Rattle.sbx_port.specs.Streams.{RunsAs, RunsOn, Says as SaysOf, StandsBeside, Streamed}
@@ -170,7 +171,7 @@ module _ (n : ℕ) (parts : Parts) (board : Seen n) (ready : IsReady n parts boa
       )
 
 -- where there was no memory nothing was read or written
-pub no_memory : (parts : Parts) (safe : FlatSafe parts) (fault : RunFault) (reader writer : Option (List ℕ)) → fault ≡ Memory → Streamed reader reader writer writer (IsFront parts fault)
+pub no_memory : (parts : Parts) (safe : FlatSafe parts) (fault : RunFault) (reader writer : Option (List ℕ)) → fault ≡ Memory refused → Streamed reader reader writer writer (IsFront parts fault)
 no_memory parts safe fault reader writer is =
     subst (λ (f : RunFault). Streamed reader reader writer writer (IsFront parts f)) (sym is)
     ([], false, [], (λ j fit. let s = safe j fit in (s.0, s.1, s.2, s.3, (refl, refl, refl))), no_bytes, Consumes-nil reader, (λ yes. search rules), Appends-nil writer)

@@ -44,7 +44,7 @@ IsStreamed parts n finished read met written = (j : List ℕ) → AreBytes (beyo
 -- what a fault says: want of memory, that nothing was read or written; a reader's, that the input's end wasn't met; a writer's, that
 -- there is more to be written
 abbrev pub Says : RunFault → List ℕ → Bool → List ℕ → List ℕ → Type 0
-Says Memory read met written rest = (read ≡ []) × (met ≡ false) × (written ≡ [])
+Says (Memory want) read met written rest = (read ≡ []) × (met ≡ false) × (written ≡ [])
 Says Reader read met written rest = met ≡ false
 Says Writer read met written rest = rest ≢ []
 

@@ -4,6 +4,7 @@ ghost use Rattle.v8_board.specs.declared.outcome.Ending.TheVariants.{Exit};
 ghost use Rattle.sbx_port.specs.Streams.{Streamed};
 ghost use Rattle.sbx_run.specs.Answer.{told_of};
 ghost use Rattle.sbx_stream.specs.Streams.{IsFront, IsReady, IsStreamed, named};
+ghost use Rattle.want.specs.Wants.{refused};
 
 use sbx_image::Image;
 use sbx_port::{Mailbox, StreamFault, carry};
@@ -16,7 +17,7 @@ use v8_board::Board;
 fn ready<const N: usize>(alloc: Global, image: &Image) -> Result<Board<N, Mailbox>, RunFault>
     requires { (4 ≤ N) × (N ≤ 32) }
     ensures ready { IfOk result (λ board. IsReady N image.now board) }
-    ensures fault { IfErr result (λ fault. fault ≡ RunFault.Memory) }
+    ensures fault { IfErr result (λ fault. fault ≡ RunFault.Memory refused) }
 {
     match Board::new(alloc, Mailbox::new()) {
         Ok(board) => {
@@ -24,7 +25,7 @@ fn ready<const N: usize>(alloc: Global, image: &Image) -> Result<Board<N, Mailbo
             board.load(image);
             Ok(board)
         }
-        Err(_refused) => Err(RunFault::Memory),
+        Err(error) => Err(RunFault::from(error)),
     }
 }
 

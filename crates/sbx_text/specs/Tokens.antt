@@ -7,6 +7,7 @@ use Rattle.sbx_text.specs.declared.Token.{Token}
 use Rattle.sbx_text.specs.declared.Kind.TheVariants.{Name, Percent, Number, Sign}
 use Rattle.sbx_text.specs.declared.fault.TextFault.{TextFault}
 use Rattle.sbx_text.specs.declared.fault.TextFault.TheVariants.{NotAscii, BadCharacter, NumberTooLarge, LineTooLong, Memory}
+use Rattle.want.specs.Wants.{refused}
 use Rattle.sbx_text.specs.declared.scanning.Step.{Step}
 use Rattle.sbx_text.specs.declared.scanning.Step.TheVariants.{Stop, Skip, Emit, Refuse}
 
@@ -98,4 +99,4 @@ tokens_of line = if nat_lt 1024 (length line) then Err LineTooLong else tokens_a
 
 -- what a call gives is this, but want of memory may stand in the place of any answer
 abbrev pub Gives : {X Y : Type 0} → (X → Y) → Result X TextFault → Result Y TextFault → Type 0
-Gives view result read = MatchResult result (λ x. read ≡ Ok (view x)) (λ f. f ≢ Memory → read ≡ Err f)
+Gives view result read = MatchResult result (λ x. read ≡ Ok (view x)) (λ f. f ≢ Memory refused → read ≡ Err f)

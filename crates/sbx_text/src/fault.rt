@@ -2,9 +2,11 @@
 ghost use Rattle.std.specs.Prelude.{◌≡◌, Some};
 ghost use Rattle.sbx_text.specs.declared.fault.TextFault.TheVariants.{Memory};
 ghost use Rattle.sbx_text.specs.Faults.{code_of};
+ghost use Rattle.want.specs.Wants.{refused};
 
 use std::alloc::{AllocError, AllocFailed};
 use std::fmt;
+use want::Want;
 
 /// Why a line has no tokens. Shown as `X1` to `X5`, in this order.
 #[derive(Clone, Copy, PartialEq, Eq, Debug)]
@@ -13,22 +15,23 @@ pub enum TextFault {
     BadCharacter,
     NumberTooLarge,
     LineTooLong,
-    Memory,
+    /// Memory was refused.
+    Memory(Want),
 }
 
 impl From<AllocError> for TextFault {
-    ghost from_gives = { λ _ e. e ≡ Memory };
+    ghost from_gives = { λ _ e. e ≡ Memory refused };
 
-    fn from(_e: AllocError) -> TextFault {
-        TextFault::Memory
+    fn from(error: AllocError) -> TextFault {
+        TextFault::Memory(Want::from(error))
     }
 }
 
 impl<T: Drop> From<AllocFailed<T>> for TextFault {
-    ghost from_gives = { λ _ e. e ≡ Memory };
+    ghost from_gives = { λ _ e. e ≡ Memory refused };
 
-    fn from(_e: AllocFailed<T>) -> TextFault {
-        TextFault::Memory
+    fn from(failed: AllocFailed<T>) -> TextFault {
+        TextFault::Memory(Want::from(failed))
     }
 }
 
@@ -41,7 +44,7 @@ impl fmt::Display for TextFault {
             TextFault::BadCharacter => "X2",
             TextFault::NumberTooLarge => "X3",
             TextFault::LineTooLong => "X4",
-            TextFault::Memory => "X5",
+            TextFault::Memory(_want) => "X5",
         })
     }
 }

@@ -68,10 +68,10 @@ impl<W: Write + Drop> Write for Speaker<'_, W> {
 /// Does a job on the file at `path`, in conversation over standard input and standard output.
 pub fn converse(rt: &HostRuntime, job: &Job<'_>, path: &str) -> Result<u8, Stop> {
     let Ok(input) = BufReader::new(rt.alloc(), rt.stdin()) else {
-        return Err(Stop::Memory);
+        return Err(Stop::NoRoom);
     };
     let Ok(out) = LineWriter::new(rt.alloc(), rt.stdout()) else {
-        return Err(Stop::Memory);
+        return Err(Stop::NoRoom);
     };
     let out = RefCell::new(out);
     let mut hearer = Hearer { input, out: &out };

@@ -4,12 +4,13 @@ use std::fs::File;
 use std::io::{Read, Write};
 use std::os::unix::fs::MetadataExt;
 use std::{fs, io};
+use want::Want;
 
 /// The file at a path, to be read.
 fn opened(rt: &HostRuntime, path: &str) -> Result<File, Stop> {
     match fs::open(rt, path) {
         Ok(file) => Ok(file),
-        Err(error) if error.kind() == io::ErrorKind::OutOfMemory => Err(Stop::Memory),
+        Err(error) if error.kind() == io::ErrorKind::OutOfMemory => Err(Stop::NoRoom),
         Err(_) => Err(Stop::File),
     }
 }
@@ -78,8 +79,9 @@ fn replaced(
 /// Makes the file at a path, or replaces it, with all bytes. A plain file is whole or as it was: it is written beside, to the path with
 /// `.part` behind it, and renamed. What else is at the path, as a device, a pipe or a link, is opened and written.
 pub fn stored(rt: &HostRuntime, path: &str, bytes: &[u8]) -> Result<(), Stop> {
-    let Ok(beside) = format!(in rt.alloc(); "{path}.part") else {
-        return Err(Stop::Memory);
+    let beside = match format!(in rt.alloc(); "{path}.part") {
+        Ok(beside) => beside,
+        Err(error) => return Err(Stop::Memory(Want::from(error))),
     };
     let written = match made_beside(rt, path, beside.as_str()) {
         Some(file) => replaced(rt, file, beside.as_str(), path, bytes),
@@ -87,7 +89,7 @@ pub fn stored(rt: &HostRuntime, path: &str, bytes: &[u8]) -> Result<(), Stop> {
     };
     match written {
         Ok(()) => Ok(()),
-        Err(error) if error.kind() == io::ErrorKind::OutOfMemory => Err(Stop::Memory),
+        Err(error) if error.kind() == io::ErrorKind::OutOfMemory => Err(Stop::NoRoom),
         Err(_) => Err(Stop::Output),
     }
 }

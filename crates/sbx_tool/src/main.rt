@@ -21,7 +21,7 @@ const USAGE: u8 = 3;
 /// Does a job on the file at `path`, from standard input to standard output, which is kept until there is much of it.
 fn on_streams(rt: &HostRuntime, job: &Job<'_>, path: &str) -> Result<u8, Stop> {
     let Ok(mut out) = BufWriter::new(rt.alloc(), rt.stdout()) else {
-        return Err(Stop::Memory);
+        return Err(Stop::NoRoom);
     };
     done_on(rt, job, path, &mut rt.stdin(), &mut out)
 }
@@ -49,14 +49,15 @@ fn perform(rt: &HostRuntime, words: &[String]) -> Result<u8, Stop> {
             let _ = eprint!(rt; "{text}");
             Ok(USAGE)
         }
-        Err(Usage::Memory) => Err(Stop::Memory),
+        Err(Usage::Memory(want)) => Err(Stop::Memory(want)),
+        Err(Usage::NoRoom) => Err(Stop::NoRoom),
     }
 }
 
 fn main(rt: HostRuntime) -> ExitCode {
     let status = match words_of(&rt) {
         Ok(words) => perform(&rt, words.as_slice()),
-        Err(error) if error.kind() == io::ErrorKind::OutOfMemory => Err(Stop::Memory),
+        Err(error) if error.kind() == io::ErrorKind::OutOfMemory => Err(Stop::NoRoom),
         Err(_) => {
             let _ = eprintln!(rt; "error: the words of a command line are UTF-8");
             Ok(USAGE)

@@ -36,7 +36,7 @@ impl From<FromHexError> for LineFault {
 impl From<ImageFault> for LineFault {
     fn from(fault: ImageFault) -> LineFault {
         match fault {
-            ImageFault::Memory => LineFault::Memory,
+            ImageFault::Memory(_) => LineFault::Memory,
             _ => LineFault::NotRead,
         }
     }

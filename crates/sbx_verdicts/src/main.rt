@@ -20,7 +20,6 @@ mod verdicts;
 
 use comparison::Comparison;
 use faults::LineFault;
-use std::alloc::AllocError;
 use std::io::{self, BufRead, BufReader};
 
 /// Compares a line, and prints it where it doesn't agree.
@@ -32,7 +31,7 @@ fn compare(rt: &HostRuntime, comparison: &mut Comparison, line: &str) -> io::Res
         Ok(true) => Ok(()),
         Ok(false) => println!(rt; "differs: {line}"),
         Err(LineFault::NotRead) => println!(rt; "not read: {line}"),
-        Err(LineFault::Memory) => Err(AllocError)?,
+        Err(LineFault::Memory) => Err(io::Error::from(io::ErrorKind::OutOfMemory)),
     }
 }
 

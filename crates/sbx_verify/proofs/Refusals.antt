@@ -1,11 +1,12 @@
 -- A refusal that isn't for want of memory names a broken rule.
 use Rattle.std.proofs.Common.{◌≡◌, ap, inl, inr}
+use Rattle.want.specs.Wants.{refused}
 use Rattle.sbx_image.specs.declared.parts.Parts.{Parts}
 use Rattle.sbx_rules.specs.declared.cause.Cause.TheVariants.{NoMemory}
 use Rattle.sbx_rules.specs.declared.cause.Refusal.{Refusal}
 use Rattle.sbx_rules.specs.Verdicts.{IsFirst}
 use Rattle.sbx_verify.specs.Refusals.{IsRefusal}
 
-pub broken_rule : (parts : Parts) (refusal : Refusal) → IsRefusal parts refusal → (refusal.cause ≡ NoMemory → ⊥) → IsFirst parts refusal
+pub broken_rule : (parts : Parts) (refusal : Refusal) → IsRefusal parts refusal → (refusal.cause ≡ NoMemory refused → ⊥) → IsFirst parts refusal
 broken_rule parts refusal (inl first) other = first
 broken_rule parts refusal (inr none) other = absurd (other (ap (λ (r : Refusal). r.cause) none))

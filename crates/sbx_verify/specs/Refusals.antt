@@ -1,12 +1,13 @@
 -- What is told of an image that is not accepted.
 use Rattle.std.specs.Prelude.{◌≡◌, ◌⊎◌}
+use Rattle.want.specs.Wants.{refused}
 use Rattle.sbx_image.specs.declared.parts.Parts.{Parts}
 use Rattle.sbx_rules.specs.declared.cause.Cause.TheVariants.{NoMemory}
 use Rattle.sbx_rules.specs.declared.cause.Refusal.{Refusal}
 use Rattle.sbx_rules.specs.Verdicts.{IsFirst}
 
 abbrev pub no_memory : Refusal
-no_memory = record { function = 0; address = 0; cause = NoMemory }
+no_memory = record { function = 0; address = 0; cause = NoMemory refused }
 
 -- Of the rules that the image breaks, the one of least number at the least address; or memory was refused.
 abbrev pub IsRefusal : Parts → Refusal → Type 0

@@ -9,8 +9,9 @@ use sbx_image::Image;
 use sbx_rules::{Cause, Refusal};
 use sbx_sound::laws::checked_is_safe;
 use sbx_walk::first_fault;
-use std::alloc::Global;
+use std::alloc::{AllocError, Global};
 use std::marker::Model;
+use want::Want;
 
 /// An image that breaks no rule. Contracts see its parts.
 #[derive(Debug, Drop)]
@@ -66,13 +67,13 @@ fn tells_form(image: &Image)
 }
 
 /// What is told where memory is refused.
-fn no_memory() -> Refusal
+fn no_memory(error: AllocError) -> Refusal
     ensures { result ≡ no_memory }
 {
     Refusal {
         function: 0,
         address: 0,
-        cause: Cause::NoMemory,
+        cause: Cause::NoMemory(Want::from(error)),
     }
 }
 
@@ -89,6 +90,6 @@ pub fn verify(alloc: Global, image: Image) -> Result<Accepted, (Image, Refusal)>
     match first_fault(alloc, &image) {
         Ok(None) => Ok(Accepted { image }),
         Ok(Some(refusal)) => Err((image, refusal)),
-        Err(_) => Err((image, no_memory())),
+        Err(error) => Err((image, no_memory(error))),
     }
 }

@@ -9,19 +9,22 @@ use clap::{Arg, ArgAction, ArgMatches, Command, Error};
 use sbx_command::{Job, turns, window_count};
 use std::alloc::{AllocError, Global};
 use std::convert::AsStr;
+use want::Want;
 
 /// Why there is nothing to do.
 #[derive(Drop)]
 pub enum Usage {
     /// The words ask for nothing: the text that says so.
     Text(String),
-    /// Memory is used up.
-    Memory,
+    /// Memory was refused.
+    Memory(Want),
+    /// `clap` had no memory, as the kind of its error tells, which holds no evidence of that.
+    NoRoom,
 }
 
 impl From<AllocError> for Usage {
-    fn from(_error: AllocError) -> Usage {
-        Usage::Memory
+    fn from(error: AllocError) -> Usage {
+        Usage::Memory(Want::from(error))
     }
 }
 
@@ -39,11 +42,11 @@ enum Lack {
 /// The text of what `clap` refused.
 fn usage_of(alloc: Global, error: &Error) -> Usage {
     if error.kind() == ErrorKind::OutOfMemory {
-        return Usage::Memory;
+        return Usage::NoRoom;
     }
     match format!(in alloc; "{error}") {
         Ok(text) => Usage::Text(text),
-        Err(_) => Usage::Memory,
+        Err(error) => Usage::from(error),
     }
 }
 
@@ -56,7 +59,7 @@ fn usage_of_lack(alloc: Global, lack: Lack) -> Usage {
     };
     match format!(in alloc; "error: {wanted}\n") {
         Ok(text) => Usage::Text(text),
-        Err(_) => Usage::Memory,
+        Err(error) => Usage::from(error),
     }
 }
 

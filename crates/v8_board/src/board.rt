@@ -267,6 +267,7 @@ impl<const N: usize, P: Port> Board<N, P> {
         ensures output { P.output result.now ≡ self.now.state.world.memory.device.output }
         ensures failed { P.failed result.now ≡ self.now.failed }
         ensures calls { P.calls result.now ≡ self.now.calls }
+        ensures fault { P.fault result.now ≡ self.now.fault }
     {
         self.machine.bus().port()
     }

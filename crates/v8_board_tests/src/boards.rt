@@ -20,7 +20,7 @@ pub(crate) fn board(alloc: Global, fails: u64) -> Result<Tested, AllocError> {
         calls: 0,
         fails,
         failures: 0,
-        last: PortFault::Memory,
+        last: PortFault::Reader,
     };
     Board::new(alloc, port)
 }

@@ -14,7 +14,7 @@ fn memory<'a>(alloc: Global, input: &'a [u8]) -> Result<Memory<Probe<'a>>, Alloc
         calls: 0,
         fails: 0,
         failures: 0,
-        last: PortFault::Memory,
+        last: PortFault::Reader,
     };
     Memory::new(alloc, port)
 }

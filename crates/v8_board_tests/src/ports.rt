@@ -5,6 +5,7 @@ ghost use Rattle.v8_mmu.specs.Ram.{AreBytes};
 
 use v8_memory::Port;
 use v8_mmu::PortFault;
+use want::Want;
 
 /// A port that takes its input from a slice, keeps its output and counts how often it is called. It fails once, at the call of the
 /// number `fails` from here on, or never if that is 0.
@@ -85,7 +86,7 @@ impl Port for Probe<'_> {
         }
         match self.kept.push(byte) {
             Ok(()) => Ok(()),
-            Err(_refused) => Err(self.fail(PortFault::Memory)),
+            Err(failed) => Err(self.fail(PortFault::Memory(Want::from(failed)))),
         }
     }
 

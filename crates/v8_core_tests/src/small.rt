@@ -9,8 +9,10 @@ ghost use Rattle.v8_mmu.specs.Meaning.{limit_of};
 ghost use Rattle.v8_mmu.specs.Ram.{entry_of, with_entry, HasBytes};
 ghost use Rattle.v8_core_tests.specs.Small.{has_half, kept, ram_load, ram_store};
 
+use std::alloc::AllocError;
 use v8_mmu::{Bus, BusFault, PortFault, Stop};
 use v8_word::Size;
+use want::Want;
 
 /// The address of the device's one word.
 const DEVICE: u64 = 0x1000_0000;
@@ -352,7 +354,7 @@ impl<const M: usize> Bus for Small<M> {
 
     fn swap(&mut self, pa: u64, size: Size, value: u64) -> Result<u64, BusFault> {
         if self.broken {
-            return Err(self.fails(PortFault::Memory));
+            return Err(self.fails(PortFault::Memory(Want::from(AllocError))));
         }
         match self.answer(pa, size) {
             Some(old) => {

@@ -873,7 +873,7 @@ fn a_port_that_fails_changes_nothing(rt: HostRuntime) {
     for (word, fault) in [
         (0xC4004000, PortFault::Reader),
         (0xC4204000, PortFault::Writer),
-        (0xC4784000, PortFault::Memory),
+        (0xC4784000, PortFault::Memory(Want::from(AllocError))),
     ] {
         let mut machine = machine(3, 0x20, &[0x03040000, word]);
         assert!(rt;

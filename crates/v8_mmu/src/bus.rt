@@ -1,10 +1,11 @@
 //! The bus: RAM and a device at physical addresses.
 use v8_word::Size;
+use want::Want;
 
 /// What a port that failed ran out of.
 #[derive(Clone, Copy, PartialEq, Eq, Debug)]
 pub enum PortFault {
-    Memory,
+    Memory(Want),
     Reader,
     Writer,
 }

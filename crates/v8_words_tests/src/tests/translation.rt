@@ -31,7 +31,7 @@ impl<const M: usize> Bus for Words<M> {
 
     ghost calls = { λ b. 0 };
 
-    ghost fault = { λ b. faults.Memory };
+    ghost fault = { λ b. faults.Reader };
 
     ghost meaning = { word_bus };
 
