@@ -3,8 +3,8 @@ ghost use Rattle.std.specs.Prelude.{◌≤◌};
 
 use crate::sources::{
     BARE, BYTES, CALLED, CALLER, CALLER_OF_39, CALLS, CHAIN, CHAIN_REST, COPY, COUNTDOWN,
-    COUNTDOWN_REST, ECHO, FRAMED, HELLO, INCREMENT, LINKS, Links, RESULT, RESULT_LINKS, ROUNDS,
-    ROUNDS_LINKS, Source, WORD_OUT,
+    COUNTDOWN_REST, ECHO, FRAMED, HELLO, INCREMENT, LINKS, LONG_ECHO, Links, RESULT, RESULT_LINKS,
+    ROUNDS, ROUNDS_LINKS, Source, WORD_OUT,
 };
 use sbx_image::Image;
 use sbx_run::{
@@ -365,6 +365,29 @@ fn cuts_its_input(alloc: Global) -> Result<bool, Fail> {
     let input = bytes_of(alloc, 2000)?;
     let output = bytes_of(alloc, 1000)?;
     Ok(echoes_as(alloc, &input, &output))
+}
+
+/// Whether all of 3 MiB come back.
+fn gives_back(alloc: Global) -> Result<bool, Fail> {
+    let bytes = bytes_of(alloc, 3_145_728)?;
+    let row = Row {
+        pieces: &[LONG_ECHO],
+        budget: 50_331_678,
+        input: &bytes,
+        output: &bytes,
+        turns: 50_331_654,
+        ..QUIET
+    };
+    match row.accepted(alloc) {
+        Some(accepted) => Ok(runs_on::<8>(alloc, 8, &accepted, &row)),
+        None => Ok(false),
+    }
+}
+
+#[test]
+fn long_outputs_are_kept(rt: HostRuntime) -> Result<(), Fail> {
+    assert!(rt; gives_back(rt.alloc())?);
+    Ok(())
 }
 
 #[test]

@@ -111,6 +111,35 @@ pub(crate) const ECHO: &str = ".services exit,get,put
  ta 0
 ";
 
+/// The same, for 3 MiB.
+pub(crate) const LONG_ECHO: &str = ".services exit,get,put
+.function main,framed,96,96,50331678
+.fuel 50331678
+ save %sp,-96,%sp
+ sethi 3072,%l0
+.block loop
+.cell %l0,1,3145728,0
+.fuel 4
+.term %l0,16
+ ta 1
+ cmp %o0,-1
+ be done
+ nop
+.block body
+.cell %o0,0,255,0
+.cell %l0,1,3145728,0
+.fuel -4
+.term %l0,16
+ ta 2
+ deccc %l0
+ bne loop
+ nop
+.block done
+.fuel 4
+ mov 0,%o0
+ ta 0
+";
+
 /// Counts down from 10; what a round takes stands between this and the rest.
 pub(crate) const COUNTDOWN: &str = ".services exit,get,put
 .function main,framed,96,96,75

@@ -19,6 +19,7 @@ pub(crate) fn board(alloc: Global, fails: u64) -> Result<Tested, AllocError> {
         kept: Vec::new(alloc),
         calls: 0,
         fails,
+        at_put: PortFault::Writer,
         failures: 0,
         last: PortFault::Reader,
     };

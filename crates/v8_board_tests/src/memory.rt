@@ -13,6 +13,7 @@ fn memory<'a>(alloc: Global, input: &'a [u8]) -> Result<Memory<Probe<'a>>, Alloc
         kept: Vec::new(alloc),
         calls: 0,
         fails: 0,
+        at_put: PortFault::Writer,
         failures: 0,
         last: PortFault::Reader,
     };

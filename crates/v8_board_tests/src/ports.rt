@@ -8,13 +8,14 @@ use v8_mmu::PortFault;
 use want::Want;
 
 /// A port that takes its input from a slice, keeps its output and counts how often it is called. It fails once, at the call of the
-/// number `fails` from here on, or never if that is 0.
+/// number `fails` from here on, or never if that is 0; a failing put tells the fault `at_put`.
 #[derive(Drop)]
 pub(crate) struct Probe<'a> {
     pub(crate) left: &'a [u8],
     pub(crate) kept: Vec<u8>,
     pub(crate) calls: u64,
     pub(crate) fails: u64,
+    pub(crate) at_put: PortFault,
     pub(crate) failures: u64,
     pub(crate) last: PortFault,
 }
@@ -82,7 +83,7 @@ impl Port for Probe<'_> {
 
     fn put(&mut self, byte: u8) -> Result<(), PortFault> {
         if self.is_to_fail() {
-            return Err(self.fail(PortFault::Writer));
+            return Err(self.fail(self.at_put));
         }
         match self.kept.push(byte) {
             Ok(()) => Ok(()),

@@ -17,7 +17,16 @@ struct Run {
     status: u32,
 }
 
-const RUNS: [Run; 8] = [
+const RUNS: [Run; 9] = [
+    // as many as a second takes
+    Run {
+        words: &[0x1080_0000, NOP],
+        limit: 20_000_000,
+        end: End::Limit,
+        turns: 20_000_000,
+        overflows: 0,
+        status: 0,
+    },
     Run {
         words: &[0x1080_0000, NOP],
         limit: 10,
@@ -137,6 +146,30 @@ fn raw_runs_get_and_put(rt: HostRuntime) -> Result<(), Fail> {
     assert!(rt; greets(&raw), "{raw:?}");
     let raw = run_words(rt.alloc(), &[GET, PUT, GET, PUT, GET, EXIT], b"ab")?;
     assert!(rt; echoes(&raw), "{raw:?}");
+    Ok(())
+}
+
+/// So many bytes, each of which differs from its neighbours.
+fn bytes_of(alloc: Global, count: u32) -> Result<Vec<u8>, AllocError> {
+    let mut bytes = Vec::new(alloc);
+    for number in 0..count {
+        bytes.push((number % 251) as u8)?;
+    }
+    Ok(bytes)
+}
+
+/// Whether a loop of 12 turns that gets a byte and puts it out gives all of 3 MiB back.
+fn gives_back(alloc: Global) -> Result<bool, Fail> {
+    // ta 1; ta 2; ba .-8; nop
+    let image = raw_image(alloc, &[GET, PUT, 0x10BF_FFFE, NOP])?;
+    let input = bytes_of(alloc, 3_145_728)?;
+    let raw = run_raw::<8>(alloc, &image, &input, 37_748_736)?;
+    Ok(raw.output.as_slice() == input.as_slice() && raw.outcome.turns == 37_748_736)
+}
+
+#[test]
+fn long_outputs_are_kept(rt: HostRuntime) -> Result<(), Fail> {
+    assert!(rt; gives_back(rt.alloc())?);
     Ok(())
 }
 

@@ -4,11 +4,13 @@ use crate::boards::{
     used_code_alone,
 };
 use crate::images::{EXIT, End, GET, GREETING, NOP, PUT, SAVE};
-use std::alloc::Global;
+use crate::ports::Probe;
+use std::alloc::{AllocError, Global};
 use std::test::Fail;
-use v8_board::{Ending, Port};
+use v8_board::{Board, Ending, Port};
 use v8_mmu::PortFault;
 use v8_word::TrapType;
+use want::Want;
 
 /// Words with the end of their run at four windows: its turns, its overflows, and the fault status.
 struct Run {
@@ -143,6 +145,51 @@ fn a_run_goes_on_after_each_failed_call(rt: HostRuntime) -> Result<(), Fail> {
         load(&mut failing, alloc, &words)?;
         assert!(rt; goes_on(&mut failing, fault), "{fails}");
     }
+    Ok(())
+}
+
+/// A loop that gets bytes and puts them out, until there are no more:
+/// `save %sp,-96,%sp; mov 1000,%l0; loop: ta 1; cmp %o0,-1; be done; nop; ta 2; deccc %l0; bne loop; nop; done: mov 0,%o0; ta 0`
+const ECHO: [u32; 12] = [
+    SAVE,
+    0xA010_23E8,
+    GET,
+    0x80A2_3FFF,
+    0x0280_0006,
+    NOP,
+    PUT,
+    0xA0A4_2001,
+    0x12BF_FFFA,
+    NOP,
+    0x9010_2000,
+    EXIT,
+];
+
+/// A board with `abc` as its input, loaded with the loop, whose port fails so at its second put, and then never again.
+fn refusing(alloc: Global, fault: PortFault) -> Result<Tested, Fail> {
+    let port = Probe {
+        left: b"abc",
+        kept: Vec::new(alloc),
+        calls: 0,
+        fails: 4,
+        at_put: fault,
+        failures: 0,
+        last: PortFault::Reader,
+    };
+    let mut board = Board::new(alloc, port)?;
+    load(&mut board, alloc, &ECHO)?;
+    Ok(board)
+}
+
+/// A port that has no memory for a byte is asked for it again, and the run then ends as if there had been memory: each turn is counted
+/// once, that which failed too.
+#[test]
+fn a_run_goes_on_after_want_of_memory(rt: HostRuntime) -> Result<(), Fail> {
+    let fault = PortFault::Memory(Want::from(AllocError));
+    let mut board = refusing(rt.alloc(), fault)?;
+    assert!(rt; board.run(100) == Err(fault) && kept(&board, b"a"));
+    assert!(rt; ends(&mut board, &Ok(outcome(Ending::Exit(0), 62, 0)), 0));
+    assert!(rt; kept(&board, b"abc") && board.port().failures() == 1);
     Ok(())
 }
 

@@ -110,6 +110,34 @@ fn error_mode_is_traced(rt: HostRuntime) -> Result<(), Fail> {
     Ok(())
 }
 
+/// Counts the bytes that it takes, and keeps none.
+#[derive(Drop)]
+struct Counter {
+    count: u64,
+}
+
+impl Write for Counter {
+    fn write(&mut self, buf: &[u8]) -> io::Result<usize> {
+        self.count = self.count.saturating_add(buf.len() as u64);
+        Ok(buf.len())
+    }
+
+    fn flush(&mut self) -> io::Result<()> {
+        Ok(())
+    }
+}
+
+/// A loop of two turns, traced two million turns long, has as many lines, each of 38 bytes.
+#[test]
+fn long_traces_have_a_line_a_turn(rt: HostRuntime) -> Result<(), Fail> {
+    let alloc = rt.alloc();
+    let image = raw_image(alloc, &[0x1080_0000, NOP])?;
+    let mut out = Counter { count: 0 };
+    let told = trace::<4, Counter>(alloc, &image, b"", 2_000_000, &mut out)?;
+    assert!(rt; (told.ending, told.turns, out.count) == (Ending::Limit, 2_000_000, 76_000_000));
+    Ok(())
+}
+
 /// Takes at most seven bytes a call, until there is no more room; then it fails or takes none.
 #[derive(Drop)]
 struct Narrow {

@@ -1,0 +1,101 @@
+//! The worked image, with each of its bits turned.
+use sbx_image::{Image, ImageFault, parse};
+use sbx_run::{Accepted, Cause, Refusal, budget, run_accepted, verify};
+use std::alloc::Global;
+
+/// `mov 72,%o0; ta 2; mov 105,%o0; ta 2; mov 0,%o0; ta 0`, with the services exit and put.
+const HELLO: [u8; 86] = [
+    0x53, 0x42, 0x58, 0x38, 0x00, 0x01, 0x00, 0x05, 0x00, 0x00, 0x00, 0x06, 0x00, 0x00, 0x00, 0x00,
+    0x00, 0x01, 0x00, 0x01, 0x90, 0x10, 0x20, 0x48, 0x91, 0xD0, 0x20, 0x02, 0x90, 0x10, 0x20, 0x69,
+    0x91, 0xD0, 0x20, 0x02, 0x90, 0x10, 0x20, 0x00, 0x91, 0xD0, 0x20, 0x00, 0x00, 0x00, 0x00, 0x00,
+    0x00, 0x04, 0x00, 0x00, 0x00, 0x00, 0x00, 0x00, 0x00, 0x00, 0x00, 0x00, 0x00, 0x00, 0x00, 0x00,
+    0x00, 0x00, 0x00, 0x10, 0x00, 0x01, 0x00, 0x04, 0x00, 0x00, 0x00, 0x00, 0x00, 0x00, 0x00, 0x00,
+    0x00, 0x00, 0x00, 0x00, 0x00, 0x10,
+];
+
+/// The bytes with one bit turned: of each byte the greatest one comes first.
+fn turned(bit: usize) -> [u8; 86] {
+    let mut bytes = HELLO;
+    for (place, byte) in bytes.iter_mut().enumerate() {
+        if place == bit / 8 {
+            *byte ^= 0x80u8 >> (bit % 8);
+        }
+    }
+    bytes
+}
+
+/// Whether a run of an accepted image exits within its budget.
+fn ends(alloc: Global, accepted: &Accepted) -> bool {
+    match run_accepted::<8>(alloc, accepted, b"abc") {
+        Ok(finished) => finished.turns <= budget(accepted.image()),
+        Err(_fault) => false,
+    }
+}
+
+/// Whether an image has a verdict, and ends where it is accepted.
+fn has_a_verdict(alloc: Global, image: Image) -> bool {
+    match verify(alloc, image) {
+        Ok(accepted) => ends(alloc, &accepted),
+        Err(_refused) => true,
+    }
+}
+
+/// Whether what is read of the bytes with one bit turned is as it has to be: the first eight bytes tell their own fault.
+fn is_told(alloc: Global, bit: usize) -> bool {
+    match parse(alloc, &turned(bit)) {
+        Ok(image) => bit >= 48 && has_a_verdict(alloc, image),
+        Err(fault) => match bit / 8 {
+            0..=3 => fault == ImageFault::Magic,
+            4..=5 => fault == ImageFault::Version,
+            6..=7 => fault == ImageFault::Service,
+            _ => true,
+        },
+    }
+}
+
+#[test]
+fn each_bit_that_is_turned_is_told(rt: HostRuntime) {
+    for bit in 0..688usize {
+        assert!(rt; is_told(rt.alloc(), bit), "{bit}");
+    }
+}
+
+/// Why the image with one bit turned is refused; none where it is accepted, or no image.
+fn refusal_of(alloc: Global, bit: usize) -> Option<Refusal> {
+    match verify(alloc, parse(alloc, &turned(bit)).ok()?) {
+        Ok(_accepted) => None,
+        Err((_image, refusal)) => Some(refusal),
+    }
+}
+
+/// Whether there is an image with this bit turned.
+fn is_image(alloc: Global, bit: usize) -> bool {
+    parse(alloc, &turned(bit)).is_ok()
+}
+
+/// A refusal of the service that is called at an address.
+const fn undeclared(address: u32) -> Option<Refusal> {
+    Some(Refusal {
+        function: 0,
+        address,
+        cause: Cause::UndeclaredService,
+    })
+}
+
+/// Bits of the services, and why the image is refused: without put, with get, and without exit.
+static SERVICES: [(usize, Option<Refusal>); 3] = [
+    (61, undeclared(0x0004_0004)),
+    (62, None),
+    (63, undeclared(0x0004_0014)),
+];
+
+#[test]
+fn services_have_three_bits(rt: HostRuntime) {
+    for bit in 48..61usize {
+        assert!(rt; !is_image(rt.alloc(), bit), "{bit}");
+    }
+    for (bit, refusal) in &SERVICES {
+        assert!(rt; is_image(rt.alloc(), *bit), "{bit}");
+        assert!(rt; refusal_of(rt.alloc(), *bit) == *refusal, "{bit}");
+    }
+}
