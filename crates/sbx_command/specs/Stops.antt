@@ -104,7 +104,7 @@ IsTrueOf File bytes = Unit {0}
 IsTrueOf Input bytes = Unit {0}
 IsTrueOf Output bytes = Unit {0}
 IsTrueOf (Memory want) bytes = Unit {0}
-IsTrueOf NoRoom bytes = ⊥
+IsTrueOf NoRoom bytes = Unit {0}
 
 -- the same where no rule is looked at
 abbrev pub IsTrueOfImage : Stop → List ℕ → Type 0
@@ -115,4 +115,4 @@ IsTrueOfImage File bytes = Unit {0}
 IsTrueOfImage Input bytes = Unit {0}
 IsTrueOfImage Output bytes = Unit {0}
 IsTrueOfImage (Memory want) bytes = Unit {0}
-IsTrueOfImage NoRoom bytes = ⊥
+IsTrueOfImage NoRoom bytes = Unit {0}

@@ -1,8 +1,10 @@
 //! Programs and traps with the states that they leave.
 use crate::small::Small;
+use std::alloc::AllocError;
 use v8_core::{DataAccess, Event, Machine, Turn};
 use v8_mmu::{MmuRegs, PortFault, Stop};
 use v8_word::{Reg, Size, TrapType};
+use want::Want;
 
 // One page table entry, at ROOT, maps each address to itself. Code begins at CODE and data at 2000; trap vectors begin at
 // VECTORS, and that of `ta 3` returns after it has put the trap's place into %g2.
