@@ -67,11 +67,15 @@ impl<W: Write + Drop> Write for Speaker<'_, W> {
 
 /// Does a job on the file at `path`, in conversation over standard input and standard output.
 pub fn converse(rt: &HostRuntime, job: &Job<'_>, path: &str) -> Result<u8, Stop> {
-    let Ok(input) = BufReader::new(rt.alloc(), rt.stdin()) else {
-        return Err(Stop::NoRoom);
+    let input = match BufReader::new(rt.alloc(), rt.stdin()) {
+        Ok(input) => input,
+        Err(error) if error.kind() == io::ErrorKind::OutOfMemory => return Err(Stop::NoRoom),
+        Err(_) => return Err(Stop::Input),
     };
-    let Ok(out) = LineWriter::new(rt.alloc(), rt.stdout()) else {
-        return Err(Stop::NoRoom);
+    let out = match LineWriter::new(rt.alloc(), rt.stdout()) {
+        Ok(out) => out,
+        Err(error) if error.kind() == io::ErrorKind::OutOfMemory => return Err(Stop::NoRoom),
+        Err(_) => return Err(Stop::Output),
     };
     let out = RefCell::new(out);
     let mut hearer = Hearer { input, out: &out };

@@ -20,8 +20,10 @@ const USAGE: u8 = 3;
 
 /// Does a job on the file at `path`, from standard input to standard output, which is kept until there is much of it.
 fn on_streams(rt: &HostRuntime, job: &Job<'_>, path: &str) -> Result<u8, Stop> {
-    let Ok(mut out) = BufWriter::new(rt.alloc(), rt.stdout()) else {
-        return Err(Stop::NoRoom);
+    let mut out = match BufWriter::new(rt.alloc(), rt.stdout()) {
+        Ok(out) => out,
+        Err(error) if error.kind() == io::ErrorKind::OutOfMemory => return Err(Stop::NoRoom),
+        Err(_) => return Err(Stop::Output),
     };
     done_on(rt, job, path, &mut rt.stdin(), &mut out)
 }
