@@ -5,6 +5,7 @@ ghost use Rattle.sbx_image.specs.Reading.{reading};
 ghost use Rattle.sbx_command.specs.Stops.{IsTrueOfImage};
 ghost use Rattle.sbx_tell.specs.Reports.{run_text};
 ghost use Rattle.inspect.specs.Told.{Explained, Ran, Shown};
+ghost use Rattle.want.specs.Wants.{refused};
 
 use sbx_command::{ReadFault, Stop, Windows, read_whole};
 use sbx_declare::push_image;
@@ -12,8 +13,9 @@ use sbx_explain::push_why;
 use sbx_image::{Image, parse};
 use sbx_rules::Refusal;
 use sbx_tell::{Progress, Run, push_run, run_windows};
-use std::alloc::{AllocError, Global};
+use std::alloc::Global;
 use std::io::{Read, Write};
+use want::Want;
 
 /// The most bytes that an image file, or the input of a run, may have.
 const MOST: usize = 16_777_216;
@@ -25,7 +27,7 @@ fn image_in<F: Read>(alloc: Global, file: &mut F) -> Result<Image, Stop>
 {
     let bytes = match read_whole(alloc, file, MOST) {
         Ok(bytes) => bytes,
-        Err(ReadFault::Memory) => return Err(Stop::Memory),
+        Err(ReadFault::Memory(want)) => return Err(Stop::Memory(want)),
         Err(ReadFault::Reader | ReadFault::TooLong) => return Err(Stop::File),
     };
     Ok(parse(alloc, bytes.as_slice())?)
@@ -34,11 +36,11 @@ fn image_in<F: Read>(alloc: Global, file: &mut F) -> Result<Image, Stop>
 /// All of standard input.
 fn input_of<I: Read>(alloc: Global, input: &mut I) -> Result<Vec<u8>, Stop>
     ensures whole { IfOk result (λ bytes. IfSome (I.remaining input.old) (λ all. bytes.items ≡ all)) }
-    ensures stop { IfErr result (λ stop. (stop ≡ Stop.Memory) ⊎ (stop ≡ Stop.Input)) }
+    ensures stop { IfErr result (λ stop. (stop ≡ Stop.Memory refused) ⊎ (stop ≡ Stop.Input)) }
 {
     match read_whole(alloc, input, MOST) {
         Ok(bytes) => Ok(bytes),
-        Err(ReadFault::Memory) => Err(Stop::Memory),
+        Err(ReadFault::Memory(want)) => Err(Stop::Memory(want)),
         Err(ReadFault::Reader | ReadFault::TooLong) => Err(Stop::Input),
     }
 }
@@ -68,7 +70,7 @@ pub fn show_image<F: Read, O: Write>(alloc: Global, file: &mut F, out: &mut O) -
     let mut text = String::new(alloc);
     match push_image(&mut text, &image) {
         Ok(()) => put_out(out, text.as_bytes()),
-        Err(AllocError) => Err(Stop::Memory),
+        Err(error) => Err(Stop::Memory(Want::from(error))),
     }
 }
 
@@ -82,12 +84,12 @@ fn tell_run<O: Write>(
     out: &mut O,
 ) -> Result<(), Stop>
     ensures told { OnOk result (Appends (O.contents out.old) (O.contents out.new) (run_text windows limit run.now)) }
-    ensures stop { IfErr result (λ stop. (stop ≡ Stop.Memory) ⊎ (stop ≡ Stop.Output)) }
+    ensures stop { IfErr result (λ stop. (stop ≡ Stop.Memory refused) ⊎ (stop ≡ Stop.Output)) }
 {
     let mut text = String::new(alloc);
     match push_run(&mut text, windows, limit, run) {
         Ok(()) => put_out(out, text.as_bytes()),
-        Err(AllocError) => Err(Stop::Memory),
+        Err(error) => Err(Stop::Memory(Want::from(error))),
     }
 }
 
@@ -125,7 +127,7 @@ pub fn explain_image<F: Read, O: Write>(
     let mut text = String::new(alloc);
     let found = match push_why(alloc, &mut text, image) {
         Ok(found) => found,
-        Err(AllocError) => return Err(Stop::Memory),
+        Err(error) => return Err(Stop::Memory(Want::from(error))),
     };
     put_out(out, text.as_bytes())?;
     Ok(found)

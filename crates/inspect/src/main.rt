@@ -22,7 +22,7 @@ const OTHER_WORDS: u8 = 3;
 fn opened(rt: &HostRuntime, path: &str) -> Result<File, Stop> {
     match fs::open(rt, path) {
         Ok(file) => Ok(file),
-        Err(error) if error.kind() == io::ErrorKind::OutOfMemory => Err(Stop::Memory),
+        Err(error) if error.kind() == io::ErrorKind::OutOfMemory => Err(Stop::NoRoom),
         Err(_) => Err(Stop::File),
     }
 }
@@ -31,8 +31,10 @@ fn opened(rt: &HostRuntime, path: &str) -> Result<File, Stop> {
 fn perform(rt: &HostRuntime, job: Job<'_>) -> Result<(), Stop> {
     let (Job::Image { image } | Job::Run { image, .. } | Job::Why { image }) = job;
     let mut file = opened(rt, image)?;
-    let Ok(mut out) = BufWriter::new(rt.alloc(), rt.stdout()) else {
-        return Err(Stop::Memory);
+    let mut out = match BufWriter::new(rt.alloc(), rt.stdout()) {
+        Ok(out) => out,
+        Err(error) if error.kind() == io::ErrorKind::OutOfMemory => return Err(Stop::NoRoom),
+        Err(_) => return Err(Stop::Output),
     };
     match job {
         Job::Image { .. } => show_image(rt.alloc(), &mut file, &mut out),
@@ -74,7 +76,7 @@ fn answer(rt: &HostRuntime, words: &[String]) -> Result<u8, Stop> {
 fn main(rt: HostRuntime) -> ExitCode {
     let status = match words_of(&rt) {
         Ok(words) => answer(&rt, words.as_slice()),
-        Err(error) if error.kind() == io::ErrorKind::OutOfMemory => Err(Stop::Memory),
+        Err(error) if error.kind() == io::ErrorKind::OutOfMemory => Err(Stop::NoRoom),
         Err(_) => {
             let _ = eprint!(rt; "{USAGE}");
             Ok(OTHER_WORDS)

@@ -35,6 +35,6 @@ pub fn rule_text(cause: Cause) -> &'static str
         Cause::RunsPastEnd => "control can go past the function's last word",
         Cause::UnkeptResults => "a result isn't shown to be as declared",
         Cause::BadEntry => "function 0 is nobody's callee, and has parameters or returns",
-        Cause::NoMemory => "memory was refused",
+        Cause::NoMemory(_) => "memory was refused",
     }
 }

@@ -89,7 +89,7 @@ fn push_reasons(
 ) -> Result<(), AllocError> {
     let sight = match known_at(alloc, image, refusal.function, refusal.address) {
         Ok(sight) => sight,
-        Err(NotKnown::NoMemory) => return Err(AllocError),
+        Err(NotKnown::NoMemory(want)) => return Err(AllocError::from(want)),
         Err(NotKnown::NoFunction | NotKnown::NoWord) => return Ok(()),
     };
     push_place(out, image, &sight.spot)?;
@@ -132,10 +132,12 @@ pub fn push_why(
             out.push_str("accepted: no rule is broken\n")?;
             Ok(None)
         }
-        Err((_image, refusal)) if refusal.cause == Cause::NoMemory => Err(AllocError),
-        Err((image, refusal)) => {
-            explain(alloc, out, &image, refusal)?;
-            Ok(Some(refusal))
-        }
+        Err((image, refusal)) => match refusal.cause {
+            Cause::NoMemory(want) => Err(AllocError::from(want)),
+            _ => {
+                explain(alloc, out, &image, refusal)?;
+                Ok(Some(refusal))
+            }
+        },
     }
 }

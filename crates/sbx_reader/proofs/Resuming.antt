@@ -17,6 +17,7 @@ use Rattle.sbx_image.specs.declared.heads.Header.{Header}
 use Rattle.sbx_image.specs.declared.heads.FunctionHead.{FunctionHead}
 use Rattle.sbx_image.specs.Rules.{◌>>=◌, wants, Place, code_start}
 use Rattle.sbx_image.specs.Reading.{number_at, bytes_at, items_at, range_at, block_at, function_head_at, function_at, header_at, parts_at, reading}
+use Rattle.want.specs.Wants.{refused}
 use Rattle.sbx_reader.specs.declared.stages.Stage.{Stage}
 use Rattle.sbx_reader.specs.declared.stages.Stage.TheVariants.{Front, Functions, Blocks}
 use Rattle.sbx_reader.specs.Fronts.{lasting, told, front}
@@ -37,7 +38,7 @@ lasting_err fault.Limit ne = refl
 lasting_err fault.Trailing ne = refl
 lasting_err fault.Order ne = refl
 lasting_err fault.Range ne = refl
-lasting_err fault.Memory ne = refl
+lasting_err (fault.Memory want) ne = refl
 
 -- an item, and those behind it
 abbrev joined : {A C : Type 0} → A → List A × C → Result (List A × C) ImageFault
@@ -64,7 +65,7 @@ whole_ok stage next item reads bytes h rest count e n =
     )
 
 pub whole_err : {H : Type 0} (stage : Stage) (next : H → Stage) (item : List ℕ → Result (H × List ℕ) ImageFault) → Reads stage next item
-    → (bytes : List ℕ) (e : ImageFault) → (e ≢ fault.Memory → item bytes ≡ Err e) → IsWhole stage bytes (Err e)
+    → (bytes : List ℕ) (e : ImageFault) → (e ≢ fault.Memory refused → item bytes ≡ Err e) → IsWhole stage bytes (Err e)
 whole_err stage next item reads bytes e p kept = (
   λ short. let q : item bytes ≡ Err fault.Short = rw (sym short) (p kept) in rw (reads.same bytes, q) refl,
   λ ne more. rw (reads.same (bytes ++ more), (reads.lasts more bytes).err e ne (p kept)) (lasting_err e ne),

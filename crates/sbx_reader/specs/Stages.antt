@@ -3,6 +3,7 @@ use Rattle.std.specs.Prelude.{◌≡◌, ◌≢◌, ℕ, ◌+◌, ◌≤◌, ◌
 use Rattle.sbx_image.specs.declared.fault.ImageFault.{ImageFault}
 use Rattle.sbx_image.specs.declared.fault.ImageFault.TheVariants as fault
 use Rattle.sbx_image.specs.declared.order.Next.{Next}
+use Rattle.want.specs.Wants.{refused}
 use Rattle.sbx_image.specs.Rules.{◌>>=◌, wants, Place}
 use Rattle.sbx_image.specs.Reading.{items_at, block_at, function_at, reading}
 use Rattle.sbx_reader.specs.declared.stages.Stage.{Stage}
@@ -34,15 +35,15 @@ GoesOn stage at bytes = (at ≤ length bytes) × ((more : List ℕ) → front (b
 -- An item that is whole: what comes next behind its bytes. Else its fault: that it isn't whole, which tells no fault of the bytes, or one that they have whatever comes behind.
 abbrev pub IsWhole : Stage → List ℕ → Result (Stage × ℕ) ImageFault → Type 0
 IsWhole stage bytes (Ok (next, count)) = (0 < count) × (count ≤ length bytes) × ((more : List ℕ) → rest_of stage (bytes ++ more) ≡ rest_of next (drop count bytes ++ more))
-IsWhole stage bytes (Err e) = e ≢ fault.Memory → (e ≡ fault.Short → lasting_of (rest_of stage bytes) ≡ Ok tt) × (e ≢ fault.Short → (more : List ℕ) → lasting_of (rest_of stage (bytes ++ more)) ≡ Err e)
+IsWhole stage bytes (Err e) = e ≢ fault.Memory refused → (e ≡ fault.Short → lasting_of (rest_of stage bytes) ≡ Ok tt) × (e ≢ fault.Short → (more : List ℕ) → lasting_of (rest_of stage (bytes ++ more)) ≡ Err e)
 
 -- One item is read, so many bytes of it; or none is whole, which tells no fault; or its fault is that of the bytes, whatever comes behind.
 abbrev pub IsItem : Stage → List ℕ → Result (Option (Stage × ℕ)) ImageFault → Type 0
 IsItem stage bytes (Ok None) = lasting_of (rest_of stage bytes) ≡ Ok tt
 IsItem stage bytes (Ok (Some (next, count))) = (0 < count) × (count ≤ length bytes) × ((more : List ℕ) → rest_of stage (bytes ++ more) ≡ rest_of next (drop count bytes ++ more))
-IsItem stage bytes (Err e) = e ≢ fault.Memory → (more : List ℕ) → lasting_of (rest_of stage (bytes ++ more)) ≡ Err e
+IsItem stage bytes (Err e) = e ≢ fault.Memory refused → (more : List ℕ) → lasting_of (rest_of stage (bytes ++ more)) ≡ Err e
 
 -- What was read on: from there it goes on, and no fault is told; or the fault is that of the bytes, if memory was found.
 abbrev pub IsResumed : List ℕ → Result (Stage × ℕ) ImageFault → Type 0
 IsResumed bytes (Ok (stage, at)) = GoesOn stage at bytes × (front bytes ≡ Ok tt)
-IsResumed bytes (Err e) = e ≢ fault.Memory → front bytes ≡ Err e
+IsResumed bytes (Err e) = e ≢ fault.Memory refused → front bytes ≡ Err e

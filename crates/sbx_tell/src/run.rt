@@ -1,6 +1,7 @@
 //! Runs of any image, on a count of windows that is a number.
 ghost use Rattle.std.specs.Prelude.{◌≡◌, ◌≤◌, IfErr, IfOk};
 ghost use Rattle.sbx_tell.specs.Runs.{IsRun};
+ghost use Rattle.want.specs.Wants.{refused};
 
 use crate::slices::{Progress, run_slices};
 use sbx_image::Image;
@@ -28,7 +29,7 @@ fn run_on<const N: usize, P: Progress>(
     requires range { (4 ≤ N) × (N ≤ 32) }
     requires same { windows ≡ N }
     ensures run { IfOk result (λ run. IsRun windows image.now input.now limit run) }
-    ensures fault { IfErr result (λ fault. fault ≡ RunFault.Memory) }
+    ensures fault { IfErr result (λ fault. fault ≡ RunFault.Memory refused) }
 {
     let _ = windows;
     let mut board = begun::<N>(alloc, image, input)?;
@@ -44,7 +45,7 @@ fn run_on<const N: usize, P: Progress>(
             },
             trapped_at: board.reg(Reg::L1),
         }),
-        Err(_refused) => Err(RunFault::Memory),
+        Err(error) => Err(RunFault::from(error)),
     }
 }
 
@@ -71,7 +72,7 @@ fn run_to_10<P: Progress>(
 ) -> Result<Run, RunFault>
     requires { (4 ≤ windows) × (windows ≤ 10) }
     ensures run { IfOk result (λ run. IsRun windows image.now input.now limit run) }
-    ensures fault { IfErr result (λ fault. fault ≡ RunFault.Memory) }
+    ensures fault { IfErr result (λ fault. fault ≡ RunFault.Memory refused) }
 {
     run_on_these!(windows, alloc, image, input, limit, progress: 4 5 6 7 8 9 or 10)
 }
@@ -87,7 +88,7 @@ fn run_to_17<P: Progress>(
 ) -> Result<Run, RunFault>
     requires { (11 ≤ windows) × (windows ≤ 17) }
     ensures run { IfOk result (λ run. IsRun windows image.now input.now limit run) }
-    ensures fault { IfErr result (λ fault. fault ≡ RunFault.Memory) }
+    ensures fault { IfErr result (λ fault. fault ≡ RunFault.Memory refused) }
 {
     run_on_these!(windows, alloc, image, input, limit, progress: 11 12 13 14 15 16 or 17)
 }
@@ -103,7 +104,7 @@ fn run_to_24<P: Progress>(
 ) -> Result<Run, RunFault>
     requires { (18 ≤ windows) × (windows ≤ 24) }
     ensures run { IfOk result (λ run. IsRun windows image.now input.now limit run) }
-    ensures fault { IfErr result (λ fault. fault ≡ RunFault.Memory) }
+    ensures fault { IfErr result (λ fault. fault ≡ RunFault.Memory refused) }
 {
     run_on_these!(windows, alloc, image, input, limit, progress: 18 19 20 21 22 23 or 24)
 }
@@ -119,7 +120,7 @@ fn run_to_32<P: Progress>(
 ) -> Result<Run, RunFault>
     requires { (25 ≤ windows) × (windows ≤ 32) }
     ensures run { IfOk result (λ run. IsRun windows image.now input.now limit run) }
-    ensures fault { IfErr result (λ fault. fault ≡ RunFault.Memory) }
+    ensures fault { IfErr result (λ fault. fault ≡ RunFault.Memory refused) }
 {
     run_on_these!(windows, alloc, image, input, limit, progress: 25 26 27 28 29 30 31 or 32)
 }
@@ -137,7 +138,7 @@ pub fn run_windows<P: Progress>(
 ) -> Result<Run, RunFault>
     requires { (4 ≤ windows) × (windows ≤ 32) }
     ensures run { IfOk result (λ run. IsRun windows image.now input.now limit run) }
-    ensures fault { IfErr result (λ fault. fault ≡ RunFault.Memory) }
+    ensures fault { IfErr result (λ fault. fault ≡ RunFault.Memory refused) }
 {
     if windows <= 10 {
         run_to_10(alloc, windows, image, input, limit, progress)

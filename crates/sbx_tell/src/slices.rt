@@ -2,8 +2,9 @@
 ghost use Rattle.std.specs.Prelude.{◌≡◌, IfErr, IfOk};
 ghost use Rattle.v8_board.specs.Contains.{Keeps};
 ghost use Rattle.v8_board.specs.Runs.{IsRun, outcome_of};
+ghost use Rattle.want.specs.Wants.{refused};
 
-use sbx_raw::{Ending, Outcome, RunFault, SlicePort};
+use sbx_raw::{Ending, Outcome, RunFault, SlicePort, fault_of};
 use v8_board::Board;
 
 /// Who is told how far a run has come.
@@ -24,17 +25,17 @@ pub fn run_slices<const N: usize, P: Progress>(
     ensures run { IfOk result (λ told. IsRun N limit board.old.state board.new.state) }
     ensures told { IfOk result (λ told. told ≡ outcome_of N board.new.state) }
     ensures contained { IfOk result (λ told. Keeps N board.old.state board.new.state) }
-    ensures fault { IfErr result (λ fault. fault ≡ RunFault.Memory) }
+    ensures fault { IfErr result (λ fault. fault ≡ RunFault.Memory refused) }
 {
     for _ in 0..limit / SLICE {
         match board.run(SLICE) {
             Ok(outcome) if outcome.ending == Ending::Limit => progress.made(outcome.turns),
             Ok(_ended) => {}
-            Err(_fault) => return Err(RunFault::Memory),
+            Err(fault) => return Err(fault_of(board, fault)),
         }
     }
     match board.run(limit % SLICE) {
         Ok(outcome) => Ok(outcome),
-        Err(_fault) => Err(RunFault::Memory),
+        Err(fault) => Err(fault_of(board, fault)),
     }
 }
