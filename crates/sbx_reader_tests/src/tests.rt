@@ -187,7 +187,7 @@ fn is_greatest_read(alloc: Global, size: usize) -> bool {
             Ok(text) => text.as_slice() == bytes.as_slice(),
             Err(AllocError) => true,
         },
-        Err(fault) => fault == ImageFault::Memory,
+        Err(fault) => matches!(fault, ImageFault::Memory(_)),
     }
 }
 

@@ -98,11 +98,11 @@ fn turns_are_told(rt: HostRuntime) -> Result<(), Fail> {
     let mut sink = Sink::new();
     let done = match parse(rt.alloc(), HELLO) {
         Ok(image) => watch_windows(rt.alloc(), 8, &image, b"", 100_000, &mut sink),
-        Err(_refused) => Err(RunFault::Memory),
+        Err(_refused) => return Ok(()),
     };
     match done {
         Ok(()) => assert!(rt; sink.front() == TURNS.as_bytes()),
-        Err(fault) => assert!(rt; fault == RunFault::Memory),
+        Err(fault) => assert!(rt; matches!(fault, RunFault::Memory(_))),
     }
     Ok(())
 }
@@ -112,7 +112,7 @@ fn a_long_trace_has_lines_that_fit(rt: HostRuntime) -> Result<(), Fail> {
     let mut sink = Sink::new();
     let done = match parse(rt.alloc(), FOREVER) {
         Ok(image) => watch_windows(rt.alloc(), 32, &image, b"", 200_000, &mut sink),
-        Err(_refused) => Err(RunFault::Memory),
+        Err(_refused) => return Ok(()),
     };
     if done.is_ok() {
         assert!(rt; sink.longest <= 100, "{}", sink.longest);
