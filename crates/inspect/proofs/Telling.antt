@@ -10,7 +10,9 @@ use Rattle.sbx_explain.specs.Refusals.{Tells}
 use Rattle.sbx_tell.specs.declared.run.Run.{Run}
 use Rattle.sbx_tell.specs.Reports.{run_text}
 use Rattle.sbx_tell.specs.Runs.{IsRun}
-use Rattle.inspect.specs.Told.{Explained, IsVerdict, Ran, Shown}
+use Rattle.sbx_raw.specs.Traces.{Wrote}
+use Rattle.sbx_watch.specs.Watched.{IsWatched}
+use Rattle.inspect.specs.Told.{Explained, IsVerdict, Ran, Shown, Traced}
 
 -- a flush keeps what a write appended
 pub appends_kept : (a b c : Option (List ℕ)) (bs : List ℕ) → Appends a b bs → Keeps b c → Appends a c bs
@@ -53,6 +55,15 @@ pub ran_if : (count windows limit : ℕ) (file input old new : Option (List ℕ)
 ran_if count windows limit file input old new parts items slice run (Ok u) read whole same many is grown =
     ran_on count windows limit file input old new parts items slice run read whole same many is grown
 ran_if count windows limit file input old new parts items slice run (Err e) read whole same many is grown = grown
+
+pub traced_on : (count windows limit : ℕ) (file input old new : Option (List ℕ)) (parts : Parts) (items slice : List ℕ)
+    → IfSome file (λ bytes. reading bytes ≡ Ok parts) → IfSome input (λ all. items ≡ all) → slice ≡ items → count ≡ windows
+    → Wrote old new (IsWatched count parts slice limit) → Traced windows limit file input old new
+traced_on count windows limit None input old new parts items slice read whole same many wrote = tt
+traced_on count windows limit (Some bytes) None old new parts items slice read whole same many wrote = tt
+traced_on count windows limit (Some bytes) (Some all) old new parts items slice read whole same many (text, watched, grown) =
+    let there : IsWatched windows parts slice limit text = subst (λ (n : ℕ). IsWatched n parts slice limit text) many watched in
+    (parts, read, (text, subst (λ (i : List ℕ). IsWatched windows parts i limit text) (same ∙ whole) there, grown))
 
 verdict_of : (parts : Parts) (found : Option Refusal) → (found ≡ None → Checked parts) → IfSome found (IsFirst parts) → IsVerdict parts found
 verdict_of parts None accepted refused = accepted refl

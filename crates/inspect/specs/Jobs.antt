@@ -1,10 +1,11 @@
 -- What a command line may ask for.
 use Rattle.std.specs.Prelude.{◌≤◌}
 use Rattle.inspect.specs.declared.words.Job.{Job}
-use Rattle.inspect.specs.declared.words.Job.TheVariants.{Image, Run, Why}
+use Rattle.inspect.specs.declared.words.Job.TheVariants.{Image, Run, Trace, Why}
 
 -- its numbers are in their ranges
 abbrev pub IsInRange : Job → Type 0
 IsInRange (Image image) = Unit {0}
 IsInRange (Run image windows limit) = (4 ≤ windows) × (windows ≤ 32) × (limit ≤ 9999999999)
+IsInRange (Trace image windows limit) = (4 ≤ windows) × (windows ≤ 32) × (limit ≤ 9999999999)
 IsInRange (Why image) = Unit {0}

@@ -7,9 +7,11 @@ use Rattle.sbx_rules.specs.declared.cause.Refusal.{Refusal}
 use Rattle.sbx_rules.specs.Verdicts.{Checked, IsFirst}
 use Rattle.sbx_declare.specs.Images.{image_text}
 use Rattle.sbx_explain.specs.Refusals.{Tells}
+use Rattle.sbx_raw.specs.Traces.{Wrote}
 use Rattle.sbx_tell.specs.declared.run.Run.{Run}
 use Rattle.sbx_tell.specs.Reports.{run_text}
 use Rattle.sbx_tell.specs.Runs.{IsRun}
+use Rattle.sbx_watch.specs.Watched.{IsWatched}
 
 -- The output grew by the text of the image that the bytes spell.
 abbrev pub Shown : Option (List ℕ) → Option (List ℕ) → Option (List ℕ) → Type 0
@@ -19,6 +21,11 @@ Shown file old new = IfSome file (λ bytes. (parts : Parts) × (reading bytes �
 abbrev pub Ran : ℕ → ℕ → Option (List ℕ) → Option (List ℕ) → Option (List ℕ) → Option (List ℕ) → Type 0
 Ran windows limit file input old new = IfSome file (λ bytes. IfSome input (λ all. (parts : Parts) × (run : Run)
     × (reading bytes ≡ Ok parts) × IsRun windows parts all limit run × Appends old new (run_text windows limit run)))
+
+-- The output grew by a text that tells each turn of such a run.
+abbrev pub Traced : ℕ → ℕ → Option (List ℕ) → Option (List ℕ) → Option (List ℕ) → Option (List ℕ) → Type 0
+Traced windows limit file input old new = IfSome file (λ bytes. IfSome input (λ all. (parts : Parts)
+    × (reading bytes ≡ Ok parts) × Wrote old new (IsWatched windows parts all limit)))
 
 -- The refusal is that of the image; where there is none, no rule is broken.
 abbrev pub IsVerdict : Parts → Option Refusal → Type 0

@@ -4,7 +4,7 @@ ghost use Rattle.std.specs.Io.KnownBytes.{Appends};
 ghost use Rattle.sbx_image.specs.Reading.{reading};
 ghost use Rattle.sbx_command.specs.Stops.{IsTrueOfImage};
 ghost use Rattle.sbx_tell.specs.Reports.{run_text};
-ghost use Rattle.inspect.specs.Told.{Explained, Ran, Shown};
+ghost use Rattle.inspect.specs.Told.{Explained, Ran, Shown, Traced};
 
 use sbx_command::{ReadFault, Stop, Windows, read_whole};
 use sbx_declare::push_image;
@@ -12,6 +12,7 @@ use sbx_explain::push_why;
 use sbx_image::{Image, parse};
 use sbx_rules::Refusal;
 use sbx_tell::{Progress, Run, push_run, run_windows};
+use sbx_watch::watch_windows;
 use std::alloc::{AllocError, Global};
 use std::io::{Read, Write};
 
@@ -109,6 +110,24 @@ pub fn run_image<F: Read, I: Read, O: Write, P: Progress>(
     let count = windows.count();
     let run = run_windows(alloc, count, &image, bytes.as_slice(), limit, progress)?;
     tell_run(alloc, count, limit, &run, out)
+}
+
+/// Runs the image of a file on the input, which is read whole first, on so many windows, up to so many turns, and tells each turn.
+pub fn trace_image<F: Read, I: Read, O: Write>(
+    alloc: Global,
+    windows: Windows,
+    limit: u64,
+    file: &mut F,
+    input: &mut I,
+    out: &mut O,
+) -> Result<(), Stop>
+    ensures traced { OnOk result (Traced windows limit (F.remaining file.old) (I.remaining input.old) (O.contents out.old) (O.contents out.new)) }
+    ensures stop { IfErr result (λ stop. IfSome (F.remaining file.old) (IsTrueOfImage stop)) }
+{
+    let image = image_in(alloc, file)?;
+    let bytes = input_of(alloc, input)?;
+    watch_windows(alloc, windows.count(), &image, bytes.as_slice(), limit, out)?;
+    Ok(())
 }
 
 /// Tells why the image of a file is refused, and gives the refusal; none of an image that breaks no rule, of which it says so.

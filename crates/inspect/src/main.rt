@@ -1,11 +1,11 @@
-//! The second program: it tells of an image file what it declares, what its run gives, and why it is refused.
+//! The second program: it tells of an image file what it declares, what its run gives, turn by turn where that is asked for, and why it is refused.
 #![tactic(auto)]
 
 mod commands;
 mod progress;
 mod words;
 
-use commands::{explain_image, run_image, show_image};
+use commands::{explain_image, run_image, show_image, trace_image};
 use progress::Lines;
 use sbx_command::Stop;
 use std::alloc::AllocError;
@@ -29,7 +29,10 @@ fn opened(rt: &HostRuntime, path: &str) -> Result<File, Stop> {
 
 /// Does a job, and tells on standard output.
 fn perform(rt: &HostRuntime, job: Job<'_>) -> Result<(), Stop> {
-    let (Job::Image { image } | Job::Run { image, .. } | Job::Why { image }) = job;
+    let (Job::Image { image }
+    | Job::Run { image, .. }
+    | Job::Trace { image, .. }
+    | Job::Why { image }) = job;
     let mut file = opened(rt, image)?;
     let Ok(mut out) = BufWriter::new(rt.alloc(), rt.stdout()) else {
         return Err(Stop::Memory);
@@ -44,6 +47,14 @@ fn perform(rt: &HostRuntime, job: Job<'_>) -> Result<(), Stop> {
             &mut rt.stdin(),
             &mut out,
             &mut Lines::new(rt),
+        ),
+        Job::Trace { windows, limit, .. } => trace_image(
+            rt.alloc(),
+            windows,
+            limit,
+            &mut file,
+            &mut rt.stdin(),
+            &mut out,
         ),
         Job::Why { .. } => {
             explain_image(rt.alloc(), &mut file, &mut out)?;

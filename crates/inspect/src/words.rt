@@ -18,6 +18,12 @@ pub enum Job<'a> {
         windows: Windows,
         limit: u64,
     },
+    /// The turns of its run on so many register windows, up to a limit of them.
+    Trace {
+        image: &'a str,
+        windows: Windows,
+        limit: u64,
+    },
     /// Why it is refused.
     Why {
         image: &'a str,
@@ -29,9 +35,10 @@ pub const USAGE: &str = "Usage: inspect COMMAND [--windows N] [--limit T] IMG
 
   image IMG    tells what an image declares, in the source language's own words
   run IMG      runs any image on standard input and tells what it put out, how it ended, its turns and its pages
+  trace IMG    runs any image on standard input and tells each turn: place, instruction, and what it changed
   why IMG      tells why an image is refused: the rule, the word, and what is known there
 
-run: --windows N for N register windows, 4 to 32 (8), --limit T for at most T turns, 0 to 9999999999 (100000).
+run, trace: --windows N is the count of register windows, 4 to 32 (8); --limit T the most turns, 0 to 9999999999 (100000).
 Status 0: told. 2: no image. 3: other words. 4: a file, the input or the output fails. 5: memory.
 ";
 
@@ -105,6 +112,11 @@ fn job_of<'a>(command: &str, image: &'a str, options: &Options<'a>) -> Option<Jo
         ("image", None, None) => Some(Job::Image { image }),
         ("why", None, None) => Some(Job::Why { image }),
         ("run", windows, limit) => Some(Job::Run {
+            image,
+            windows: window_count(windows)?,
+            limit: turns(limit)?,
+        }),
+        ("trace", windows, limit) => Some(Job::Trace {
             image,
             windows: window_count(windows)?,
             limit: turns(limit)?,

@@ -254,6 +254,13 @@ impl<const N: usize, P: Port> Board<N, P> {
         self.machine.wim()
     }
 
+    /// Y, the multiply and divide register.
+    pub fn y(&self) -> u32
+        ensures { result ≡ self.now.state.world.cpu.control.y }
+    {
+        self.machine.y()
+    }
+
     /// The word of RAM that begins at a physical address, a multiple of 4; None elsewhere.
     pub fn entry(&self, pa: u64) -> Option<u32>
         ensures { result ≡ entry_of self.now.state.world.memory.ram pa }

@@ -1,0 +1,175 @@
+//! The turns of a run, one after the other.
+ghost use Rattle.std.specs.Prelude.{◌≡◌, ◌≤◌, OnOk};
+ghost use Rattle.sbx_raw.specs.Traces.{Wrote};
+ghost use Rattle.sbx_watch.specs.Watched.{IsWatched, WatchedRun};
+
+use crate::changes::Seen;
+use crate::sheet::Sheet;
+use crate::turns::make_turn;
+use sbx_image::{Function, Image};
+use sbx_raw::{RunFault, SlicePort, begun};
+use std::alloc::{AllocError, Global};
+use std::io::Write;
+use v8_board::Board;
+
+/// Runs a board to an end, but at most so many turns, and writes the text of each.
+fn watch_turns<const N: usize, W: Write>(
+    alloc: Global,
+    board: &mut Board<N, SlicePort<'_>>,
+    functions: &[Function],
+    limit: u64,
+    out: &mut W,
+) -> Result<(), RunFault>
+    requires { (4 ≤ N) × (N ≤ 32) }
+    ensures { OnOk result (WatchedRun N functions.now limit board.old.state board.new.state (W.contents out.old) (W.contents out.new)) }
+{
+    let mut seen = Seen::new(board);
+    let mut sheet = Sheet::new(alloc);
+    let mut line = String::new(alloc);
+    for done in 0..limit {
+        let None = board.ending() else {
+            return Ok(());
+        };
+        let turn = match board.step() {
+            Ok(turn) => turn,
+            Err(_fault) => return Err(RunFault::Memory),
+        };
+        match make_turn(
+            &mut line,
+            &mut sheet,
+            functions,
+            done + 1,
+            &turn,
+            &mut seen,
+            board,
+        ) {
+            Ok(()) => {}
+            Err(AllocError) => return Err(RunFault::Memory),
+        }
+        match out.write_all(line.as_bytes()) {
+            Ok(()) => {}
+            Err(_) => return Err(RunFault::Writer),
+        }
+    }
+    Ok(())
+}
+
+/// The turns on `N` windows, which are as many as the number says.
+fn watch_on<const N: usize, W: Write>(
+    alloc: Global,
+    windows: u32,
+    image: &Image,
+    input: &[u8],
+    limit: u64,
+    out: &mut W,
+) -> Result<(), RunFault>
+    requires range { (4 ≤ N) × (N ≤ 32) }
+    requires same { windows ≡ N }
+    ensures { OnOk result (Wrote (W.contents out.old) (W.contents out.new) (IsWatched windows image.now input.now limit)) }
+{
+    let _ = windows;
+    let mut board = begun::<N>(alloc, image, input)?;
+    watch_turns(alloc, &mut board, image.functions(), limit, out)?;
+    match out.flush() {
+        Ok(()) => Ok(()),
+        Err(_) => Err(RunFault::Writer),
+    }
+}
+
+/// The turns on as many windows as there are, of these numbers, which rise from the least that it can be to the greatest.
+macro_rules! watch_on_these {
+    ($windows:ident, $alloc:ident, $image:ident, $input:ident, $limit:ident, $out:ident: $($count:literal)* or $last:literal) => {{
+        $(
+            if $windows <= $count {
+                return watch_on::<$count, W>($alloc, $windows, $image, $input, $limit, $out);
+            }
+        )*
+        watch_on::<$last, W>($alloc, $windows, $image, $input, $limit, $out)
+    }};
+}
+
+/// The turns on 4 to 10 windows.
+fn watch_to_10<W: Write>(
+    alloc: Global,
+    windows: u32,
+    image: &Image,
+    input: &[u8],
+    limit: u64,
+    out: &mut W,
+) -> Result<(), RunFault>
+    requires { (4 ≤ windows) × (windows ≤ 10) }
+    ensures { OnOk result (Wrote (W.contents out.old) (W.contents out.new) (IsWatched windows image.now input.now limit)) }
+{
+    watch_on_these!(windows, alloc, image, input, limit, out: 4 5 6 7 8 9 or 10)
+}
+
+/// The turns on 11 to 17 windows.
+fn watch_to_17<W: Write>(
+    alloc: Global,
+    windows: u32,
+    image: &Image,
+    input: &[u8],
+    limit: u64,
+    out: &mut W,
+) -> Result<(), RunFault>
+    requires { (11 ≤ windows) × (windows ≤ 17) }
+    ensures { OnOk result (Wrote (W.contents out.old) (W.contents out.new) (IsWatched windows image.now input.now limit)) }
+{
+    watch_on_these!(windows, alloc, image, input, limit, out: 11 12 13 14 15 16 or 17)
+}
+
+/// The turns on 18 to 24 windows.
+fn watch_to_24<W: Write>(
+    alloc: Global,
+    windows: u32,
+    image: &Image,
+    input: &[u8],
+    limit: u64,
+    out: &mut W,
+) -> Result<(), RunFault>
+    requires { (18 ≤ windows) × (windows ≤ 24) }
+    ensures { OnOk result (Wrote (W.contents out.old) (W.contents out.new) (IsWatched windows image.now input.now limit)) }
+{
+    watch_on_these!(windows, alloc, image, input, limit, out: 18 19 20 21 22 23 or 24)
+}
+
+/// The turns on 25 to 32 windows.
+fn watch_to_32<W: Write>(
+    alloc: Global,
+    windows: u32,
+    image: &Image,
+    input: &[u8],
+    limit: u64,
+    out: &mut W,
+) -> Result<(), RunFault>
+    requires { (25 ≤ windows) × (windows ≤ 32) }
+    ensures { OnOk result (Wrote (W.contents out.old) (W.contents out.new) (IsWatched windows image.now input.now limit)) }
+{
+    watch_on_these!(windows, alloc, image, input, limit, out: 25 26 27 28 29 30 31 or 32)
+}
+
+/// Runs an image on an input, on so many windows, 4 to 32, to an end, but at most so many turns, and writes a text for each: its
+/// number, the window, the mode, PC and the name of the place before it, and the instruction; then a trap by its name, the registers
+/// that it changed, PSR, WIM and Y, pages that it referenced or modified for the first time, the words that it stored, and the byte
+/// that it put out. Lines have at most 100 columns, and those that go on begin with blanks. Each count is a machine of its own.
+pub fn watch_windows<W: Write>(
+    alloc: Global,
+    windows: u32,
+    image: &Image,
+    input: &[u8],
+    limit: u64,
+    out: &mut W,
+) -> Result<(), RunFault>
+    requires { (4 ≤ windows) × (windows ≤ 32) }
+    ensures { OnOk result (Wrote (W.contents out.old) (W.contents out.new) (IsWatched windows image.now input.now limit)) }
+{
+    if windows <= 10 {
+        watch_to_10(alloc, windows, image, input, limit, out)
+    } else if windows <= 17 {
+        watch_to_17(alloc, windows, image, input, limit, out)
+    } else if windows <= 24 {
+        watch_to_24(alloc, windows, image, input, limit, out)
+    } else {
+        watch_to_32(alloc, windows, image, input, limit, out)
+    }
+}
