@@ -31,6 +31,21 @@ pub const MEMORY: [u32; 9] = [
     0x0100_0000,
 ];
 
+/// `call .+28; nop; addcc %o2,-1,%o2; bne .-12; nop; ba .-20; nop; save %sp,-96,%sp; add %i1,%i2,%l0; ret; restore %l0,0,%o1`
+pub const WINDOWS: [u32; 11] = [
+    0x4000_0007,
+    0x0100_0000,
+    0x9482_BFFF,
+    0x12BF_FFFD,
+    0x0100_0000,
+    0x10BF_FFFB,
+    0x0100_0000,
+    0x9DE3_BFA0,
+    0xA006_401A,
+    0x81C7_E008,
+    0x93EC_2000,
+];
+
 /// Where the code begins, in bytes.
 const CODE: u32 = 0x4_0000;
 

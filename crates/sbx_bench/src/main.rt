@@ -4,7 +4,7 @@
 //! Prints what the board counted and the register that the loop counts down, the bytes that were put out, or the lines of the trace.
 //! Then verifies images of each shape, a great one and one of a quarter of it, and prints the verdicts; the times go to standard error.
 //!
-//! Arguments, in any order: the number of turns; `arithmetic` or `memory` for that loop alone; `straight`, `branches`, `cells` or `calls`
+//! Arguments, in any order: the number of turns; `arithmetic`, `memory` or `windows` for that loop alone; `straight`, `branches`, `cells` or `calls`
 //! for that shape alone; `step`, `run`, `raw` or `trace` for that way alone, in place of all others and of verification.
 #![tactic(auto)]
 
@@ -28,6 +28,7 @@ use ways::Way;
 enum Loop {
     Arithmetic,
     Memory,
+    Windows,
 }
 
 /// What is measured: a loop's turns, or a shape's verification.
@@ -37,9 +38,10 @@ enum Subject {
     Shape(Shape),
 }
 
-const SUBJECTS: [(&str, Subject); 6] = [
+const SUBJECTS: [(&str, Subject); 7] = [
     ("arithmetic", Subject::Loop(Loop::Arithmetic)),
     ("memory", Subject::Loop(Loop::Memory)),
+    ("windows", Subject::Loop(Loop::Windows)),
     ("straight", Subject::Shape(Shape::Straight)),
     ("branches", Subject::Shape(Shape::Branches)),
     ("cells", Subject::Shape(Shape::Cells)),
@@ -106,6 +108,7 @@ fn measure_loop(rt: &HostRuntime, plan: Plan, loop_name: &str, measured: Loop) -
     let words = match measured {
         Loop::Arithmetic => loops::ARITHMETIC.as_slice(),
         Loop::Memory => loops::MEMORY.as_slice(),
+        Loop::Windows => loops::WINDOWS.as_slice(),
     };
     let Ok(image) = loops::image(rt.alloc(), words) else {
         return Err(anyhow!("the loop is no image"));

@@ -128,11 +128,11 @@ entered_registers n w v outs locals flat few here there f o l =
         (eight_index 0 0 flat (omega arith) ∙ f.zero)
 
 -- What is known of the fields of a file whose current window has become v, and was another one in old.
-pub record Entered (n v mask : ℕ) (outs locals : List (List ℕ)) (flat : List ℕ) (old : Windows) : Type 0 where
-  pub shows : shown n outs locals flat v mask ≡ moved old v
+pub record Entered (n v mask : ℕ) (out_ring local_ring : List (List ℕ)) (flat : List ℕ) (old : Windows) : Type 0 where
+  pub shows : shown n out_ring local_ring flat v mask ≡ moved old v
   pub registers : AreRegisters flat
-  pub outs : AreHalves n outs
-  pub locals : AreHalves n locals
+  pub outs : AreHalves n out_ring
+  pub locals : AreHalves n local_ring
 
 -- the same of the words that were read and written, however they are named
 pub entered_as : (n w v mask : ℕ) (outs locals : List (List ℕ)) (flat h0 h8 h16 h24 new : List ℕ) (a b : ℕ) →

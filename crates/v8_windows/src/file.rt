@@ -205,7 +205,7 @@ impl<const N: usize> RegFile<N> {
         let outs = self.outs[window];
         let locals = self.locals[window];
         let ins = self.outs[Self::next(window)];
-        self.registers = whole(globals, outs, locals, ins);
+        self.registers = whole(&globals, &outs, &locals, &ins);
         self.current = window;
     }
 

@@ -20,8 +20,8 @@ pub(crate) fn half(flat: &[u32; 32], at: usize) -> [u32; 8]
 }
 
 /// The registers of a window, from its globals, outs, locals and ins.
-pub(crate) fn whole(globals: [u32; 8], outs: [u32; 8], locals: [u32; 8], ins: [u32; 8]) -> [u32; 32]
-    ensures { result ≡ globals ++ (outs ++ (locals ++ ins)) }
+pub(crate) fn whole(globals: &[u32; 8], outs: &[u32; 8], locals: &[u32; 8], ins: &[u32; 8]) -> [u32; 32]
+    ensures { result ≡ globals.now ++ (outs.now ++ (locals.now ++ ins.now)) }
 {
     [
         globals[0], globals[1], globals[2], globals[3], globals[4], globals[5], globals[6], globals[7],
