@@ -942,3 +942,24 @@ fn state_registers_are_set_and_read(rt: HostRuntime) {
     machine.boot();
     assert!(rt; has_booted(&machine));
 }
+
+/// The level of the page's entry that the machine keeps for an address.
+fn kept_level(machine: &Tested, va: u32) -> Option<usize> {
+    machine.cached(va).map(|found| found.level)
+}
+
+/// Whether the next fetch finds an invalid entry at level 0: from supervisor instructions, of fault type 1.
+fn finds_no_entry(machine: &mut Tested) -> bool {
+    first_end(machine) == Some(Event::Trapped(TrapType::new(0x01)))
+        && machine.fault_status() == 0x66
+}
+
+/// A store to a table's word is seen by the next fetch, and takes with it what was kept by that word.
+#[test]
+fn a_stored_table_word_is_what_is_found(rt: HostRuntime) {
+    // ld [%g0+0x7F8],%g2; st %g0,[%g0+0xFFC]
+    let mut machine = machine(3, 0xA0, &[0xC40027F8, 0xC0202FFC]);
+    assert!(rt; kept_level(&machine, 0x7F8).is_none() && runs(&mut machine));
+    assert!(rt; kept_level(&machine, 0x7F8) == Some(0) && runs(&mut machine));
+    assert!(rt; kept_level(&machine, 0x7F8).is_none() && finds_no_entry(&mut machine));
+}
