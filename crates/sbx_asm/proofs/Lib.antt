@@ -3,3 +3,8 @@ mod Steps
 mod Tables
 mod Names
 mod Copies
+mod Wholes
+mod StatementWords
+mod Numbers
+mod DataBytes
+pub mod Fitting

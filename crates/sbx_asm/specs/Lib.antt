@@ -4,3 +4,4 @@ pub mod Places
 pub mod Labels
 pub mod Drafts
 pub mod Meaning
+pub mod Laws

@@ -3,16 +3,10 @@ use Rattle.std.proofs.Common.{◌≡◌, ℕ, List, Option, None, Some, Result, 
 use Rattle.sbx_image.specs.declared.fault.ImageFault.{ImageFault}
 use Rattle.sbx_image.specs.declared.parts.Parts.{Parts}
 use Rattle.sbx_image.specs.Rules.{parts_keep}
-use Rattle.sbx_image.specs.Reading.{reading}
-use Rattle.sbx_image.specs.Spelling.{spelling}
 use Rattle.sbx_image.proofs.AgainLaws.{reading_again}
-use Rattle.sbx_asm.specs.declared.draft.Draft.{Draft}
 use Rattle.sbx_asm.specs.declared.fault.AsmFault.{AsmFault}
-use Rattle.sbx_asm.specs.Drafts.{close_function}
-use Rattle.sbx_asm.specs.Lines.{lines_of}
-use Rattle.sbx_asm.specs.Meaning.{source_image, image_in, judged, kept, parts_in, draft_in, labels_in}
-use Rattle.sbx_flat.specs.Runs.{FlatSafe}
-use Rattle.sbx_rules.specs.Verdicts.{Checked}
+use Rattle.sbx_asm.specs.Meaning.{source_image, judged, kept}
+use Rattle.sbx_asm.proofs.Fitting.{meant_images_fit}
 use Rattle.sbx_sound.proofs.Whole.{checked_is_safe}
 use Rattle.sbx_command.specs.Laws.{SourcesAreSafe}
 
@@ -31,6 +25,7 @@ unfolding source_image
 source_keeps source parts told = judged_keeps _ _ _ parts told
 
 pub sources_are_safe : SourcesAreSafe
-sources_are_safe source parts told fits =
+sources_are_safe source parts told =
     let keeps : parts_keep parts ≡ Ok tt = source_keeps source parts told in
+    let fits = meant_images_fit source parts told in
     (reading_again parts fits.0 keeps, checked_is_safe parts (record { kept = keeps; typed = fits.0; bytes = fits.1 }))

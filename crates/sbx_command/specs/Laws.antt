@@ -6,8 +6,7 @@ use Rattle.sbx_image.specs.Spelling.{spelling}
 use Rattle.sbx_asm.specs.Meaning.{source_image}
 use Rattle.sbx_flat.specs.Runs.{FlatSafe}
 use Rattle.sbx_rules.specs.Verdicts.{Checked}
-use Rattle.sbx_command.specs.Verdicts.{FitsItsFields}
 
 abbrev pub SourcesAreSafe : Type 0
-SourcesAreSafe = (source : List ℕ) (parts : Parts) → source_image source ≡ Ok parts → FitsItsFields parts
+SourcesAreSafe = (source : List ℕ) (parts : Parts) → source_image source ≡ Ok parts
     → (reading (spelling parts) ≡ Ok parts) × (Checked parts → FlatSafe parts)

@@ -8,6 +8,7 @@ mod runner;
 mod windows;
 
 pub use boards::{Ended, run_board};
+pub use limits::tells_limits;
 pub use runner::{Finished, run_accepted};
 pub use sbx_raw::{Ending, Outcome, PageUse, Raw, RunFault, run_raw, trace};
 pub use sbx_verify::{Accepted, Cause, Refusal, budget, verify};

@@ -13,7 +13,7 @@ fn tells_bytes(bytes: &[u8])
 }
 
 /// Tells that an image keeps these limits, which each of its readers says for itself.
-pub(crate) fn tells_limits(image: &Image)
+pub fn tells_limits(image: &Image)
     ensures { IsImage image.now }
 {
     let _words = image.word_count();

@@ -1,0 +1,24 @@
+-- What holds of each part of a list, or at each step of a fold, holds of the whole.
+use Rattle.std.proofs.Common.{ℕ, zero, suc, List, [], ◌∷◌, ◌++◌, Option, None, Some, IfSome}
+use Rattle.std.specs.Prelude.{replicate}
+use Rattle.std.specs.List.{AllByRecursion, flat_map, fold}
+
+pub whatever : {A : Type 0} (o : Option A) → IfSome o (λ _. Unit {0})
+whatever None = tt
+whatever (Some x) = tt
+
+pub append_all : {A : Type 0} (P : A → Type 0) (xs ys : List A) → AllByRecursion P xs → AllByRecursion P ys → AllByRecursion P (xs ++ ys)
+append_all P [] ys h k = k
+append_all P (x ∷ xs) ys h k = (h.0, append_all P xs ys h.1 k)
+
+pub flat_all : {A B : Type 0} (P : B → Type 0) (f : A → List B) → ((x : A) → AllByRecursion P (f x)) → (xs : List A) → AllByRecursion P (flat_map f xs)
+flat_all P f each [] = tt
+flat_all P f each (x ∷ xs) = append_all P (f x) (flat_map f xs) (each x) (flat_all P f each xs)
+
+pub copies_all : {A : Type 0} (P : A → Type 0) (x : A) → P x → (n : ℕ) → AllByRecursion P (replicate n x)
+copies_all P x h zero = tt
+copies_all P x h (suc n) = (h, copies_all P x h n)
+
+pub fold_all : {S A : Type 0} (P : S → Type 0) (f : S → A → S) → ((s : S) (x : A) → P s → P (f s x)) → (xs : List A) (s : S) → P s → P (fold f s xs)
+fold_all P f keeps [] s h = h
+fold_all P f keeps (x ∷ xs) s h = fold_all P f keeps xs (f s x) (keeps s x h)

@@ -1,0 +1,326 @@
+-- A board that waits for bytes, beside the runs on every input that begins with those it has got.
+use Rattle.std.proofs.Common.{◌≡◌, ℕ, zero, suc, ◌+◌, ◌-◌, ◌<◌, ◌≤◌, ◌⊎◌, inl, inr, Bool, true, false, List, [], ◌∷◌, ◌++◌, length, Option, None, Some, refl, sym, ap, subst, ◌∙◌, append_assoc, arith, lit<, rules}
+use Rattle.std.proofs.lemmas.List.{append-nil}
+use Rattle.std.specs.Prelude.{◌≢◌, IfOk, OnErr, OnOk, Result, Ok, Err}
+use Rattle.std.specs.Io.KnownBytes.{Appends, Consumes, IsAtEnd}
+use Rattle.std.proofs.KnownBytes.{Appends-trans, Consumes-trans}
+use Rattle.v8_core.specs.Ram.{AreBytes}
+use Rattle.v8_board.specs.declared.outcome.Ending.{Ending}
+use Rattle.v8_board.specs.Seen.{State, ending_by, ending_of, turned}
+use Rattle.v8_board.specs.Runs.{Turns, IsRun, after}
+use Rattle.v8_board.proofs.Running.{Counted, no_turns, one_turn_more}
+use Rattle.sbx_port.specs.Following.{Fine, FollowsOn, beyond, with_input, with_output}
+use Rattle.sbx_port.specs.Ports.{mark, unknown}
+use Rattle.sbx_port.specs.Streams.{IsAdvanced, IsAll, IsFed, IsHalted, IsKnown, RunsAs, RunsOn, Says, StandsBeside, Streamed}
+use Rattle.sbx_port.specs.declared.carrying.StreamFault.{StreamFault}
+use Rattle.sbx_port.specs.declared.carrying.StreamFault.TheVariants.{Reader, Writer}
+use Rattle.sbx_port.proofs.Followed.{ending_follow, nothing_comes, turn_follow}
+
+-- ---- bytes
+
+pub all_read : (a b : Option (List ℕ)) (xs : List ℕ) → Consumes a b xs → IsAtEnd b → IsAll a xs
+all_read None b xs p q = tt
+all_read (Some x) None xs p q = absurd p
+all_read (Some x) (Some y) xs p q = p ∙ ap (λ (w : List ℕ). xs ++ w) q ∙ append-nil xs
+
+pub no_bytes : AreBytes []
+no_bytes i = omega arith
+
+one_byte : (b : ℕ) → b < 256 → AreBytes (b ∷ [])
+one_byte b less zero = less
+one_byte b less (suc i) = omega arith
+
+pub bytes_after : (xs ys : List ℕ) → AreBytes xs → AreBytes ys → AreBytes (xs ++ ys)
+bytes_after [] ys p q i = q i
+bytes_after (x ∷ xs) ys p q zero = p zero
+bytes_after (x ∷ xs) ys p q (suc i) = bytes_after xs ys (λ k. p (suc k)) q i
+
+pub unknown_bytes : AreBytes unknown
+unknown_bytes = one_byte mark (lit< tt)
+
+pub byte_comes : (b : ℕ) → b < 256 → AreBytes (b ∷ unknown)
+byte_comes b less = bytes_after (b ∷ []) unknown (one_byte b less) unknown_bytes
+
+-- a byte that comes first is some byte
+not_none : (xs ys : List ℕ) → xs ≢ [] → xs ++ ys ≢ []
+not_none [] ys some is = absurd (some refl)
+not_none (x ∷ xs) ys some is = absurd (cc)
+
+-- ---- output only grows
+
+one_grows : (n : ℕ) (s : State n) → (rest : List ℕ) × ((turned n s).1.world.memory.device.output ≡ s.world.memory.device.output ++ rest)
+one_grows n s =
+    let d = s.world.memory.device in
+    let f : FollowsOn n true 0 [] [] d.output (with_output s []) s =
+    record { cpu = refl; ram = refl; device = (d.input, sym (append-nil d.input), sym (append-nil d.input), refl, sym (append-nil d.output), refl); mmu = refl; counts = refl } in
+    let t = turn_follow n true 0 [] [] d.output (with_output s []) s f tt in
+    ((turned n (with_output s [])).1.world.memory.device.output, t.1.device.4)
+
+output_grows : (n k d : ℕ) (s : State n) → (rest : List ℕ) × ((after n (k + d) s).world.memory.device.output ≡ (after n k s).world.memory.device.output ++ rest)
+output_grows n k zero s =
+    let here : k + 0 ≡ k = omega arith in
+    ([], ap (λ (i : ℕ). (after n i s).world.memory.device.output) here ∙ sym (append-nil (after n k s).world.memory.device.output))
+output_grows n k (suc d) s =
+    let before = output_grows n k d s in
+    let more = one_grows n (after n (k + d) s) in
+    let next : k + suc d ≡ suc (k + d) = omega arith in (
+      before.0 ++ more.0,
+      ap (λ (i : ℕ). (after n i s).world.memory.device.output) next ∙ more.1 ∙ ap (λ (w : List ℕ). w ++ more.0) before.1
+          ∙ append_assoc (after n k s).world.memory.device.output before.0 more.0,
+    )
+
+ended_or_not : (o : Option Ending) → (o ≡ None) ⊎ (o ≡ None → ⊥)
+ended_or_not None = inl refl
+ended_or_not (Some e) = inr (λ none. search rules)
+
+-- some turns within the limit go on to a whole run
+goes_to_the_end : (n limit gap : ℕ) (old mid : State n) (t : Turns n old mid) → t.count + gap ≡ limit
+    → (end : State n) × (run : IsRun n limit old end) × (d : ℕ) × (run.turns.count ≡ t.count + d)
+goes_to_the_end n limit zero old mid t is = (mid, record { turns = t; within = omega arith; whole = λ none. omega arith }, 0, omega arith)
+goes_to_the_end n limit (suc gap) old mid t is =
+    elim (ended_or_not (ending_of n mid.world)) [
+      | inl none ↦
+          let more = one_turn_more n t.count old mid (turned n mid).1 (turned n mid).0 (t, refl) none refl in
+          let sum : more.0.count + gap ≡ limit = omega (arith, more.1, is) in
+          let whole = goes_to_the_end n limit gap old (turned n mid).1 more.0 sum in
+          (whole.0, whole.1, suc whole.2, omega (arith, more.1, whole.3))
+      | inr over ↦ (mid, record { turns = t; within = omega (arith, is); whole = λ none. absurd (over none) }, 0, omega arith)
+    ]
+
+-- ---- tracks
+
+-- on every input that begins with the bytes read, so many turns lead to a state that the board follows
+abbrev pub Tracks : (n : ℕ) → State n → ℕ → List ℕ → Bool → List ℕ → State n → Type 0
+Tracks n start k read met w s =
+    (j : List ℕ) → (mid : State n) × Counted n (with_input start (read ++ beyond met j)) mid k × FollowsOn n met mark [] j w s mid
+
+pub tracks_first : (n : ℕ) (s : State n) → s.world.memory.device.input ≡ unknown → Tracks n s 0 [] false [] s
+tracks_first n s waiting = λ j.
+    (with_input s j, no_turns n (with_input s j), record { cpu = refl; ram = refl; device = ([], waiting, refl, refl, refl, refl); mmu = refl; counts = refl })
+
+tracks_turn : (n k : ℕ) (start : State n) (read : List ℕ) (met : Bool) (w : List ℕ) (s t : State n) → Tracks n start k read met w s
+    → ending_of n s.world ≡ None → (turned n s).1 ≡ t → Fine met [] t.world.memory.device → Tracks n start (k + 1) read met w t
+tracks_turn n k start read met w s t tracks going is fine = λ j.
+    let (mid, counted, follows) = tracks j in
+    let good = subst (λ (u : State n). Fine met [] u.world.memory.device) (sym is) fine in
+    let next = turn_follow n met mark [] j w s mid follows good in
+    let goes = sym (ending_follow n met mark [] j w s mid follows) ∙ going in (
+      (turned n mid).1,
+      one_turn_more n k (with_input start (read ++ beyond met j)) mid (turned n mid).1 (turned n mid).0 counted goes refl,
+      subst (λ (u : State n). FollowsOn n met mark [] j w u (turned n mid).1) is next.1,
+    )
+
+no_front : (c : List ℕ) → unknown ≡ c ++ unknown → c ≡ []
+no_front [] is = refl
+no_front (x ∷ []) is = absurd (too_long is)
+  where
+    too_long : unknown ≡ x ∷ unknown → ⊥
+    too_long is = (let e : length unknown ≡ length (x ∷ unknown) = ap (λ (v : List ℕ). length v) is in omega (arith, e))
+no_front (x ∷ y ∷ c) is = absurd (too_long is)
+  where
+    too_long : unknown ≡ x ∷ y ∷ (c ++ unknown) → ⊥
+    too_long is = (let e : length unknown ≡ length (x ∷ y ∷ (c ++ unknown)) = ap (λ (v : List ℕ). length v) is in omega (arith, e))
+
+tracks_fed : (n k : ℕ) (start : State n) (read : List ℕ) (now_met : Bool) (w : List ℕ) (s t : State n) (before now : Option (List ℕ)) → Tracks n start k read false w s
+    → s.world.memory.device.input ≡ unknown → IsFed n now_met s t before now
+    → (more : List ℕ) × Tracks n start k (read ++ more) now_met w t × AreBytes more × Consumes before now more × (now_met ≡ true → IsAtEnd now)
+tracks_fed n k start read true w s t before now tracks waiting (is, got, end) = (
+  [],
+  λ j.
+      let (mid, counted, follows) = tracks [] in
+      let (c, di, ei, en, o, st) = follows.device in
+      let none = no_front c (sym waiting ∙ di) in
+      let f : FollowsOn n true mark [] j w (with_input s []) mid =
+      record { cpu = follows.cpu; ram = follows.ram; device = ([], refl, ei ∙ ap (λ (i : List ℕ). i ++ []) none, en, o, st); mmu = follows.mmu; counts = follows.counts } in
+      (mid, subst (λ (r : List ℕ). Counted n (with_input start (r ++ [])) mid k) (sym (append-nil read)) counted, subst (λ (u : State n). FollowsOn n true mark [] j w u mid) (sym is) f),
+  no_bytes,
+  got,
+  λ yes. end,
+)
+tracks_fed n k start read false w s t before now tracks waiting (b, less, is, got) = (
+  b ∷ [],
+  λ j.
+      let (mid, counted, follows) = tracks (b ∷ j) in
+      let (c, di, ei, en, o, st) = follows.device in
+      let none = no_front c (sym waiting ∙ di) in
+      let f : FollowsOn n false mark [] j w (with_input s (b ∷ unknown)) mid =
+      record { cpu = follows.cpu; ram = follows.ram; device = (b ∷ [], refl, ei ∙ ap (λ (i : List ℕ). i ++ b ∷ j) none, en, o, st); mmu = follows.mmu; counts = follows.counts } in
+      (mid, subst (λ (r : List ℕ). Counted n (with_input start r) mid k) (sym (append_assoc read (b ∷ []) j)) counted, subst (λ (u : State n). FollowsOn n false mark [] j w u mid) (sym is) f),
+  one_byte b less,
+  got,
+  λ yes. search rules,
+)
+
+-- what was read so far, and whether all was
+abbrev pub HasRead : Option (List ℕ) → Option (List ℕ) → List ℕ → Bool → Type 0
+HasRead first now read met = AreBytes read × Consumes first now read × (met ≡ true → IsAll first read)
+
+tracks_known : (n k : ℕ) (start : State n) (read : List ℕ) (met now_met : Bool) (w : List ℕ) (s t : State n) (first before now : Option (List ℕ)) → Tracks n start k read met w s
+    → HasRead first before read met → IsKnown n met now_met s t before now → (all : List ℕ) × Tracks n start k all now_met w t × HasRead first now all now_met
+tracks_known n k start read met now_met w s t first before now tracks (bytes, so_far, end) (inl (same, is, none)) = (
+  read,
+  subst (λ (m : Bool). Tracks n start k read m w t) (sym same) (subst (λ (u : State n). Tracks n start k read met w u) (sym is) tracks),
+  (bytes, subst (λ (r : List ℕ). Consumes first now r) (append-nil read) (Consumes-trans first before now read [] so_far none), λ yes. end (sym same ∙ yes)),
+)
+tracks_known n k start read met now_met w s t first before now tracks (bytes, so_far, end) (inr (not_met, waiting, fed)) =
+    let (more, on, more_bytes, got, ended) = tracks_fed n k start read now_met w s t before now (subst (λ (m : Bool). Tracks n start k read m w s) not_met tracks) waiting fed in
+    let all_got = Consumes-trans first before now read more so_far got in
+    (read ++ more, on, (bytes_after read more bytes more_bytes, all_got, λ yes. all_read first now (read ++ more) all_got (ended yes)))
+
+-- what becomes known of the input ends nothing
+fed_ending : (n : ℕ) (now_met : Bool) (s t : State n) (before now : Option (List ℕ)) → IsFed n now_met s t before now → ending_of n t.world ≡ ending_of n s.world
+unfolding ending_of
+fed_ending n true s t before now (is, got, end) = ap (λ (u : State n). ending_by u.world.memory.device.stopped u.world.cpu.control.tt u.world.cpu.control.error) is
+fed_ending n false s t before now (b, less, is, got) = ap (λ (u : State n). ending_by u.world.memory.device.stopped u.world.cpu.control.tt u.world.cpu.control.error) is
+
+ready_goes : (n : ℕ) (met now_met : Bool) (s t : State n) (before now : Option (List ℕ)) → IsKnown n met now_met s t before now → ending_of n s.world ≡ None → ending_of n t.world ≡ None
+ready_goes n met now_met s t before now (inl (same, is, none)) going = ap (λ (u : State n). ending_of n u.world) is ∙ going
+ready_goes n met now_met s t before now (inr (not_met, waiting, fed)) going = fed_ending n now_met s t before now fed ∙ going
+
+pub tracks_delivered : (n k : ℕ) (start : State n) (read : List ℕ) (met : Bool) (w : List ℕ) (s t : State n) → Tracks n start k read met w s
+    → t ≡ with_output s [] → Tracks n start k read met (w ++ s.world.memory.device.output) t
+tracks_delivered n k start read met w s t tracks is = λ j.
+    let (mid, counted, follows) = tracks j in
+    let (c, di, ei, en, o, st) = follows.device in
+    let all = w ++ s.world.memory.device.output in
+    let f : FollowsOn n met mark [] j all (with_output s []) mid =
+    record { cpu = follows.cpu; ram = follows.ram; device = (c, di, ei, en, o ∙ sym (append-nil all), st); mmu = follows.mmu; counts = follows.counts } in
+    (mid, counted, subst (λ (u : State n). FollowsOn n met mark [] j all u mid) (sym is) f)
+
+-- ---- ends
+
+stands_beside : (n : ℕ) (met : Bool) (j w : List ℕ) (s t : State n) → FollowsOn n met mark [] j w s t → s.world.memory.device.output ≡ [] → StandsBeside n w s t
+stands_beside n met j w s t f empty = record {
+  cpu = f.cpu;
+  ram = f.ram;
+  stopped = f.device.5;
+  mmu = f.mmu;
+  counts = f.counts;
+  output = f.device.4 ∙ ap (λ (o : List ℕ). w ++ o) empty ∙ append-nil w;
+}
+
+pub runs_as : (n k limit : ℕ) (start : State n) (read : List ℕ) (met : Bool) (w : List ℕ) (s : State n) → Tracks n start k read met w s
+    → s.world.memory.device.output ≡ [] → k ≤ limit → (ending_of n s.world ≡ None → k ≡ limit) → RunsAs n start limit s read met w
+runs_as n k limit start read met w s tracks empty within whole = λ j.
+    let (mid, counted, follows) = tracks j in
+    let (t, so_many) = counted in (
+      mid,
+      record { turns = t; within = omega arith; whole = λ none. so_many ∙ whole (ending_follow n met mark [] j w s mid follows ∙ none) },
+      stands_beside n met j w s mid follows empty,
+    )
+
+-- the run goes on from here, to an end or to the limit
+runs_on : (n k limit : ℕ) (start : State n) (read : List ℕ) (met : Bool) (w : List ℕ) (s : State n) → Tracks n start k read met w s → k ≤ limit
+    → (j : List ℕ) → (end : State n) × IsRun n limit (with_input start (read ++ beyond met j)) end
+    × (rest : List ℕ) × (end.world.memory.device.output ≡ w ++ (s.world.memory.device.output ++ rest))
+runs_on n k limit start read met w s tracks within = λ j.
+    let (mid, counted, follows) = tracks j in
+    let (t, so_many) = counted in
+    let from = with_input start (read ++ beyond met j) in
+    let gap : t.count + (limit - t.count) ≡ limit = omega arith in
+    let (end, run, d, sum) = goes_to_the_end n limit (limit - t.count) from mid t gap in
+    let grown = output_grows n t.count d from in
+    let o = s.world.memory.device.output in (
+      end,
+      run,
+      grown.0,
+      ap (λ (u : State n). u.world.memory.device.output) run.turns.is
+          ∙ ap (λ (i : ℕ). (after n i from).world.memory.device.output) sum
+          ∙ grown.1
+          ∙ ap (λ (u : State n). u.world.memory.device.output ++ grown.0) (sym t.is)
+          ∙ ap (λ (p : List ℕ). p ++ grown.0) follows.device.4
+          ∙ append_assoc w o grown.0,
+    )
+
+-- ---- steps of the loop
+
+pub known_after : (n : ℕ) (met ended : Bool) (s0 s t : State n) (before now : Option (List ℕ)) → s ≡ s0 → met ≡ false → s0.world.memory.device.input ≡ unknown → IsFed n ended s t before now
+    → IsKnown n met ended s0 t before now
+known_after n met ended s0 s t before now same not_met waited fed =
+    inr (not_met, waited, subst (λ (u : State n). IsFed n ended u t before now) same fed)
+
+-- where the input's end is known no byte is lacking
+pub no_lack : (met : Bool) (input : List ℕ) → (met ≡ true → input ≡ []) → input ≡ unknown → met ≡ false
+no_lack false input ended lacks = refl
+no_lack true input ended lacks = absurd (nothing (sym (ended refl) ∙ lacks))
+  where
+    nothing : [] ≡ unknown → ⊥
+    nothing is = (let e : length {A = ℕ} [] ≡ length unknown = ap (λ (v : List ℕ). length v) is in omega (arith, e))
+
+-- and a board that was fed lacks none
+pub fed_lacks_none : (n : ℕ) (ended : Bool) (s t : State n) (before now : Option (List ℕ)) → IsFed n ended s t before now → t.world.memory.device.input ≡ unknown → ⊥
+fed_lacks_none n true s t before now (is, got, end) lacks =
+    let all : [] ≡ unknown = sym (ap (λ (u : State n). u.world.memory.device.input) is) ∙ lacks in
+    let e : length {A = ℕ} [] ≡ length unknown = ap (λ (v : List ℕ). length v) all in
+    omega (arith, e)
+fed_lacks_none n false s t before now (b, less, is, got) lacks =
+    let all : b ∷ unknown ≡ unknown = sym (ap (λ (u : State n). u.world.memory.device.input) is) ∙ lacks in
+    let e : length (b ∷ unknown) ≡ length unknown = ap (λ (v : List ℕ). length v) all in
+    omega (arith, e)
+
+pub fed_has_none : (n : ℕ) (ended : Bool) (s t : State n) (before now : Option (List ℕ)) → IsFed n ended s t before now → ended ≡ true → t.world.memory.device.input ≡ []
+fed_has_none n true s t before now (is, got, end) know = ap (λ (u : State n). u.world.memory.device.input) is
+fed_has_none n false s t before now fed know = search rules
+
+-- a board that was fed has put out what it had
+pub fed_output : (n : ℕ) (ended : Bool) (s t : State n) (before now : Option (List ℕ)) → IsFed n ended s t before now → t.world.memory.device.output ≡ s.world.memory.device.output
+fed_output n true s t before now (is, got, end) = ap (λ (u : State n). u.world.memory.device.output) is
+fed_output n false s t before now (b, less, is, got) = ap (λ (u : State n). u.world.memory.device.output) is
+
+pub advanced : (n k : ℕ) (start : State n) (read : List ℕ) (met now_met : Bool) (w : List ℕ) (s t : State n) (first before now : Option (List ℕ)) → Tracks n start k read met w s
+    → HasRead first before read met → ending_of n s.world ≡ None → IsAdvanced n met now_met s t before now
+    → (all : List ℕ) × Tracks n start (k + 1) all now_met w t × HasRead first now all now_met
+advanced n k start read met now_met w s t first before now tracks so_far going a =
+    let (all, on, has) = tracks_known n k start read met now_met w s a.ready first before now tracks so_far a.known in
+    let goes = ready_goes n met now_met s a.ready before now a.known going in
+    (all, tracks_turn n k start all now_met w a.ready t on goes a.made a.fine, has)
+
+pub halted_part : (n k limit : ℕ) (start : State n) (read : List ℕ) (met : Bool) (w : List ℕ) (s : State n) (first before now c d : Option (List ℕ)) (fault : StreamFault) → Tracks n start k read met w s
+    → HasRead first before read met → IsHalted n met s before now → k ≤ limit → fault ≡ Reader → Appends c d w → Streamed first now c d (RunsOn n start limit fault)
+halted_part n k limit start read met w s first before now c d fault tracks so_far (ready, known) within is written =
+    let (all, on, (bytes, got, ended)) = tracks_known n k start read met false w s ready first before now tracks so_far known in (
+      all,
+      false,
+      w,
+      (λ j.
+          let (end, run, rest, put) = runs_on n k limit start all false w ready on within j in
+          (end, run, ready.world.memory.device.output ++ rest, put, subst (λ (f : StreamFault). Says f false (ready.world.memory.device.output ++ rest)) (sym is) refl)),
+      bytes,
+      got,
+      ended,
+      written,
+    )
+
+pub unwritten_part : (n k limit : ℕ) (start : State n) (read : List ℕ) (met : Bool) (w : List ℕ) (s : State n) (first now c d e : Option (List ℕ)) (fault : StreamFault) → Tracks n start k read met w s
+    → HasRead first now read met → s.world.memory.device.output ≢ [] → k ≤ limit → fault ≡ Writer → Appends c d w → Appends d e [] → Streamed first now c e (RunsOn n start limit fault)
+unwritten_part n k limit start read met w s first now c d e fault tracks (bytes, got, ended) some within is written none = (
+  read,
+  met,
+  w,
+  (λ j.
+      let (end, run, rest, put) = runs_on n k limit start read met w s tracks within j in (
+        end,
+        run,
+        s.world.memory.device.output ++ rest,
+        put,
+        subst (λ (f : StreamFault). Says f met (s.world.memory.device.output ++ rest)) (sym is) (not_none s.world.memory.device.output rest some),
+      )),
+  bytes,
+  got,
+  ended,
+  subst (λ (o : List ℕ). Appends c e o) (append-nil w) (Appends-trans c d e w [] written none),
+)
+
+-- ---- a turn that was made
+
+pub kept_ok : (n : ℕ) (met m : Bool) (s ready t : State n) (before now : Option (List ℕ)) (r : Result Bool StreamFault) → IfOk r (λ k. k ≡ m) → OnOk r (Fine m [] t.world.memory.device)
+    → IsKnown n met m s ready before now → (turned n ready).1 ≡ t → (m ≡ true → ready.world.memory.device.input ≡ []) → IfOk r (λ k. IsAdvanced n met k s t before now)
+kept_ok n met m s ready t before now (Ok k) same fine known made none =
+    subst (λ (b : Bool). IsAdvanced n met b s t before now) (sym same)
+    (record { ready = ready; known = known; made = made; fine = fine; still = λ yes. subst (λ (u : State n). u.world.memory.device.input ≡ []) made (nothing_comes n ready (none yes)) })
+kept_ok n met m s ready t before now (Err f) same fine known made none = tt
+
+pub kept_err : (n : ℕ) (met m : Bool) (s ready : State n) (before now : Option (List ℕ)) (r : Result Bool StreamFault) → OnErr r (m ≡ false) → IsKnown n met m s ready before now
+    → OnErr r (IsHalted n met s before now)
+kept_err n met m s ready before now (Ok k) not_met known = tt
+kept_err n met m s ready before now (Err f) not_met known = (ready, subst (λ (b : Bool). IsKnown n met b s ready before now) not_met known)

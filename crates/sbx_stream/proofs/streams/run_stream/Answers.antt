@@ -1,0 +1,62 @@
+use Rattle.std.proofs.Common.{◌≡◌, ℕ, ◌∙◌, ap, subst}
+use Rattle.v8_board.specs.declared.outcome.Outcome.{Outcome}
+use Rattle.sbx_flat.specs.Runs.{budget}
+use Rattle.sbx_image.specs.declared.parts.Parts.{Parts}
+use Rattle.sbx_port.specs.Streams.{RunsAs, RunsOn, Streamed}
+use Rattle.sbx_windows.specs.Runs.{IsImage}
+use Rattle.sbx_stream.specs.Streams.{IsReady}
+use Rattle.sbx_stream.proofs.Streamed.{front, has_exited, no_memory, streamed}
+use Rattle.sbx_stream.proofs.streams.run_stream.Goals as goal
+
+pub returns-in-Err-clause-part : goal.returns-in-Err-clause-part
+returns-in-Err-clause-part g c =
+    no_memory c.args.accepted.now c.image-image.ensures.safe c.in-Err.fault (g.R.Read.remaining c.args.reader.now) (g.W.Write.contents c.args.writer.now) c.in-Err.ensures.fault
+
+pub finish-requires : goal.finish-requires
+finish-requires g c =
+    let parts = c.args.accepted.now in
+    let board = c.in-Ok.board in
+    let same = c.image-image.ensures.image in
+    let reader = g.R.Read.remaining c.args.reader.now in
+    let reader_now = g.R.Read.remaining c.carry.new.reader in
+    let writer = g.W.Write.contents c.args.writer.now in
+    let writer_now = g.W.Write.contents c.carry.new.writer in
+    let now = c.carry.new.board.state in
+    let limits : IsImage parts = subst IsImage same c.tells_limits.ensures in
+    let ready = subst (λ (p : Parts). IsReady g.row.N p board) same c.in-Ok.ensures.ready in
+    let most : c.budget.result ≡ budget parts = c.budget.ensures ∙ ap budget same in
+    let runs = subst (λ (k : ℕ). Streamed reader reader_now writer writer_now (RunsAs g.row.N board.state k now)) most c.in-Ok-carry.ensures.whole in
+    let exited = has_exited g.row.N parts board ready limits c.image-image.ensures.safe reader reader_now writer writer_now now runs in
+    (exited.0, ap (λ (o : Outcome). o.ending) c.outcome.ensures ∙ exited.1)
+
+pub returns-in-Ok-carry-clause-whole : goal.returns-in-Ok-carry-clause-whole
+returns-in-Ok-carry-clause-whole g c =
+    let parts = c.args.accepted.now in
+    let board = c.in-Ok.board in
+    let same = c.image-image.ensures.image in
+    let reader = g.R.Read.remaining c.args.reader.now in
+    let reader_now = g.R.Read.remaining c.carry.new.reader in
+    let writer = g.W.Write.contents c.args.writer.now in
+    let writer_now = g.W.Write.contents c.carry.new.writer in
+    let now = c.carry.new.board.state in
+    let limits : IsImage parts = subst IsImage same c.tells_limits.ensures in
+    let ready = subst (λ (p : Parts). IsReady g.row.N p board) same c.in-Ok.ensures.ready in
+    let most : c.budget.result ≡ budget parts = c.budget.ensures ∙ ap budget same in
+    let runs = subst (λ (k : ℕ). Streamed reader reader_now writer writer_now (RunsAs g.row.N board.state k now)) most c.in-Ok-carry.ensures.whole in
+    streamed g.row.N parts board ready limits c.image-image.ensures.safe reader reader_now writer writer_now now c.finish.result
+    (c.finish.ensures.told ∙ c.outcome.ensures) (c.finish.ensures.pages ∙ c.page_use.ensures) runs
+
+pub returns-clause-part : goal.returns-clause-part
+returns-clause-part g c =
+    let parts = c.args.accepted.now in
+    let board = c.in-Ok.board in
+    let same = c.image-image.ensures.image in
+    let reader = g.R.Read.remaining c.args.reader.now in
+    let reader_now = g.R.Read.remaining c.carry.new.reader in
+    let writer = g.W.Write.contents c.args.writer.now in
+    let writer_now = g.W.Write.contents c.carry.new.writer in
+    let limits : IsImage parts = subst IsImage same c.tells_limits.ensures in
+    let ready = subst (λ (p : Parts). IsReady g.row.N p board) same c.in-Ok.ensures.ready in
+    let most : c.budget.result ≡ budget parts = c.budget.ensures ∙ ap budget same in
+    let runs = subst (λ (k : ℕ). Streamed reader reader_now writer writer_now (RunsOn g.row.N board.state k c.in-Err-carry.fault)) most c.in-Err-carry.ensures.part in
+    front g.row.N parts board ready limits c.image-image.ensures.safe reader reader_now writer writer_now c.in-Err-carry.fault c.fault_of.result c.fault_of.ensures runs

@@ -1,0 +1,7 @@
+//! Runs of accepted images over a reader and a writer.
+#![tactic(auto)]
+
+mod streams;
+
+pub use sbx_run::{Accepted, Cause, Finished, Refusal, RunFault, budget, verify};
+pub use streams::run_stream;
