@@ -1,7 +1,7 @@
 -- Eight registers of a window: read, written, joined.
-use Rattle.std.proofs.Common.{◌≡◌, ◌≢◌, ℕ, zero, suc, ◌+◌, ◌-◌, ◌^◌, ◌<◌, ◌≤◌, ◌⊎◌, inl, inr, List, [], ◌∷◌, ◌++◌, length, get_or, take, drop, refl, sym, ap, ◌∙◌, arith, lit<}
+use Rattle.std.proofs.Common.{◌≡◌, ℕ, zero, suc, ◌+◌, ◌-◌, ◌^◌, ◌<◌, ◌≤◌, ◌⊎◌, inl, inr, List, [], ◌∷◌, ◌++◌, length, take, drop, refl, sym, ap, ◌∙◌, arith, lit<}
 use Rattle.std.specs.Prelude.{slice_index, slice_set}
-use Rattle.std.proofs.lemmas.List.{take_at, drop_at, take_all, length-drop, length-set, length-take-le, length-append, get_or-take, get_or-drop, get_or_past, drop_more, drop-drop, drop-set-lt, drop-set-add, set_past}
+use Rattle.std.proofs.lemmas.List.{take_at, drop_at, take_all, length-drop, length-take-le, get_or-take, get_or-drop, get_or_past, drop_more, drop-drop, drop-set-lt, drop-set-add, set_past}
 use Rattle.v8_windows.specs.Halves.{eight, IsHalf, AreRegisters}
 
 -- one word more from i on

@@ -1,12 +1,12 @@
 -- What the rings of halves and the current window's registers stand for: reads, writes, and another window.
-use Rattle.std.proofs.Common.{◌≡◌, ◌≢◌, ℕ, zero, suc, ◌+◌, ◌-◌, ◌^◌, ◌<◌, ◌≤◌, ◌⊎◌, inl, inr, Bool, true, false, List, [], ◌∷◌, ◌++◌, length, get_or, replicate, refl, sym, ap, ◌∙◌, subst, arith, lit<}
-use Rattle.std.specs.Prelude.{slice_index, slice_set, ◌==◌, nat_lt}
+use Rattle.std.proofs.Common.{◌≡◌, ◌≢◌, ℕ, zero, suc, ◌+◌, ◌-◌, ◌^◌, ◌<◌, ◌≤◌, ◌⊎◌, inl, inr, List, [], ◌++◌, length, get_or, replicate, refl, sym, ap, ◌∙◌, subst, arith, lit<}
+use Rattle.std.specs.Prelude.{slice_index, slice_set}
 use Rattle.std.proofs.lemmas.Bool.Decides.{nat_tests}
 use Rattle.std.proofs.lemmas.List.{get_or-set_same, get_or-set_other, length-set, length-append, get_or_append_left, get_or-append_right, set-set, set_comm, set-get_or, get_or-replicate, get_or_past}
 use Rattle.v8_windows.specs.Windows.{Windows, IsFile, AreGlobals, reg_of, with_reg, word_at, with_word, above, moved}
 use Rattle.v8_windows.specs.Halves.{eight, rows_of, with_outs, with_locals, shown, IsHalf, AreHalves, AreRegisters}
 use Rattle.v8_windows.proofs.Eights.{eight_globals, eight_outs, eight_locals, eight_ins, eight_index, eight_length, eight_half, eight_written, eight_below, eight_above}
-use Rattle.v8_windows.proofs.Rows.{row_is, rows_new, rows_are, halves_set, halves_new, row_set_out, row_set_local}
+use Rattle.v8_windows.proofs.Rows.{row_is, rows_new, rows_are, halves_set, row_set_out, row_set_local}
 use Rattle.v8_windows.proofs.Shape.{fit_written}
 use Rattle.v8_windows.proofs.AfterWrites.{above_less, above_other}
 
@@ -14,8 +14,8 @@ use Rattle.v8_windows.proofs.AfterWrites.{above_less, above_other}
 pub outs_kept : (n w : ℕ) (outs : List (List ℕ)) (flat : List ℕ) → 4 ≤ n → w < n → AreHalves n outs → AreRegisters flat → AreHalves n (with_outs n outs flat w)
 outs_kept n w outs flat few here h f =
     halves_set n (above n w) (slice_set outs w (eight 8 flat)) (eight 24 flat)
-        (halves_set n w outs (eight 8 flat) h (eight_half 8 flat f (omega arith)) here)
-        (eight_half 24 flat f (omega arith)) (above_less n w few here)
+    (halves_set n w outs (eight 8 flat) h (eight_half 8 flat f (omega arith)) here)
+    (eight_half 24 flat f (omega arith)) (above_less n w few here)
 
 pub locals_kept : (n w : ℕ) (locals : List (List ℕ)) (flat : List ℕ) → w < n → AreHalves n locals → AreRegisters flat → AreHalves n (with_locals locals flat w)
 locals_kept n w locals flat here h f = halves_set n w locals (eight 16 flat) h (eight_half 16 flat f (omega arith)) here
@@ -62,7 +62,7 @@ same_length n w outs locals flat o l =
 -- another window: the rings written back, and its registers taken from them
 pub entered : (n w v mask : ℕ) (outs locals : List (List ℕ)) (flat : List ℕ) → 4 ≤ n → w < n → v < n → AreRegisters flat → AreHalves n outs → AreHalves n locals →
     shown n (with_outs n outs flat w) (with_locals locals flat w)
-        (eight 0 flat ++ (get_or (with_outs n outs flat w) v [] ++ (get_or (with_locals locals flat w) v [] ++ get_or (with_outs n outs flat w) (above n v) []))) v mask
+    (eight 0 flat ++ (get_or (with_outs n outs flat w) v [] ++ (get_or (with_locals locals flat w) v [] ++ get_or (with_outs n outs flat w) (above n v) []))) v mask
     ≡ moved (shown n outs locals flat w mask) v
 entered n w v mask outs locals flat few here there f o l =
     let a = eight_length 0 flat (omega (arith, f.count)) in
@@ -72,9 +72,9 @@ entered n w v mask outs locals flat few here there f o l =
     let c = (locals_fine.each v there).count in
     let d = (outs_fine.each (above n v) (above_less n v few there)).count in
     same (eight_globals (eight 0 flat) (get_or O v []) (get_or L v []) (get_or O (above n v) []) a)
-        (eight_outs (eight 0 flat) (get_or O v []) (get_or L v []) (get_or O (above n v) []) a b)
-        (eight_locals (eight 0 flat) (get_or O v []) (get_or L v []) (get_or O (above n v) []) a b c)
-        (eight_ins (eight 0 flat) (get_or O v []) (get_or L v []) (get_or O (above n v) []) a b c d)
+    (eight_outs (eight 0 flat) (get_or O v []) (get_or L v []) (get_or O (above n v) []) a b)
+    (eight_locals (eight 0 flat) (get_or O v []) (get_or L v []) (get_or O (above n v) []) a b c)
+    (eight_ins (eight 0 flat) (get_or O v []) (get_or L v []) (get_or O (above n v) []) a b c d)
   where
     O : List (List ℕ)
     O = with_outs n outs flat w
@@ -125,7 +125,7 @@ entered_registers n w v outs locals flat few here there f o l =
     let outs_fine = outs_kept n w outs flat few here o f in
     let locals_fine = locals_kept n w locals flat here l f in
     registers_kept (eight 0 flat) (get_or (with_outs n outs flat w) v []) (get_or (with_locals locals flat w) v []) (get_or (with_outs n outs flat w) (above n v) []) (eight_half 0 flat f (omega arith)) (outs_fine.each v there) (locals_fine.each v there) (outs_fine.each (above n v) (above_less n v few there))
-        (eight_index 0 0 flat (omega arith) ∙ f.zero)
+    (eight_index 0 0 flat (omega arith) ∙ f.zero)
 
 -- What is known of the fields of a file whose current window has become v, and was another one in old.
 pub record Entered (n v mask : ℕ) (out_ring local_ring : List (List ℕ)) (flat : List ℕ) (old : Windows) : Type 0 where
@@ -147,23 +147,23 @@ entered_as n w v mask outs locals flat h0 h8 h16 h24 new a b few here there f o 
     let O = with_outs n outs flat w in
     let L = with_locals locals flat w in
     let o_is : O1 ≡ O =
-        ap (λ x. slice_set (slice_set outs w x) a h24) q
-        ∙ ap (λ k. slice_set (slice_set outs w (eight 8 flat)) k h24) t
-        ∙ ap (slice_set (slice_set outs w (eight 8 flat)) (above n w)) s in
+    ap (λ x. slice_set (slice_set outs w x) a h24) q
+    ∙ ap (λ k. slice_set (slice_set outs w (eight 8 flat)) k h24) t
+    ∙ ap (slice_set (slice_set outs w (eight 8 flat)) (above n w)) s in
     let l_is : L1 ≡ L = ap (slice_set locals w) r in
     let new_is : new ≡ eight 0 flat ++ (get_or O v [] ++ (get_or L v [] ++ get_or O (above n v) [])) =
-        e
-        ∙ ap (λ x. x ++ (get_or O1 v [] ++ (get_or L1 v [] ++ get_or O1 b []))) p
-        ∙ ap (λ x. eight 0 flat ++ (get_or x v [] ++ (get_or L1 v [] ++ get_or x b []))) o_is
-        ∙ ap (λ x. eight 0 flat ++ (get_or O v [] ++ (get_or x v [] ++ get_or O b []))) l_is
-        ∙ ap (λ k. eight 0 flat ++ (get_or O v [] ++ (get_or L v [] ++ get_or O k []))) u in
+    e
+    ∙ ap (λ x. x ++ (get_or O1 v [] ++ (get_or L1 v [] ++ get_or O1 b []))) p
+    ∙ ap (λ x. eight 0 flat ++ (get_or x v [] ++ (get_or L1 v [] ++ get_or x b []))) o_is
+    ∙ ap (λ x. eight 0 flat ++ (get_or O v [] ++ (get_or x v [] ++ get_or O b []))) l_is
+    ∙ ap (λ k. eight 0 flat ++ (get_or O v [] ++ (get_or L v [] ++ get_or O k []))) u in
     let known : Entered n v mask O L (eight 0 flat ++ (get_or O v [] ++ (get_or L v [] ++ get_or O (above n v) []))) old =
-        record {
-          shows = entered n w v mask outs locals flat few here there f o l;
-          registers = entered_registers n w v outs locals flat few here there f o l;
-          outs = outs_kept n w outs flat few here o f;
-          locals = locals_kept n w locals flat here l f;
-        } in
+    record {
+      shows = entered n w v mask outs locals flat few here there f o l;
+      registers = entered_registers n w v outs locals flat few here there f o l;
+      outs = outs_kept n w outs flat few here o f;
+      locals = locals_kept n w locals flat here l f;
+    } in
     subst (λ x. Entered n v mask x L1 new old) (sym o_is) (subst (λ x. Entered n v mask O x new old) (sym l_is) (subst (λ x. Entered n v mask O L x old) (sym new_is) known))
 
 -- a new file
@@ -200,7 +200,7 @@ reads_out : (n w mask : ℕ) (outs locals : List (List ℕ)) (flat : List ℕ) (
     word_at (shown n outs locals flat w mask) w k ≡ slice_index flat (8 + k)
 reads_out n w mask outs locals flat k few here f o l small =
     let row : get_or (rows_of (with_outs n outs flat w) (with_locals locals flat w)) w [] ≡ eight 8 flat ++ get_or (with_locals locals flat w) w [] =
-        row_is (with_outs n outs flat w) (with_locals locals flat w) w (same_length n w outs locals flat o l) ∙ ap (λ t. t ++ get_or (with_locals locals flat w) w []) (outs_here n w outs flat few here o) in
+    row_is (with_outs n outs flat w) (with_locals locals flat w) w (same_length n w outs locals flat o l) ∙ ap (λ t. t ++ get_or (with_locals locals flat w) w []) (outs_here n w outs flat few here o) in
     ap (λ t. slice_index t k) row
     ∙ get_or_append_left (eight 8 flat) (get_or (with_locals locals flat w) w []) 0 k (omega (arith, eight_length 8 flat (omega (arith, f.count))))
     ∙ eight_index 8 k flat small
@@ -209,9 +209,9 @@ reads_local : (n w mask : ℕ) (outs locals : List (List ℕ)) (flat : List ℕ)
     word_at (shown n outs locals flat w mask) w (8 + k) ≡ slice_index flat (16 + k)
 reads_local n w mask outs locals flat k few here f o l small =
     let row : get_or (rows_of (with_outs n outs flat w) (with_locals locals flat w)) w [] ≡ eight 8 flat ++ eight 16 flat =
-        row_is (with_outs n outs flat w) (with_locals locals flat w) w (same_length n w outs locals flat o l)
-        ∙ ap (λ t. t ++ get_or (with_locals locals flat w) w []) (outs_here n w outs flat few here o)
-        ∙ ap (λ t. eight 8 flat ++ t) (locals_here n w locals flat here l) in
+    row_is (with_outs n outs flat w) (with_locals locals flat w) w (same_length n w outs locals flat o l)
+    ∙ ap (λ t. t ++ get_or (with_locals locals flat w) w []) (outs_here n w outs flat few here o)
+    ∙ ap (λ t. eight 8 flat ++ t) (locals_here n w locals flat here l) in
     let e : 8 + k - 8 ≡ k = omega arith in
     ap (λ t. slice_index t (8 + k)) row
     ∙ get_or-append_right (eight 8 flat) (eight 16 flat) 8 (8 + k) 0 (eight_length 8 flat (omega (arith, f.count))) (omega arith)
@@ -222,8 +222,8 @@ reads_in : (n w mask : ℕ) (outs locals : List (List ℕ)) (flat : List ℕ) (k
     word_at (shown n outs locals flat w mask) (above n w) k ≡ slice_index flat (24 + k)
 reads_in n w mask outs locals flat k few here f o l small =
     let row : get_or (rows_of (with_outs n outs flat w) (with_locals locals flat w)) (above n w) [] ≡ eight 24 flat ++ get_or (with_locals locals flat w) (above n w) [] =
-        row_is (with_outs n outs flat w) (with_locals locals flat w) (above n w) (same_length n w outs locals flat o l)
-        ∙ ap (λ t. t ++ get_or (with_locals locals flat w) (above n w) []) (outs_above n w outs flat few here o) in
+    row_is (with_outs n outs flat w) (with_locals locals flat w) (above n w) (same_length n w outs locals flat o l)
+    ∙ ap (λ t. t ++ get_or (with_locals locals flat w) (above n w) []) (outs_above n w outs flat few here o) in
     ap (λ t. slice_index t k) row
     ∙ get_or_append_left (eight 24 flat) (get_or (with_locals locals flat w) (above n w) []) 0 k (omega (arith, eight_length 24 flat (omega (arith, f.count))))
     ∙ eight_index 24 k flat small
@@ -334,9 +334,9 @@ writes_out n w mask outs locals flat k x few here f o l small =
     let room : k < length (get_or O w []) = omega (arith, ap length half, eight_length 8 flat (omega (arith, f.count))) in
     let other : above n w ≢ w = above_other n w few here in
     let ring : slice_set O w (slice_set (get_or O w []) k x) ≡ slice_set (slice_set outs w (slice_set (eight 8 flat) k x)) (above n w) (eight 24 flat) =
-        ap (λ t. slice_set O w (slice_set t k x)) half
-        ∙ set_comm (slice_set outs w (eight 8 flat)) (above n w) w (eight 24 flat) (slice_set (eight 8 flat) k x) other
-        ∙ ap (λ t. slice_set t (above n w) (eight 24 flat)) (set-set outs w (eight 8 flat) (slice_set (eight 8 flat) k x)) in
+    ap (λ t. slice_set O w (slice_set t k x)) half
+    ∙ set_comm (slice_set outs w (eight 8 flat)) (above n w) w (eight 24 flat) (slice_set (eight 8 flat) k x) other
+    ∙ ap (λ t. slice_set t (above n w) (eight 24 flat)) (set-set outs w (eight 8 flat) (slice_set (eight 8 flat) k x)) in
     let rows = row_set_out O L w k x (same_length n w outs locals flat o l) room ∙ ap (λ t. rows_of t L) ring in
     ap (λ t. record { globals = eight 0 flat; words = t; current = w; mask = mask }) (sym rows)
 
@@ -348,8 +348,8 @@ writes_in n w mask outs locals flat k x few here f o l small =
     let half : get_or O (above n w) [] ≡ eight 24 flat = outs_above n w outs flat few here o in
     let room : k < length (get_or O (above n w) []) = omega (arith, ap length half, eight_length 24 flat (omega (arith, f.count))) in
     let ring : slice_set O (above n w) (slice_set (get_or O (above n w) []) k x) ≡ slice_set (slice_set outs w (eight 8 flat)) (above n w) (slice_set (eight 24 flat) k x) =
-        ap (λ t. slice_set O (above n w) (slice_set t k x)) half
-        ∙ set-set (slice_set outs w (eight 8 flat)) (above n w) (eight 24 flat) (slice_set (eight 24 flat) k x) in
+    ap (λ t. slice_set O (above n w) (slice_set t k x)) half
+    ∙ set-set (slice_set outs w (eight 8 flat)) (above n w) (eight 24 flat) (slice_set (eight 24 flat) k x) in
     let rows = row_set_out O L (above n w) k x (same_length n w outs locals flat o l) room ∙ ap (λ t. rows_of t L) ring in
     ap (λ t. record { globals = eight 0 flat; words = t; current = w; mask = mask }) (sym rows)
 
@@ -361,9 +361,9 @@ writes_local n w mask outs locals flat k x few here f o l small =
     let long : length (get_or O w []) ≡ 8 = ap length (outs_here n w outs flat few here o) ∙ eight_length 8 flat (omega (arith, f.count)) in
     let e : 8 + k - 8 ≡ k = omega arith in
     let ring : slice_set L w (slice_set (get_or L w []) (8 + k - 8) x) ≡ slice_set locals w (slice_set (eight 16 flat) k x) =
-        ap (λ t. slice_set L w (slice_set t (8 + k - 8) x)) (locals_here n w locals flat here l)
-        ∙ ap (λ j. slice_set L w (slice_set (eight 16 flat) j x)) e
-        ∙ set-set locals w (eight 16 flat) (slice_set (eight 16 flat) k x) in
+    ap (λ t. slice_set L w (slice_set t (8 + k - 8) x)) (locals_here n w locals flat here l)
+    ∙ ap (λ j. slice_set L w (slice_set (eight 16 flat) j x)) e
+    ∙ set-set locals w (eight 16 flat) (slice_set (eight 16 flat) k x) in
     let rows = row_set_local O L w (8 + k) x (same_length n w outs locals flat o l) long (omega arith) ∙ ap (rows_of O) ring in
     ap (λ t. record { globals = eight 0 flat; words = t; current = w; mask = mask }) (sym rows)
 

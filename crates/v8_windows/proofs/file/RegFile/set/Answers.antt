@@ -1,4 +1,4 @@
-use Rattle.std.proofs.Common.{ℕ, ◌≤◌, sym, ap, ◌∙◌, arith}
+use Rattle.std.proofs.Common.{◌≤◌, sym, ap, ◌∙◌, arith}
 use Rattle.v8_windows.specs.Windows.{with_reg}
 use Rattle.v8_windows.proofs.Ring.{writes, with_none}
 use Rattle.v8_windows.proofs.file.RegFile.set.Goals as goal
