@@ -3,6 +3,8 @@ import os
 import re
 import subprocess
 
+# The memory that one check is reckoned to take.
+CHECK_BYTES = 5 << 30
 TOP = os.path.dirname(os.path.dirname(os.path.abspath(__file__)))
 
 
@@ -15,6 +17,33 @@ def crates():
             if colon:
                 listed[name.split()[0]] = below.split()
     return {name: [it for it in below if it in listed] for name, below in listed.items()}
+
+
+def all_below(name, listed):
+    """Returns the crates that the crate stands on, near and far."""
+    found, left = set(), [name]
+    while left:
+        new = set(listed[left.pop()]) - found
+        found |= new
+        left += new
+    return found
+
+
+def lines_of(name):
+    """Returns the lines of the crate's sources, by which it is reckoned how long its proof takes."""
+    count = 0
+    for folder, _, files in os.walk(f"{TOP}/crates/{name}/src"):
+        for it in files:
+            with open(f"{folder}/{it}", "rb") as text:
+                count += text.read().count(b"\n")
+    return count
+
+
+def lanes():
+    """Returns how many checks the processors and the free memory take at a time."""
+    with open("/proc/meminfo", encoding="ascii") as lines:
+        free = next(int(it.split()[1]) * 1024 for it in lines if it.startswith("MemAvailable"))
+    return max(1, min(len(os.sched_getaffinity(0)), free // CHECK_BYTES))
 
 
 def git(*words):

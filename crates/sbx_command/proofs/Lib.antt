@@ -1,3 +1,4 @@
 pub mod Verdicts
+pub mod Streamed
 pub mod Sources
 pub mod Safe

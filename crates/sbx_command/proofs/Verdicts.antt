@@ -11,9 +11,7 @@ use Rattle.sbx_command.specs.declared.stops.Stop.{Stop}
 use Rattle.sbx_command.specs.declared.stops.Stop.TheVariants.{Source, Image, Refused, File, Input, Output, Memory}
 use Rattle.sbx_command.specs.Stops.{IsRefusal, IsTrueOf, IsTrueOfImage, status_of}
 use Rattle.sbx_command.proofs.Sources.{source_stops}
-use Rattle.sbx_run.specs.declared.runner.Finished.{Finished}
-use Rattle.sbx_run.specs.Answer.{IsAnswer}
-use Rattle.sbx_command.specs.Verdicts.{Answered, Ran, Traced, WroteTrace, status_of_word, Deserves, IsAccepted, IsImage, IsTold, StopsFor}
+use Rattle.sbx_command.specs.Verdicts.{Traced, WroteTrace, Deserves, IsAccepted, IsImage, IsTold, StopsFor}
 
 pub faulty_is_no_image : (bytes : List ℕ) (fault : ImageFault) → reading bytes ≡ Err fault → IsImage bytes → ⊥
 faulty_is_no_image bytes fault faulty image =
@@ -71,23 +69,6 @@ appends_kept (Some x) None c bs p q = absurd p
 appends_kept (Some x) (Some y) None bs p q = absurd q
 appends_kept (Some x) (Some y) (Some z) bs p q = q ∙ p
 
--- a run of the known bytes of a file on the known bytes of an input
-pub answered_on : (windows : ℕ) (file input : Option (List ℕ)) (parts : Parts) (taken : List ℕ) (finished : Finished)
-    → IfSome file (λ bytes. (reading bytes ≡ Ok parts) × Checked parts) → IfSome input (λ all. taken ≡ all)
-    → IsAnswer parts windows taken finished → Answered windows file input finished
-answered_on windows None input parts taken finished read same answer = tt
-answered_on windows (Some bytes) None parts taken finished read same answer = tt
-answered_on windows (Some bytes) (Some all) parts taken finished read same answer =
-    (parts, read.0, subst (λ (input : List ℕ). IsAnswer parts windows input finished) same answer)
-
--- and what is put out of it
-pub ran_on : (windows : ℕ) (file input old new : Option (List ℕ)) (finished : Finished) (status : ℕ) → Answered windows file input finished
-    → Appends old new finished.output.items → status ≡ status_of_word finished.status → Ran windows file input old new status
-ran_on windows None input old new finished status answered grown told = tt
-ran_on windows (Some bytes) None old new finished status answered grown told = tt
-ran_on windows (Some bytes) (Some all) old new finished status answered grown told =
-    (answered.0, finished, answered.1, answered.2, grown, told)
-
 -- a trace on as many windows as another number says
 pub trace_at : (n windows : ℕ) (parts : Parts) (input : List ℕ) (limit : ℕ) (old new : Option (List ℕ)) → windows ≡ n
     → WroteTrace n parts input limit old new → WroteTrace windows parts input limit old new
@@ -103,6 +84,7 @@ traced_on windows limit (Some bytes) (Some all) old new parts taken read same wr
     (parts, read, subst (λ (input : List ℕ). WroteTrace windows parts input limit old new) same wrote)
 
 -- a stop of a job, whose status is told
-pub stops_for : (job : Job) (known : Option (List ℕ)) (Untouched : Type 0) (stop : Stop) (status : ℕ) → status ≡ status_of stop
-    → IfSome known (IsTold job stop) → (IsRefusal stop → Untouched) → StopsFor job known Untouched status
-stops_for job known Untouched stop status is told untouched = (stop, is, told, λ refuses. (known_is_refused known job stop refuses told, untouched refuses))
+pub stops_for : (job : Job) (known : Option (List ℕ)) (Untouched : Type 0) (LeftAt : Stop → Type 0) (stop : Stop) (status : ℕ) → status ≡ status_of stop
+    → IfSome known (IsTold job stop) → (IsRefusal stop → Untouched) → LeftAt stop → StopsFor job known Untouched LeftAt status
+stops_for job known Untouched LeftAt stop status is told untouched left =
+    (stop, is, told, (λ refuses. (known_is_refused known job stop refuses told, untouched refuses)), left)

@@ -37,6 +37,16 @@ IsRefusal Input = ⊥
 IsRefusal Output = ⊥
 IsRefusal Memory = ⊥
 
+-- the stops up to the verdict, which is before any input or output
+abbrev pub IsEarly : Stop → Type 0
+IsEarly (Source fault) = Unit {0}
+IsEarly (Image fault) = Unit {0}
+IsEarly (Refused refusal) = Unit {0}
+IsEarly File = Unit {0}
+IsEarly Input = ⊥
+IsEarly Output = ⊥
+IsEarly Memory = Unit {0}
+
 -- the line on standard error
 abbrev pub line_of : Stop → List ℕ
 line_of (Source fault) = sources.shown fault

@@ -1,8 +1,6 @@
 -- What an exit status says of the bytes of the file that a job reads.
-use Rattle.std.specs.Prelude.{◌≡◌, ℕ, List, Ok, Option, IfSome, ◌==◌, if◌then◌else◌}
+use Rattle.std.specs.Prelude.{◌≡◌, ℕ, List, Ok, Option, IfSome}
 use Rattle.std.specs.Io.KnownBytes.{Appends}
-use Rattle.sbx_run.specs.declared.runner.Finished.{Finished}
-use Rattle.sbx_run.specs.Answer.{IsAnswer}
 use Rattle.sbx_run.specs.Outcome.{Outcome}
 use Rattle.sbx_run.specs.Traces.{IsTrace, Wrote}
 use Rattle.sbx_image.specs.declared.parts.Parts.{Parts}
@@ -14,6 +12,7 @@ use Rattle.sbx_rules.specs.Verdicts.{Checked}
 use Rattle.sbx_command.specs.declared.jobs.Job.{Job}
 use Rattle.sbx_command.specs.declared.jobs.Job.TheVariants.{Asm, Verify, Run, List as Listing, Trace}
 use Rattle.sbx_command.specs.declared.stops.Stop.{Stop}
+use Rattle.sbx_command.specs.Streaming.{Left, Ran}
 use Rattle.sbx_command.specs.Stops.{IsRefusal, IsTrueOf, IsTrueOfImage, IsTrueOfSource, status_of}
 
 -- the bytes spell an image
@@ -44,26 +43,6 @@ IsTold (Run image windows) stop bytes = IsTrueOf stop bytes
 IsTold (Listing image) stop bytes = IsTrueOfImage stop bytes
 IsTold (Trace image windows limit) stop bytes = IsTrueOfImage stop bytes
 
--- 0 where the exit word is 0, else 1
-abbrev pub status_of_word : ℕ → ℕ
-status_of_word word = if word == 0 then 0 else 1
-
--- what the image of the bytes gives on the input, on so many windows, where the bytes of the file and of the input are known
-abbrev pub Answered : ℕ → Option (List ℕ) → Option (List ℕ) → Finished → Type 0
-Answered windows file input finished = IfSome file (λ bytes. IfSome input (λ all.
-    (parts : Parts) × (reading bytes ≡ Ok parts) × IsAnswer parts windows all finished))
-
--- The output grew by what the image of the bytes puts out on the input, on so many windows, and the status is that of its exit word.
--- Both are those of each run of the flat machine, whatever the count of windows is: that is a part of an answer.
-abbrev pub RanOn : ℕ → List ℕ → List ℕ → Option (List ℕ) → Option (List ℕ) → ℕ → Type 0
-RanOn windows bytes input old new status =
-    (parts : Parts) × (finished : Finished) × (reading bytes ≡ Ok parts) × IsAnswer parts windows input finished
-    × Appends old new finished.output.items × (status ≡ status_of_word finished.status)
-
--- the same where the bytes of the file and of the input are known
-abbrev pub Ran : ℕ → Option (List ℕ) → Option (List ℕ) → Option (List ℕ) → Option (List ℕ) → ℕ → Type 0
-Ran windows file input old new status = IfSome file (λ bytes. IfSome input (λ all. RanOn windows bytes all old new status))
-
 -- each number of the parts is one that its field can hold, and the data are bytes
 abbrev pub FitsItsFields : Parts → Type 0
 FitsItsFields parts = IsTyped parts × AreBytes parts.bytes
@@ -90,17 +69,25 @@ TracedOn windows limit bytes input old new =
 abbrev pub Traced : ℕ → ℕ → Option (List ℕ) → Option (List ℕ) → Option (List ℕ) → Option (List ℕ) → Type 0
 Traced windows limit file input old new = IfSome file (λ bytes. IfSome input (λ all. TracedOn windows limit bytes all old new))
 
--- what a job that is done has put out
-abbrev pub Gave : Job → Option (List ℕ) → Option (List ℕ) → Option (List ℕ) → Option (List ℕ) → ℕ → Type 0
-Gave (Asm source object) file input old new status = Assembled file old new × (status ≡ 0)
-Gave (Verify image) file input old new status = Unit {0}
-Gave (Run image windows) file input old new status = Ran windows file input old new status
-Gave (Listing image) file input old new status = Unit {0}
-Gave (Trace image windows limit) file input old new status = Traced windows limit file input old new × (status ≡ 0)
+-- what a job that is done has read and put out
+abbrev pub Gave : Job → Option (List ℕ) → Option (List ℕ) → Option (List ℕ) → Option (List ℕ) → Option (List ℕ) → ℕ → Type 0
+Gave (Asm source object) file input input_now old new status = Assembled file old new × (status ≡ 0)
+Gave (Verify image) file input input_now old new status = Unit {0}
+Gave (Run image windows) file input input_now old new status = Ran windows file input input_now old new status
+Gave (Listing image) file input input_now old new status = Unit {0}
+Gave (Trace image windows limit) file input input_now old new status = Traced windows limit file input old new × (status ≡ 0)
 
--- A status is that of a stop, which tells what is so of the bytes of the file. Where it refuses them, they don't deserve the job, and
--- what a refusal leaves as it was is as it was.
-abbrev pub StopsFor : Job → Option (List ℕ) → Type 0 → ℕ → Type 0
-StopsFor job file Untouched status =
+-- what a stop of a job leaves
+abbrev pub LeftBy : Job → Option (List ℕ) → Option (List ℕ) → Option (List ℕ) → Option (List ℕ) → Option (List ℕ) → Stop → Type 0
+LeftBy (Asm source object) file input input_now old new stop = Unit {0}
+LeftBy (Verify image) file input input_now old new stop = Unit {0}
+LeftBy (Run image windows) file input input_now old new stop = Left file input input_now old new stop
+LeftBy (Listing image) file input input_now old new stop = Unit {0}
+LeftBy (Trace image windows limit) file input input_now old new stop = Unit {0}
+
+-- A status is that of a stop, which tells what is so of the bytes of the file, and leaves what such a stop leaves. Where it refuses the
+-- bytes, they don't deserve the job, and what a refusal leaves as it was is as it was.
+abbrev pub StopsFor : Job → Option (List ℕ) → Type 0 → (Stop → Type 0) → ℕ → Type 0
+StopsFor job file Untouched LeftAt status =
     (stop : Stop) × (status ≡ status_of stop) × IfSome file (IsTold job stop)
-    × (IsRefusal stop → IfSome file (λ bytes. Deserves job bytes → ⊥) × Untouched)
+    × (IsRefusal stop → IfSome file (λ bytes. Deserves job bytes → ⊥) × Untouched) × LeftAt stop

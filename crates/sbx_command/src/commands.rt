@@ -1,7 +1,7 @@
 //! A command from its job to its exit status.
 ghost use Rattle.std.specs.Prelude.{◌≡◌, ◌<◌, ◌≤◌, IfErr, IfOk, IfSome};
 ghost use Rattle.sbx_command.specs.Stops.{IsRefusal};
-ghost use Rattle.sbx_command.specs.Verdicts.{Deserves, Gave, IsTold, StopsFor};
+ghost use Rattle.sbx_command.specs.Verdicts.{Deserves, Gave, IsTold, LeftBy, StopsFor};
 
 use crate::assembling::assemble_file;
 use crate::jobs::Job;
@@ -23,11 +23,13 @@ fn perform<F: Read, I: Read, O: Write>(
 ) -> Result<u8, Stop>
     ensures range { IfOk result (λ status. status < 2) }
     ensures done { IfOk result (λ status. IfSome (F.remaining file.old) (Deserves job.now)) }
-    ensures ran { IfOk result (Gave job.now (F.remaining file.old) (I.remaining input.old)
+    ensures ran { IfOk result (Gave job.now (F.remaining file.old) (I.remaining input.old) (I.remaining input.new)
         (O.contents out.old) (O.contents out.new)) }
     ensures stop { IfErr result (λ stop. IfSome (F.remaining file.old) (IsTold job.now stop)) }
     ensures untouched { IfErr result (λ stop. IsRefusal stop
         → (input.new ≡ input.old) × (out.new ≡ out.old)) }
+    ensures left { IfErr result (LeftBy job.now (F.remaining file.old) (I.remaining input.old) (I.remaining input.new)
+        (O.contents out.old) (O.contents out.new)) }
 {
     match *job {
         Job::Asm { .. } => {
@@ -66,14 +68,17 @@ pub fn command<F: Read, I: Read, O: Write, E: Write>(
     // A job is done only with bytes that deserve it.
     ensures done { result < 2 → IfSome (F.remaining file.old) (Deserves job.now) }
 
-    // A run puts out what its image does on the input, and has the status of its exit word. A trace puts out the lines of the
-    // image's turns on the input.
-    ensures ran { result < 2 → Gave job.now (F.remaining file.old) (I.remaining input.old)
+    // A run puts out what its image does on the bytes that it has read of the input, whatever comes after them, and has the status of its
+    // exit word: a law says what that is on an input that is known whole. A trace puts out the lines of the image's turns on the input.
+    ensures ran { result < 2 → Gave job.now (F.remaining file.old) (I.remaining input.old) (I.remaining input.new)
         (O.contents out.old) (O.contents out.new) result }
 
     // Any other status is that of a stop that tells what is so. Bytes that are refused don't deserve the job, and a refusal takes
-    // no input and puts nothing out.
-    ensures stopped { 2 ≤ result → StopsFor job.now (F.remaining file.old) ((input.new ≡ input.old) × (out.new ≡ out.old)) result }
+    // no input and puts nothing out. A run that stops otherwise has put out the first bytes of what its image puts out on every input
+    // that begins with the bytes read.
+    ensures stopped { 2 ≤ result → StopsFor job.now (F.remaining file.old) ((input.new ≡ input.old) × (out.new ≡ out.old))
+        (LeftBy job.now (F.remaining file.old) (I.remaining input.old) (I.remaining input.new) (O.contents out.old) (O.contents out.new))
+        result }
 
     // A job that is done says nothing on standard error.
     ensures quiet { result < 2 → err.new ≡ err.old }

@@ -11,6 +11,7 @@ mod listing;
 mod reading;
 mod running;
 mod stops;
+mod streaming;
 mod tracing;
 mod verifying;
 

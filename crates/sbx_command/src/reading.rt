@@ -6,7 +6,7 @@ ghost use Rattle.sbx_command.specs.Reading.{Explains};
 use std::alloc::Global;
 use std::io::Read;
 
-/// The most bytes that a file or an input may have.
+/// The most bytes that a file, or the input of a trace, may have.
 pub const MOST: usize = 16_777_216;
 
 /// Why the bytes of a reader aren't there.

@@ -20,7 +20,7 @@ pub enum Stop {
     Refused(Refusal),
     /// The file can't be read, or is longer than the bound.
     File,
-    /// Standard input can't be read, or is longer than the bound.
+    /// Standard input can't be read, or that of a trace is longer than the bound.
     Input,
     /// The output can't be written.
     Output,

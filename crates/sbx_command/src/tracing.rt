@@ -1,16 +1,28 @@
 //! The command `trace`.
-ghost use Rattle.std.specs.Prelude.{◌≡◌, ◌≤◌, IfErr, IfSome, OnOk};
+ghost use Rattle.std.specs.Prelude.{◌≡◌, ◌≤◌, IfErr, IfOk, IfSome, OnOk};
 ghost use Rattle.sbx_command.specs.Stops.{IsRefusal, IsTrueOfImage};
 ghost use Rattle.sbx_command.specs.Verdicts.{IsImage, Traced, WroteTrace};
 
 use crate::counts::Windows;
 use crate::images::image_in;
-use crate::running::input_of;
+use crate::reading::{MOST, ReadFault, read_whole};
 use crate::stops::Stop;
 use sbx_image::Image;
 use sbx_run::{RunFault, trace};
 use std::alloc::Global;
 use std::io::{Read, Write};
+
+/// All of standard input.
+fn input_of<I: Read>(alloc: Global, input: &mut I) -> Result<Vec<u8>, Stop>
+    ensures whole { IfOk result (λ bytes. IfSome (I.remaining input.old) (λ all. bytes.items ≡ all)) }
+    ensures stop { IfErr result (λ stop. IsRefusal stop → ⊥) }
+{
+    match read_whole(alloc, input, MOST) {
+        Ok(bytes) => Ok(bytes),
+        Err(ReadFault::Memory) => Err(Stop::Memory),
+        Err(ReadFault::Reader | ReadFault::TooLong) => Err(Stop::Input),
+    }
+}
 
 /// Writes the trace on `N` windows, which are as many as the number says.
 #[tactic(auto, using(crate::proofs::Verdicts::trace_at))]

@@ -3,7 +3,7 @@ ghost use Rattle.std.specs.Prelude.{◌≡◌, IfErr, IfOk, IfSome, Ok, OnOk};
 ghost use Rattle.std.specs.Io.KnownBytes.{Appends};
 ghost use Rattle.sbx_image.specs.Reading.{reading};
 ghost use Rattle.sbx_rules.specs.Verdicts.{Checked};
-ghost use Rattle.sbx_command.specs.Stops.{IsRefusal, IsTrueOf};
+ghost use Rattle.sbx_command.specs.Stops.{IsEarly, IsRefusal, IsTrueOf};
 ghost use Rattle.sbx_command.specs.Verdicts.{IsAccepted};
 
 use crate::images::image_in;
@@ -18,6 +18,7 @@ pub fn accepted_in<F: Read>(alloc: Global, file: &mut F) -> Result<Accepted, Sto
     ensures accepted { IfOk result (λ accepted. IfSome (F.remaining file.old)
         (λ bytes. (reading bytes ≡ Ok accepted) × Checked accepted)) }
     ensures stop { IfErr result (λ stop. IfSome (F.remaining file.old) (IsTrueOf stop)) }
+    ensures early { IfErr result IsEarly }
 {
     let image = image_in(alloc, file)?;
     match verify(alloc, image) {

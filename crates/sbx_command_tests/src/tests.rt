@@ -1,6 +1,7 @@
 //! Commands on bytes that are or aren't images, over readers and writers that fail at one call.
 mod chain;
 mod sources;
+mod streams;
 
 use arrayvec::ArrayVec;
 use sbx_command::{Job, ReadFault, Windows, command, decimal, read_whole, turns, window_count};
@@ -440,15 +441,15 @@ const LISTS_AND_VERDICTS: [End; 10] = [
     (VERIFY, [0, 0, 2], 4, b"accepted\n", b"output\n"),
 ];
 
-/// Ends of `run`.
+/// Ends of `run`, of a program that asks for no input.
 const RUNS: [End; 7] = [
     (RUN, [0, 0, 0], 0, b"Hi", b""),
     (RUN, [87, 1, 1], 4, b"", b"file\n"),
-    (RUN, [0, 1, 1], 4, b"", b"input\n"),
-    (RUN, [0, 4, 0], 4, b"", b"input\n"),
-    (RUN, [0, 5, 0], 0, b"Hi", b""),
+    (RUN, [0, 1, 0], 0, b"Hi", b""),
+    (RUN, [0, 1, 1], 4, b"", b"output\n"),
     (RUN, [0, 0, 1], 4, b"", b"output\n"),
-    (RUN, [0, 0, 2], 4, b"Hi", b"output\n"),
+    (RUN, [0, 0, 2], 4, b"H", b"output\n"),
+    (RUN, [0, 0, 3], 4, b"Hi", b"output\n"),
 ];
 
 /// Ends of `trace`.

@@ -1,6 +1,6 @@
 //! The command `asm` on files.
-use crate::files::{is_same_file, opened, stored};
-use sbx_command::{Job, Stop, command};
+use crate::files::{done_on, is_same_file, stored};
+use sbx_command::{Job, Stop};
 
 /// Assembles the source at a path. The object is opened only where the source means an image; the source itself is no object.
 pub fn assemble_to(
@@ -9,16 +9,8 @@ pub fn assemble_to(
     source: &str,
     object: &str,
 ) -> Result<u8, Stop> {
-    let mut file = opened(rt, source)?;
     let mut bytes = Vec::new(rt.alloc());
-    let status = command(
-        rt.alloc(),
-        job,
-        &mut file,
-        &mut rt.stdin(),
-        &mut bytes,
-        &mut rt.stderr(),
-    );
+    let status = done_on(rt, job, source, &mut rt.stdin(), &mut bytes)?;
     if status == 0 && is_same_file(rt, source, object) {
         return Err(Stop::Output);
     }

@@ -1,17 +1,29 @@
 //! Files by their paths.
-use sbx_command::Stop;
+use sbx_command::{Job, Stop, command};
 use std::fs::File;
-use std::io::Write;
+use std::io::{Read, Write};
 use std::os::unix::fs::MetadataExt;
 use std::{fs, io};
 
 /// The file at a path, to be read.
-pub fn opened(rt: &HostRuntime, path: &str) -> Result<File, Stop> {
+fn opened(rt: &HostRuntime, path: &str) -> Result<File, Stop> {
     match fs::open(rt, path) {
         Ok(file) => Ok(file),
         Err(error) if error.kind() == io::ErrorKind::OutOfMemory => Err(Stop::Memory),
         Err(_) => Err(Stop::File),
     }
+}
+
+/// Does a job on the file at a path, from a reader to a writer. What goes wrong within it is told on standard error.
+pub fn done_on<I: Read, O: Write>(
+    rt: &HostRuntime,
+    job: &Job<'_>,
+    path: &str,
+    input: &mut I,
+    out: &mut O,
+) -> Result<u8, Stop> {
+    let mut file = opened(rt, path)?;
+    Ok(command(rt.alloc(), job, &mut file, input, out, &mut rt.stderr()))
 }
 
 /// Whether two paths have the same plain file.

@@ -2,11 +2,13 @@
 #![tactic(auto)]
 
 mod assembling;
+mod conversing;
 mod files;
 
 use assembling::assemble_to;
-use files::opened;
-use sbx_command::{Job, Stop, command};
+use conversing::converse;
+use files::done_on;
+use sbx_command::{Job, Stop};
 use sbx_words::{Usage, read_words};
 use std::alloc::AllocError;
 use std::io::BufWriter;
@@ -16,21 +18,12 @@ use std::{env, io};
 /// The exit status of words that ask for nothing.
 const USAGE: u8 = 3;
 
-/// Does a job on the file at `path`, from standard input to standard output.
+/// Does a job on the file at `path`, from standard input to standard output, which is kept until there is much of it.
 fn on_streams(rt: &HostRuntime, job: &Job<'_>, path: &str) -> Result<u8, Stop> {
-    let mut file = opened(rt, path)?;
     let Ok(mut out) = BufWriter::new(rt.alloc(), rt.stdout()) else {
         return Err(Stop::Memory);
     };
-    let mut err = rt.stderr();
-    Ok(command(
-        rt.alloc(),
-        job,
-        &mut file,
-        &mut rt.stdin(),
-        &mut out,
-        &mut err,
-    ))
+    done_on(rt, job, path, &mut rt.stdin(), &mut out)
 }
 
 /// The words after the program's name.
@@ -47,10 +40,10 @@ fn perform(rt: &HostRuntime, words: &[String]) -> Result<u8, Stop> {
     match read_words(rt.alloc(), words) {
         Ok(job) => match job {
             Job::Asm { source, object } => assemble_to(rt, &job, source, object),
-            Job::Verify { image }
-            | Job::Run { image, .. }
-            | Job::List { image }
-            | Job::Trace { image, .. } => on_streams(rt, &job, image),
+            Job::Run { image, .. } => converse(rt, &job, image),
+            Job::Verify { image } | Job::List { image } | Job::Trace { image, .. } => on_streams(
+                rt, &job, image,
+            ),
         },
         Err(Usage::Text(text)) => {
             let _ = eprint!(rt; "{text}");

@@ -120,7 +120,7 @@ const VERIFY: &str =
 
 /// What `run` does.
 const RUN: &str =
-    "Verifies an image, then runs it from standard input, which is read whole first, to standard output";
+    "Verifies an image, then runs it from standard input, which is read as the program asks for it, to standard output";
 
 /// What `list` does.
 const LIST: &str = "Prints address, word and text of each word of an image's code";

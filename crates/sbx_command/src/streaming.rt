@@ -1,0 +1,123 @@
+//! Runs over a reader and a writer, by a count of windows that is a number.
+ghost use Rattle.std.specs.Prelude.{◌≡◌, ◌≤◌};
+ghost use Rattle.sbx_command.specs.Streaming.{RunGives};
+
+use crate::counts::Windows;
+use sbx_run::{Finished, RunFault};
+use sbx_stream::run_stream;
+use sbx_verify::Accepted;
+use std::alloc::Global;
+use std::io::{Read, Write};
+
+/// The run on `N` windows, which are as many as the number says.
+fn stream_on<const N: usize, I: Read, O: Write>(
+    alloc: Global,
+    windows: u32,
+    accepted: &Accepted,
+    input: &mut I,
+    out: &mut O,
+) -> Result<Finished, RunFault>
+    requires range { (4 ≤ N) × (N ≤ 32) }
+    requires same { windows ≡ N }
+    ensures { RunGives windows accepted.now (I.remaining input.old) (I.remaining input.new)
+        (O.contents out.old) (O.contents out.new) result }
+{
+    let _ = windows;
+    run_stream::<N, I, O>(alloc, accepted, input, out)
+}
+
+/// The run on as many windows as there are, of these numbers, which rise from the least that it can be to the greatest.
+macro_rules! streamed_on {
+    ($windows:ident, $alloc:ident, $accepted:ident, $input:ident, $out:ident: $($count:literal)* or $last:literal) => {{
+        $(
+            if $windows <= $count {
+                return stream_on::<$count, I, O>($alloc, $windows, $accepted, $input, $out);
+            }
+        )*
+        stream_on::<$last, I, O>($alloc, $windows, $accepted, $input, $out)
+    }};
+}
+
+/// The run on 4 to 10 windows.
+fn stream_to_10<I: Read, O: Write>(
+    alloc: Global,
+    windows: u32,
+    accepted: &Accepted,
+    input: &mut I,
+    out: &mut O,
+) -> Result<Finished, RunFault>
+    requires { (4 ≤ windows) × (windows ≤ 10) }
+    ensures { RunGives windows accepted.now (I.remaining input.old) (I.remaining input.new)
+        (O.contents out.old) (O.contents out.new) result }
+{
+    streamed_on!(windows, alloc, accepted, input, out: 4 5 6 7 8 9 or 10)
+}
+
+/// The run on 11 to 17 windows.
+fn stream_to_17<I: Read, O: Write>(
+    alloc: Global,
+    windows: u32,
+    accepted: &Accepted,
+    input: &mut I,
+    out: &mut O,
+) -> Result<Finished, RunFault>
+    requires { (11 ≤ windows) × (windows ≤ 17) }
+    ensures { RunGives windows accepted.now (I.remaining input.old) (I.remaining input.new)
+        (O.contents out.old) (O.contents out.new) result }
+{
+    streamed_on!(windows, alloc, accepted, input, out: 11 12 13 14 15 16 or 17)
+}
+
+/// The run on 18 to 24 windows.
+fn stream_to_24<I: Read, O: Write>(
+    alloc: Global,
+    windows: u32,
+    accepted: &Accepted,
+    input: &mut I,
+    out: &mut O,
+) -> Result<Finished, RunFault>
+    requires { (18 ≤ windows) × (windows ≤ 24) }
+    ensures { RunGives windows accepted.now (I.remaining input.old) (I.remaining input.new)
+        (O.contents out.old) (O.contents out.new) result }
+{
+    streamed_on!(windows, alloc, accepted, input, out: 18 19 20 21 22 23 or 24)
+}
+
+/// The run on 25 to 32 windows.
+fn stream_to_32<I: Read, O: Write>(
+    alloc: Global,
+    windows: u32,
+    accepted: &Accepted,
+    input: &mut I,
+    out: &mut O,
+) -> Result<Finished, RunFault>
+    requires { (25 ≤ windows) × (windows ≤ 32) }
+    ensures { RunGives windows accepted.now (I.remaining input.old) (I.remaining input.new)
+        (O.contents out.old) (O.contents out.new) result }
+{
+    streamed_on!(windows, alloc, accepted, input, out: 25 26 27 28 29 30 31 or 32)
+}
+
+/// Runs an accepted image over a reader and a writer, on so many windows, as `run_stream` does. Each count is a machine of its own, and
+/// each function has few of them, since a function costs its proof by its ways out.
+pub fn stream_windows<I: Read, O: Write>(
+    alloc: Global,
+    windows: Windows,
+    accepted: &Accepted,
+    input: &mut I,
+    out: &mut O,
+) -> Result<Finished, RunFault>
+    ensures { RunGives windows accepted.now (I.remaining input.old) (I.remaining input.new)
+        (O.contents out.old) (O.contents out.new) result }
+{
+    let count = windows.count();
+    if count <= 10 {
+        stream_to_10(alloc, count, accepted, input, out)
+    } else if count <= 17 {
+        stream_to_17(alloc, count, accepted, input, out)
+    } else if count <= 24 {
+        stream_to_24(alloc, count, accepted, input, out)
+    } else {
+        stream_to_32(alloc, count, accepted, input, out)
+    }
+}
