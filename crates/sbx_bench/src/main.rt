@@ -4,7 +4,7 @@
 //! Prints what the board counted and the register that the loop counts down, the bytes that were put out, or the lines of the trace.
 //! Then verifies images of each shape, a great one and one of a quarter of it, and prints the verdicts; the times go to standard error.
 //!
-//! Arguments, in any order: the number of turns; `arithmetic` or `memory` for that loop alone; `straight`, `branches`, `cells` or `calls`
+//! Arguments, in any order: the number of turns; a loop's name for that loop alone; `straight`, `branches`, `cells` or `calls`
 //! for that shape alone; `step`, `run`, `raw` or `trace` for that way alone, in place of all others and of verification.
 #![tactic(auto)]
 
@@ -18,17 +18,11 @@ mod verdicts;
 mod ways;
 
 use anyhow::{Result, anyhow};
+use loops::Loop;
 use shapes::Shape;
 use std::env;
 use verdicts::timed_verdict;
 use ways::Way;
-
-/// What a loop does besides counting.
-#[derive(Clone, Copy, PartialEq, Eq)]
-enum Loop {
-    Arithmetic,
-    Memory,
-}
 
 /// What is measured: a loop's turns, or a shape's verification.
 #[derive(Clone, Copy, PartialEq, Eq)]
@@ -37,9 +31,15 @@ enum Subject {
     Shape(Shape),
 }
 
-const SUBJECTS: [(&str, Subject); 6] = [
+const SUBJECTS: [(&str, Subject); 12] = [
     ("arithmetic", Subject::Loop(Loop::Arithmetic)),
     ("memory", Subject::Loop(Loop::Memory)),
+    ("beside", Subject::Loop(Loop::Beside)),
+    ("called", Subject::Loop(Loop::Calls)),
+    ("nested", Subject::Loop(Loop::Nested)),
+    ("echo", Subject::Loop(Loop::Echo)),
+    ("divisions", Subject::Loop(Loop::Divisions)),
+    ("copy", Subject::Loop(Loop::Copy)),
     ("straight", Subject::Shape(Shape::Straight)),
     ("branches", Subject::Shape(Shape::Branches)),
     ("cells", Subject::Shape(Shape::Cells)),
@@ -103,11 +103,7 @@ fn planned(rt: &HostRuntime) -> Result<Plan> {
 
 /// Measures a loop in each way of the plan.
 fn measure_loop(rt: &HostRuntime, plan: Plan, loop_name: &str, measured: Loop) -> Result<()> {
-    let words = match measured {
-        Loop::Arithmetic => loops::ARITHMETIC.as_slice(),
-        Loop::Memory => loops::MEMORY.as_slice(),
-    };
-    let Ok(image) = loops::image(rt.alloc(), words) else {
+    let Ok(image) = loops::image(rt.alloc(), measured.words()) else {
         return Err(anyhow!("the loop is no image"));
     };
     for (way_name, way) in WAYS {

@@ -55,6 +55,18 @@ pub(crate) const EXIT: u32 = 0x91D0_2000; // ta 0
 /// `mov 72,%o0; ta 2; mov 105,%o0; ta 2; mov 0,%o0; ta 0`
 pub(crate) const GREETING: [u32; 6] = [0x9010_2048, PUT, 0x9010_2069, PUT, 0x9010_2000, EXIT];
 
+/// `sethi 512,%g1; ld [%g1],%g2; st %g0,[%g1]; mov 0,%o0; ta 0`
+pub(crate) const STORES_AFTER_A_LOAD: [u32; 5] = [
+    0x0300_0200,
+    0xC400_4000,
+    0xC020_4000,
+    0x9010_2000,
+    EXIT,
+];
+
+/// The same without the store.
+pub(crate) const LOADS: [u32; 4] = [0x0300_0200, 0xC400_4000, 0x9010_2000, EXIT];
+
 /// An ending, with the number of its trap.
 #[derive(Clone, Copy)]
 pub(crate) enum End {

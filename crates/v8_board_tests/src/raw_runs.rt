@@ -2,7 +2,8 @@
 ghost use Rattle.std.specs.Prelude.{◌≤◌, ℕ};
 
 use crate::images::{
-    EXIT, End, GET, GREETING, NOP, PUT, RESTORE, RET, SAVE, data_image, raw_image,
+    EXIT, End, GET, GREETING, LOADS, NOP, PUT, RESTORE, RET, SAVE, STORES_AFTER_A_LOAD, data_image,
+    raw_image,
 };
 use sbx_image::Image;
 use sbx_raw::{Ending, Outcome, PageUse, Raw, run_raw};
@@ -213,12 +214,6 @@ fn chains_of_calls_return(rt: HostRuntime) -> Result<(), Fail> {
     assert!(rt; chain_ends::<4>(alloc, &WITH_RESULT, 42, (2006, 38, 37))?);
     Ok(())
 }
-
-/// `sethi 512,%g1; ld [%g1],%g2; st %g0,[%g1]; mov 0,%o0; ta 0`
-const STORES_AFTER_A_LOAD: [u32; 5] = [0x0300_0200, 0xC400_4000, 0xC020_4000, 0x9010_2000, EXIT];
-
-/// The same without the store.
-const LOADS: [u32; 4] = [0x0300_0200, 0xC400_4000, 0x9010_2000, EXIT];
 
 /// Whether a raw run over eight bytes of data exits with 0 after so many turns, references a page of code and one of data, and
 /// modifies these.
