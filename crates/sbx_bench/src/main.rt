@@ -1,11 +1,12 @@
 //! Measures turns of the board of eight windows, and verification.
 //!
-//! Drives the board through each raw loop for a number of turns, in each way: turn by turn, in one run, in a raw run, and in a trace.
+//! Drives the board through each raw loop for a number of turns, in each way: turn by turn, in one run, in a raw run, in a trace, and
+//! by a plain interpreter.
 //! Prints what the board counted and the register that the loop counts down, the bytes that were put out, or the lines of the trace.
 //! Then verifies images of each shape, a great one and one of a quarter of it, and prints the verdicts; the times go to standard error.
 //!
 //! Arguments, in any order: the number of turns; a loop's name for that loop alone; `straight`, `branches`, `cells` or `calls`
-//! for that shape alone; `step`, `run`, `raw` or `trace` for that way alone, in place of all others and of verification.
+//! for that shape alone; `step`, `run`, `raw`, `trace` or `plain` for that way alone, in place of all others and of verification.
 #![tactic(auto)]
 
 mod callers;
@@ -46,11 +47,12 @@ const SUBJECTS: [(&str, Subject); 12] = [
     ("calls", Subject::Shape(Shape::Calls)),
 ];
 
-const WAYS: [(&str, Way); 4] = [
+const WAYS: [(&str, Way); 5] = [
     ("step", Way::Step),
     ("run", Way::Run),
     ("raw", Way::Raw),
     ("trace", Way::Trace),
+    ("plain", Way::Plain),
 ];
 
 /// What is measured; None is all.

@@ -1,4 +1,5 @@
 //! RAM as bytes.
+ghost use Rattle.std.specs.Prelude.{◌≡◌, ◌+◌, ◌≤◌, length, true};
 
 use byteorder::{BigEndian, ByteOrder};
 use std::alloc::{AllocError, Global};
@@ -21,7 +22,10 @@ impl Ram {
 
     /// Whether so many bytes from a place on are there.
     #[inline(always)]
-    fn has(&self, place: u64, count: usize) -> bool {
+    fn has(&self, place: u64, count: usize) -> bool
+        requires { count ≤ 8 }
+        ensures { result ≡ true → place + count ≤ length self.now.bytes.items }
+    {
         place < BYTES as u64 && place as usize + count <= self.bytes.len()
     }
 

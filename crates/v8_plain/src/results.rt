@@ -1,4 +1,5 @@
 //! Results and condition codes.
+ghost use Rattle.std.specs.Prelude.{◌<◌};
 
 /// N, Z, V and C in bits 3 to 0.
 #[inline(always)]
