@@ -2,7 +2,8 @@
 //!
 //! Drives the board through each raw loop for a number of turns, in each way: turn by turn, in one run, in a raw run, in a trace, and
 //! by a plain interpreter.
-//! Prints what the board counted and the register that the loop counts down, the bytes that were put out, or the lines of the trace.
+//! Prints what the board counted and the register that the loop counts down, the bytes that were put out, or the lines of the trace;
+//! the times, loading included, go to standard error.
 //! Then verifies images of each shape, a great one and one of a quarter of it, and prints the verdicts; the times go to standard error.
 //!
 //! Arguments, in any order: the number of turns; a loop's name for that loop alone; `straight`, `branches`, `cells` or `calls`
@@ -22,6 +23,7 @@ use anyhow::{Result, anyhow};
 use loops::Loop;
 use shapes::Shape;
 use std::env;
+use std::time::Instant;
 use verdicts::timed_verdict;
 use ways::Way;
 
@@ -110,8 +112,11 @@ fn measure_loop(rt: &HostRuntime, plan: Plan, loop_name: &str, measured: Loop) -
     };
     for (way_name, way) in WAYS {
         if plan.only_way.unwrap_or(way) == way {
+            let begin = Instant::now(rt)?;
             let told = way.drive(rt.alloc(), &image, plan.turns)?;
+            let time = begin.elapsed(rt)?.as_micros();
             println!(rt; "{loop_name} by {way_name}: {told}")?;
+            eprintln!(rt; "{loop_name} by {way_name}: {time} us")?;
         }
     }
     Ok(())
