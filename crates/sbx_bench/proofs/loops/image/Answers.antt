@@ -7,5 +7,5 @@ pub returns-in-Ok-from_parts-clause-made : goal.returns-in-Ok-from_parts-clause-
 returns-in-Ok-from_parts-clause-made c =
     (c.in-Ok-from_parts.ensures.made.0 ∙ c.in-Ok.ensures, kept c.args.words.now c.in-Ok.parts c.in-Ok.ensures c.in-Ok-from_parts.ensures.made.1)
 
-pub returns-in-Err-clause-fault : goal.returns-in-Err-clause-fault
-returns-in-Err-clause-fault c = inr (refused c.args.words.now c.in-Ok.parts c.in-Err.fault c.in-Ok.ensures c.in-Err.ensures.refused.1)
+pub returns-in-Err-from_parts-clause-fault : goal.returns-in-Err-from_parts-clause-fault
+returns-in-Err-from_parts-clause-fault c = inr (refused c.args.words.now c.in-Ok.parts c.in-Err-from_parts.fault c.in-Ok.ensures c.in-Err-from_parts.ensures.refused.1)
