@@ -1,4 +1,5 @@
 pub mod Verdicts
 pub mod Streamed
+pub mod Images
 pub mod Sources
 pub mod Safe
