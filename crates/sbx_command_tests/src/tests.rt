@@ -389,6 +389,31 @@ fn refuses_what_is_bad(rt: HostRuntime) {
     }
 }
 
+/// The bytes of each of `BAD` up to the end of its bad field.
+const TOLD: [usize; 5] = [4, 6, 8, 68, 52];
+
+/// Whether the changed sample is refused once so many bytes were read, and no sooner.
+fn is_told_after(alloc: Global, (place, bytes, line): Change, told: usize) -> bool {
+    let image = changed(place, bytes);
+    let mut case = refused(&VERIFY, &image, line);
+    case.fails = [told.wrapping_add(1), 0, 0];
+    let is_told = is_answered(alloc, &case);
+    case.fails = [told, 0, 0];
+    case.status = 4;
+    case.err = b"file\n";
+    is_told && is_answered(alloc, &case)
+}
+
+#[test]
+fn reads_no_further_than_the_bad_field(rt: HostRuntime) {
+    for (change, told) in BAD.into_iter().zip(TOLD) {
+        assert!(rt;
+            is_told_after(rt.alloc(), change, told),
+            "after {told} bytes"
+        );
+    }
+}
+
 /// Samples that break a rule.
 const RULES: [Change; 4] = [
     // fuel and budget 15
