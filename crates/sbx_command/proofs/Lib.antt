@@ -1,5 +1,5 @@
 pub mod Verdicts
 pub mod Streamed
-pub mod Images
+pub mod Pieces
 pub mod Sources
 pub mod Safe

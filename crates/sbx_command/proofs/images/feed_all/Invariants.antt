@@ -1,4 +1,4 @@
-use Rattle.sbx_command.proofs.Images.{Joined}
+use Rattle.sbx_command.proofs.Pieces.{Joined}
 use Rattle.sbx_command.proofs.images.feed_all.Given as goal
 
 abbrev pub invariant-loop : goal.invariant-loop

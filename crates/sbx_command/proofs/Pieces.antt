@@ -61,3 +61,13 @@ image_is_early fault.Limit = tt
 image_is_early fault.Trailing = tt
 image_is_early fault.Order = tt
 image_is_early fault.Range = tt
+
+-- what a piece more tells where it is refused
+pub fed_stop : (all left less : Option (List ℕ)) (old new : Kept) (piece : List ℕ) (result : Result (Unit {0}) ImageFault) (e : ImageFault)
+    → Joined all left old → Consumes left less piece → IsFed old piece result new → result ≡ Err e → IfSome all (IsTrueOfImage (stop_of_image e))
+fed_stop all left less (Err fault) new piece result e joined more fed is = absurd joined
+fed_stop all left less (Ok bytes) new piece (Ok unit) e joined more fed is = absurd cc
+fed_stop all left less (Ok bytes) new piece (Err other) e joined more fed is =
+    let same : other ≡ e = cc in
+    let told : IfSome all (IsTrueOfImage (stop_of_image other)) = front_stop all less (bytes ++ piece) other fed.0 (joined_more all left less bytes piece joined more) in
+    subst (λ (f : ImageFault). IfSome all (IsTrueOfImage (stop_of_image f))) same told
