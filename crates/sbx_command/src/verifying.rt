@@ -13,7 +13,7 @@ use std::alloc::Global;
 use std::io::{Read, Write};
 
 /// The image of a file, where it breaks no rule.
-#[tactic(auto, using(sbx_verify::proofs::Refusals::broken_rule))]
+#[tactic(auto, using(crate::proofs::Verdicts::broken))]
 pub fn accepted_in<F: Read>(alloc: Global, file: &mut F) -> Result<Accepted, Stop>
     ensures accepted { IfOk result (λ accepted. IfSome (F.remaining file.old)
         (λ bytes. (reading bytes ≡ Ok accepted) × Checked accepted)) }
