@@ -8,8 +8,8 @@ use Rattle.want.specs.Wants.{refused}
 use Rattle.sbx_rules.specs.declared.cause.Cause.TheVariants.{NoMemory}
 use Rattle.sbx_rules.specs.declared.cause.Refusal.{Refusal}
 use Rattle.sbx_rules.specs.Verdicts.{Checked, IsFirst}
-use Rattle.sbx_verify.specs.Refusals.{IsRefusal as IsRefused}
-use Rattle.sbx_verify.proofs.Refusals.{broken_rule}
+use Rattle.sbx_stream.specs.Refusals.{IsRefusal as IsRefused}
+use Rattle.sbx_stream.proofs.Refusals.{broken_rule}
 use Rattle.sbx_command.specs.declared.jobs.Job.{Job}
 use Rattle.sbx_command.specs.declared.jobs.Job.TheVariants.{Asm, Verify, Run, List as Listing, Trace}
 use Rattle.sbx_command.specs.declared.stops.Stop.{Stop}

@@ -8,7 +8,7 @@ ghost use Rattle.sbx_command.specs.Verdicts.{IsAccepted};
 
 use crate::images::image_in;
 use crate::stops::Stop;
-use sbx_verify::{Accepted, Cause, verify};
+use sbx_stream::{Accepted, Cause, verify};
 use std::alloc::Global;
 use std::io::{Read, Write};
 

@@ -17,7 +17,7 @@ ghost use Rattle.sbx_known.specs.Spots.{IsBlock, IsSpot};
 
 use crate::before::is_entry;
 use sbx_domain::State;
-use sbx_faults::{ends_run, has_cells, has_outs, is_call, is_return, lists_badly};
+use sbx_known::{ends_run, has_cells, has_outs, is_call, is_return, lists_badly};
 use sbx_fuel::{is_enough, is_within_budget, lasts, names_strange};
 use sbx_image::{Function, Image};
 use sbx_known::{

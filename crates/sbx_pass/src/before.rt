@@ -11,7 +11,7 @@ ghost use Rattle.sbx_pass.specs.Firsts.{Tells};
 ghost use Rattle.sbx_known.specs.Spots.{IsSpot};
 
 use sbx_domain::State;
-use sbx_faults::{
+use sbx_known::{
     ends_run, enters_well, is_aligned, is_call, is_declared, is_framed, is_framed_return,
     is_no_instruction, is_placed, is_restore, is_save, is_transfer, is_trap, may_divide_by_zero,
     may_overflow, reads_undefined, suits, touches_reserved,

@@ -7,3 +7,4 @@ mod cause;
 pub mod laws;
 
 pub use cause::{Cause, Refusal};
+pub use sbx_domain::State;

@@ -8,7 +8,7 @@ mod files;
 use assembling::assemble_to;
 use conversing::converse;
 use files::done_on;
-use sbx_command::{Job, Stop};
+use sbx_words::{Job, Stop};
 use sbx_words::{Usage, read_words};
 use std::alloc::AllocError;
 use std::io::BufWriter;

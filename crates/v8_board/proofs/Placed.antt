@@ -4,8 +4,8 @@ use Rattle.std.specs.Prelude.{nat_le}
 use Rattle.std.proofs.lemmas.Bool.Decides.{nat_tests}
 use Rattle.sbx_image.specs.declared.parts.Parts.{Parts}
 use Rattle.v8_core.specs.Ram.{AreBytes, entry_of}
-use Rattle.v8_loaded.specs.Handlers.{trap_word, handler_word}
-use Rattle.v8_loaded.specs.Layout.{AreFew, HasTables, IsLoaded}
+use Rattle.v8_contained.specs.Handlers.{trap_word, handler_word}
+use Rattle.v8_contained.specs.Layout.{AreFew, HasTables, IsLoaded}
 use Rattle.v8_layout.specs.Laws.{IsMapped}
 use Rattle.v8_layout.specs.Tables.{table_word}
 use Rattle.v8_layout.proofs.Map.{tables_map}

@@ -5,3 +5,5 @@ pub mod Start
 pub mod Marks
 pub mod Laws
 pub mod Contains
+pub use Rattle.v8_contained.specs.Board
+pub use Rattle.v8_contained.specs.States

@@ -2,3 +2,15 @@ pub mod Registers
 pub mod Effects
 pub mod Traps
 pub mod Laws
+pub use Rattle.v8_meaning.specs.Transfers
+pub use Rattle.v8_meaning.specs.Spaces
+pub use Rattle.v8_meaning.specs.declared.operation.MemoryOperand
+pub use Rattle.v8_meaning.specs.declared.operation.Space
+pub use Rattle.v8_meaning.specs.declared.operation.Transfer
+pub use Rattle.v8_meaning.specs.Admitted
+pub use Rattle.v8_meaning.specs.Operands
+pub use Rattle.v8_meaning.specs.Operations
+pub use Rattle.v8_meaning.specs.declared.operation.Exchange
+pub use Rattle.v8_meaning.specs.declared.operation.Loading
+pub use Rattle.v8_meaning.specs.declared.operation.Operation
+pub use Rattle.v8_meaning.specs.declared.operation.StateRegister

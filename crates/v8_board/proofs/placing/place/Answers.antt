@@ -1,5 +1,5 @@
 use Rattle.std.proofs.Common.{ℕ, ◌*◌, List, ap, sym, subst, ◌∙◌}
-use Rattle.v8_loaded.specs.Layout.{Pages}
+use Rattle.v8_contained.specs.Layout.{Pages}
 use Rattle.v8_layout.specs.Tables.{table_word}
 use Rattle.v8_memory.specs.Placing.{HasWords, HasBytesOf}
 use Rattle.v8_board.specs.Start.{IsPlaced}
