@@ -9,7 +9,7 @@ use Rattle.v8_core.specs.Accesses.{World}
 use Rattle.v8_loaded.specs.Board.{Device}
 use Rattle.v8_loaded.specs.Layout.{Pages}
 use Rattle.v8_loaded.specs.States.{IsState}
-use Rattle.v8_contained.specs.Contained.{IsContained}
+use Rattle.v8_board.specs.Contained.{IsContained}
 use Rattle.v8_board.specs.declared.outcome.Counts.{Counts}
 use Rattle.v8_board.specs.declared.outcome.Ending.{Ending}
 use Rattle.v8_board.specs.declared.outcome.Ending.TheVariants.{Exit}

@@ -4,11 +4,8 @@ ghost use Rattle.sbx_image.specs.Rules.{parts_keep};
 ghost use Rattle.sbx_pass.specs.Verdicts.{Checked, IsFirst};
 ghost use Rattle.sbx_walk.specs.Walks.{IsFirstOfFunction, IsQuietFunction};
 
-use sbx_pass::State;
 use sbx_image::Image;
-use sbx_pass::{address_of, function_at};
-use sbx_pass::first_fault_in_block;
-use sbx_pass::Refusal;
+use sbx_pass::{Refusal, State, address_of, first_fault_in_block, function_at};
 use std::alloc::{AllocError, Global};
 
 /// The first fault of function `f`; the two states are room to work in.

@@ -10,7 +10,7 @@ use Rattle.v8_layout.specs.Laws.{IsMapped}
 use Rattle.v8_layout.specs.Tables.{table_word}
 use Rattle.v8_layout.proofs.Map.{tables_map}
 use Rattle.v8_layout.proofs.Words.{words_make_tables}
-use Rattle.v8_memory.specs.Placing.{HasWords, HasBytesOf}
+use Rattle.v8_contained.specs.Placing.{HasWords, HasBytesOf}
 use Rattle.v8_contained.proofs.Stays.{word_kept}
 use Rattle.v8_board.specs.Start.{IsPlaced, at_most, pages_of}
 

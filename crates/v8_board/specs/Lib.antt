@@ -7,3 +7,4 @@ pub mod Laws
 pub mod Contains
 pub use Rattle.v8_contained.specs.Board
 pub use Rattle.v8_contained.specs.States
+pub use Rattle.v8_contained.specs.Contained

@@ -17,9 +17,9 @@ use crate::placing::place;
 use sbx_image::Image;
 use std::alloc::{AllocError, Global};
 use std::marker::Model;
+use v8_contained::{Memory, Port};
 use v8_core::{Machine, Turn};
 use v8_map::CONTEXT_TABLE;
-use v8_memory::{Memory, Port};
 use v8_mmu::{Bus, MmuRegs, PortFault, Stop};
 use v8_word::Reg;
 

@@ -4,11 +4,11 @@ pub mod Steps
 pub mod Parts
 pub mod Calls
 -- What the machine turn is said in, for the crates above.
-pub use Rattle.v8_word.specs.Word
-pub use Rattle.v8_word.specs.Conditions
-pub use Rattle.v8_word.specs.declared.Cond
-pub use Rattle.v8_word.specs.declared.Icc
-pub use Rattle.v8_word.specs.declared.Size
+pub use Rattle.v8_formats.specs.Word
+pub use Rattle.v8_formats.specs.Conditions
+pub use Rattle.v8_formats.specs.Cond
+pub use Rattle.v8_formats.specs.Icc
+pub use Rattle.v8_formats.specs.Size
 pub use Rattle.v8_formats.specs.Fields
 pub use Rattle.v8_formats.specs.Table
 pub use Rattle.v8_formats.specs.declared.instr.Branch
@@ -19,12 +19,12 @@ pub use Rattle.v8_formats.specs.declared.instr.Three
 pub use Rattle.v8_formats.specs.declared.instr.Trap
 pub use Rattle.v8_formats.specs.declared.instr.Two
 pub use Rattle.v8_formats.specs.declared.instr.Upper
-pub use Rattle.v8_alu.specs.Outcomes
-pub use Rattle.v8_alu.specs.Results
-pub use Rattle.v8_alu.specs.declared.AluOut
-pub use Rattle.v8_alu.specs.declared.Division
-pub use Rattle.v8_alu.specs.declared.Op
-pub use Rattle.v8_alu.specs.declared.TaggedOp
+pub use Rattle.v8_state.specs.Outcomes
+pub use Rattle.v8_state.specs.Results
+pub use Rattle.v8_state.specs.AluOut
+pub use Rattle.v8_state.specs.Division
+pub use Rattle.v8_state.specs.Op
+pub use Rattle.v8_state.specs.TaggedOp
 pub use Rattle.v8_state.specs.Admitted
 pub use Rattle.v8_state.specs.Operands
 pub use Rattle.v8_state.specs.Operations
@@ -37,7 +37,7 @@ pub use Rattle.v8_state.specs.Operation
 pub use Rattle.v8_state.specs.Space
 pub use Rattle.v8_state.specs.StateRegister
 pub use Rattle.v8_state.specs.Transfer
-pub use Rattle.v8_windows.specs.Windows
+pub use Rattle.v8_state.specs.Windows
 pub use Rattle.v8_mmu.specs.Answers
 pub use Rattle.v8_mmu.specs.Meaning
 pub use Rattle.v8_mmu.specs.Paths

@@ -14,3 +14,10 @@ pub use Rattle.v8_meaning.specs.declared.operation.Exchange
 pub use Rattle.v8_meaning.specs.declared.operation.Loading
 pub use Rattle.v8_meaning.specs.declared.operation.Operation
 pub use Rattle.v8_meaning.specs.declared.operation.StateRegister
+pub use Rattle.v8_windows.specs.Windows
+pub use Rattle.v8_meaning.specs.Outcomes
+pub use Rattle.v8_meaning.specs.Results
+pub use Rattle.v8_meaning.specs.AluOut
+pub use Rattle.v8_meaning.specs.Division
+pub use Rattle.v8_meaning.specs.Op
+pub use Rattle.v8_meaning.specs.TaggedOp
