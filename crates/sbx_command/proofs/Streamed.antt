@@ -9,9 +9,9 @@ use Rattle.sbx_port.specs.Following.{beyond}
 use Rattle.sbx_port.specs.Streams.{Streamed}
 use Rattle.sbx_port.proofs.Tracked.{no_bytes}
 use Rattle.sbx_rules.specs.Verdicts.{Checked}
-use Rattle.sbx_run.specs.declared.runner.Finished.{Finished}
-use Rattle.sbx_run.specs.RunFault.{RunFault}
-use Rattle.sbx_run.specs.RunFault.TheVariants as runs
+use Rattle.sbx_stream.specs.Finished.{Finished}
+use Rattle.sbx_stream.specs.RunFault.{RunFault}
+use Rattle.sbx_stream.specs.RunFault.TheVariants as runs
 use Rattle.sbx_stream.specs.Streams.{IsAnswerWritten, IsFront, IsStreamed}
 use Rattle.sbx_command.specs.Laws.{KnownInputsAreAnswered}
 use Rattle.sbx_command.specs.declared.stops.Stop.{Stop}

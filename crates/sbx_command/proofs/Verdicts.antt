@@ -4,7 +4,12 @@ use Rattle.std.specs.Io.KnownBytes.{Appends, Keeps}
 use Rattle.sbx_image.specs.declared.fault.ImageFault.{ImageFault}
 use Rattle.sbx_image.specs.declared.parts.Parts.{Parts}
 use Rattle.sbx_image.specs.Reading.{reading}
+use Rattle.want.specs.Wants.{refused}
+use Rattle.sbx_rules.specs.declared.cause.Cause.TheVariants.{NoMemory}
+use Rattle.sbx_rules.specs.declared.cause.Refusal.{Refusal}
 use Rattle.sbx_rules.specs.Verdicts.{Checked, IsFirst}
+use Rattle.sbx_stream.specs.Refusals.{IsRefusal as IsRefused}
+use Rattle.sbx_stream.proofs.Refusals.{broken_rule}
 use Rattle.sbx_command.specs.declared.jobs.Job.{Job}
 use Rattle.sbx_command.specs.declared.jobs.Job.TheVariants.{Asm, Verify, Run, List as Listing, Trace}
 use Rattle.sbx_command.specs.declared.stops.Stop.{Stop}
@@ -24,6 +29,10 @@ fault_is_not_checked parts other bytes refusal read least same checked =
     let equal : parts ≡ other = search rules in
     let kept : Checked parts = rw equal checked in
     kept refusal.function refusal.address refusal.cause least.told
+
+-- a refusal that isn't for want of memory names a broken rule
+pub broken : (parts : Parts) (refusal : Refusal) → IsRefused parts refusal → (refusal.cause ≡ NoMemory refused → ⊥) → IsFirst parts refusal
+broken parts refusal told other = broken_rule parts refusal told other
 
 -- what is accepted of known bytes
 pub accepted_of : (known : Option (List ℕ)) (image accepted : Parts) → IfSome known (λ bytes. reading bytes ≡ Ok image) → (accepted ≡ image) × Checked image

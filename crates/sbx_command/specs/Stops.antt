@@ -10,8 +10,8 @@ use Rattle.sbx_asm.specs.declared.fault.Cause.{Cause}
 use Rattle.sbx_asm.specs.declared.fault.Cause.TheVariants as causes
 use Rattle.sbx_asm.specs.declared.fault.AsmFault.{AsmFault}
 use Rattle.sbx_asm.specs.Meaning.{source_image}
-use Rattle.sbx_run.specs.RunFault.{RunFault}
-use Rattle.sbx_run.specs.RunFault.TheVariants as runs
+use Rattle.sbx_stream.specs.RunFault.{RunFault}
+use Rattle.sbx_stream.specs.RunFault.TheVariants as runs
 use Rattle.sbx_rules.specs.Verdicts.{IsFirst}
 use Rattle.sbx_image.specs.declared.parts.Parts.{Parts}
 use Rattle.sbx_command.specs.declared.stops.Stop.{Stop}

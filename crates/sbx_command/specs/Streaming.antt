@@ -8,8 +8,8 @@ use Rattle.sbx_flat.specs.declared.path.Place.{Place}
 use Rattle.sbx_port.specs.Following.{beyond}
 use Rattle.sbx_port.specs.Streams.{Streamed}
 use Rattle.sbx_rules.specs.Verdicts.{Checked}
-use Rattle.sbx_run.specs.declared.runner.Finished.{Finished}
-use Rattle.sbx_run.specs.RunFault.{RunFault}
+use Rattle.sbx_stream.specs.Finished.{Finished}
+use Rattle.sbx_stream.specs.RunFault.{RunFault}
 use Rattle.sbx_stream.specs.Streams.{IsAnswerWritten, IsFront, IsStreamed}
 use Rattle.sbx_command.specs.declared.stops.Stop.{Stop}
 use Rattle.sbx_command.specs.declared.stops.Stop.TheVariants.{Source, Image, Refused, File, Input, Output, Memory, NoRoom}

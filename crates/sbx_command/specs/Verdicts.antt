@@ -1,8 +1,8 @@
 -- What an exit status says of the bytes of the file that a job reads.
 use Rattle.std.specs.Prelude.{◌≡◌, ℕ, List, Ok, Option, IfSome}
 use Rattle.std.specs.Io.KnownBytes.{Appends}
-use Rattle.sbx_run.specs.Outcome.{Outcome}
-use Rattle.sbx_run.specs.Traces.{IsTrace, Wrote}
+use Rattle.sbx_stream.specs.Outcome.{Outcome}
+use Rattle.sbx_stream.specs.Traces.{IsTrace, Wrote}
 use Rattle.sbx_image.specs.declared.parts.Parts.{Parts}
 use Rattle.sbx_image.specs.Reading.{reading}
 use Rattle.sbx_image.specs.Spelling.{IsTyped, spelling}

@@ -9,7 +9,7 @@ use crate::counts::Windows;
 use crate::stops::Stop;
 use crate::streaming::stream_windows;
 use crate::verifying::accepted_in;
-use sbx_verify::Accepted;
+use sbx_stream::Accepted;
 use std::alloc::Global;
 use std::io::{Read, Write};
 

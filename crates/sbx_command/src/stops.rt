@@ -4,8 +4,7 @@ ghost use Rattle.sbx_command.specs.Stops.{line_of, status_of, stop_of_image, sto
 
 use sbx_asm::{AsmFault, Cause};
 use sbx_image::ImageFault;
-use sbx_run::RunFault;
-use sbx_verify::Refusal;
+use sbx_stream::{Refusal, RunFault};
 use std::fmt::{self, Display, Formatter, Write};
 use std::io;
 use want::Want;

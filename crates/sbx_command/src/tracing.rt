@@ -8,7 +8,7 @@ use crate::images::image_in;
 use crate::reading::{MOST, ReadFault, read_whole};
 use crate::stops::Stop;
 use sbx_image::Image;
-use sbx_run::{RunFault, trace};
+use sbx_stream::{RunFault, trace};
 use std::alloc::Global;
 use std::io::{Read, Write};
 

@@ -8,12 +8,12 @@ ghost use Rattle.sbx_command.specs.Verdicts.{IsAccepted};
 
 use crate::images::image_in;
 use crate::stops::Stop;
-use sbx_verify::{Accepted, Cause, verify};
+use sbx_stream::{Accepted, Cause, verify};
 use std::alloc::Global;
 use std::io::{Read, Write};
 
 /// The image of a file, where it breaks no rule.
-#[tactic(auto, using(sbx_verify::proofs::Refusals::broken_rule))]
+#[tactic(auto, using(crate::proofs::Verdicts::broken))]
 pub fn accepted_in<F: Read>(alloc: Global, file: &mut F) -> Result<Accepted, Stop>
     ensures accepted { IfOk result (λ accepted. IfSome (F.remaining file.old)
         (λ bytes. (reading bytes ≡ Ok accepted) × Checked accepted)) }

@@ -12,7 +12,7 @@
 ghost use Rattle.std.specs.Io.Buffered.{reader_remaining};
 
 use crate::files::done_on;
-use sbx_command::{Job, Stop};
+use sbx_words::{Job, Stop};
 use std::cell::RefCell;
 use std::io;
 use std::io::{BufReader, LineWriter, Read, Write};

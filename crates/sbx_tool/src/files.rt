@@ -1,5 +1,5 @@
 //! Files by their paths.
-use sbx_command::{Job, Stop, command};
+use sbx_words::{Job, Stop, command};
 use std::fs::File;
 use std::io::{Read, Write};
 use std::os::unix::fs::MetadataExt;

@@ -261,3 +261,5 @@ pub fn read_words<'a, S: AsStr>(alloc: Global, words: &'a [S]) -> Result<Job<'a>
         Err(lack) => Err(usage_of_lack(alloc, lack)),
     }
 }
+
+pub use sbx_command::{Job, Stop, Windows, command};

@@ -206,3 +206,5 @@ pub fn tagged_tv(op: TaggedOp, a: u32, b: u32, _icc: Icc, y: u32) -> Option<AluO
         Some(plain(value, icc, y))
     }
 }
+
+pub use v8_word::{Cond, Icc};

@@ -2,7 +2,7 @@
 ghost use Rattle.std.specs.Prelude.{◌≡◌, ℕ, ◌+◌, ◌*◌, ◌/◌, ◌%◌, ◌^◌, ◌<◌, ◌≤◌, ◌↔◌, IsTrue, IfErr, IfOk, OnErr, if◌then◌else◌};
 ghost use Rattle.std.specs.Borrow.{Lends, sem};
 ghost use Rattle.v8_mmu.specs.Answers.{Grows, Rose};
-ghost use Rattle.v8_windows.specs.Windows.{IsFile, reg_of, with_reg};
+ghost use Rattle.v8_state.specs.Windows.{IsFile, reg_of, with_reg};
 ghost use Rattle.v8_state.specs.Registers.{booted, cleared, psr_of, psr_window, started_with, tbr_of, trap_base, with_psr, with_wim};
 ghost use Rattle.v8_core.specs.Accesses.{world};
 ghost use Rattle.v8_core.specs.Calls.{calls_by, most_calls};
@@ -11,9 +11,9 @@ ghost use Rattle.v8_core.specs.Steps.{next};
 use crate::step::{try_one, turn_by};
 use crate::turn::{Event, Turn};
 use std::marker::Model;
+use v8_formats::{Reg, TrapType};
 use v8_mmu::{Bus, MmuRegs, PortFault};
 use v8_state::Cpu;
-use v8_word::{Reg, TrapType};
 
 /// A processor of `N` register windows, 4 to 32, on a bus.
 #[derive(Drop)]
