@@ -15,7 +15,7 @@ use products::{
 };
 use quotients::{signed_quotient, unsigned_quotient};
 use sums::{add, codes, subtract, tagged_codes};
-use v8_word::Icc;
+pub use v8_word::{Cond, Icc};
 
 /// An operation that has a result for all operands, by the names of appendix B. `Cc` sets the condition codes.
 #[derive(Clone, Copy)]
@@ -206,5 +206,3 @@ pub fn tagged_tv(op: TaggedOp, a: u32, b: u32, _icc: Icc, y: u32) -> Option<AluO
         Some(plain(value, icc, y))
     }
 }
-
-pub use v8_word::{Cond, Icc};

@@ -4,7 +4,8 @@ ghost use Rattle.v8_state.specs.Registers.{booted, cleared, flag_at, psr_codes, 
 ghost use Rattle.v8_windows.specs.Windows.{IsFile};
 
 use crate::state::{Control, Cpu};
-use v8_windows::{Icc, Reg, RegFile, TrapType, bits_of};
+use v8_windows::RegFile;
+use v8_word::{Icc, Reg, TrapType, bits_of};
 
 fn flag(word: u32, low: u32) -> bool
     requires { low < 32 }

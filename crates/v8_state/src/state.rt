@@ -1,5 +1,6 @@
 //! What the processor holds.
-use v8_windows::{Icc, RegFile, TrapType};
+use v8_windows::RegFile;
+use v8_word::{Icc, TrapType};
 
 /// What the processor holds beside its register windows (chapter 4).
 #[derive(Clone, Copy)]

@@ -6,7 +6,7 @@ ghost use Rattle.v8_state.specs.Effects.{taken, with_regs};
 
 use crate::state::Cpu;
 use v8_meaning::{Exchange, Loading, Transfer, odd_of};
-use v8_windows::{Reg, Size};
+use v8_word::{Reg, Size};
 
 impl<const N: usize> Cpu<N> {
     /// The number in the low bytes of a register, or in the words of its pair.

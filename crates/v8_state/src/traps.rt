@@ -5,7 +5,7 @@ ghost use Rattle.v8_state.specs.Traps.{entered, first_memory_trap, memory_applie
 
 use crate::state::Cpu;
 use v8_meaning::{MemoryOperand, bytes_in, is_missing, is_normal, is_unknown, splits_pair};
-use v8_windows::{Size, TrapType};
+use v8_word::{Size, TrapType};
 
 impl<const N: usize> Cpu<N> {
     /// The address of a load or store of this size, or the trap that it meets before memory is reached.
