@@ -10,5 +10,5 @@ mod traps;
 
 pub use state::{Control, Cpu};
 pub use v8_meaning::{
-    MemoryOperand, Operation, Space, Transfer, is_code_space, is_user_space, operation_of,
+    MemoryOperand, Operation, Space, Transfer, bytes_in, is_code_space, is_user_space, operation_of,
 };
