@@ -105,22 +105,14 @@ fn put_table(
     Ok(())
 }
 
-/// What is in one set of three tables and wasn't in another.
-fn fresh(before: &[u64; 3], now: &[u64; 3]) -> [u64; 3] {
-    [
-        now[0] & !before[0],
-        now[1] & !before[1],
-        now[2] & !before[2],
-    ]
-}
-
 /// Puts the pages that were referenced or modified for the first time.
 fn put_pages(sheet: &mut Sheet, before: &Shown, now: &Shown) -> Result<(), AllocError> {
-    let referenced = fresh(&before.referenced, &now.referenced);
-    let modified = fresh(&before.modified, &now.modified);
-    put_table(sheet, CODE_START, referenced[0], modified[0])?;
-    put_table(sheet, DATA_START, referenced[1], modified[1])?;
-    put_table(sheet, DATA_END, referenced[2], modified[2])
+    for (table, start) in [(0, CODE_START), (1, DATA_START), (2, DATA_END)] {
+        let referenced = now.referenced[table] & !before.referenced[table];
+        let modified = now.modified[table] & !before.modified[table];
+        put_table(sheet, start, referenced, modified)?;
+    }
+    Ok(())
 }
 
 /// Puts the bytes that the device put out.

@@ -1,5 +1,4 @@
 use Rattle.std.proofs.Common.{◌+◌, ap}
-use Rattle.sbx_turns.specs.Places.{function_from}
 use Rattle.sbx_turns.proofs.Found.{one_more}
 use Rattle.sbx_turns.proofs.places.function_from.Goals as goal
 
