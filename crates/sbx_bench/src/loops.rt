@@ -1,7 +1,7 @@
 //! The loops that are measured, and the image of one.
 ghost use Rattle.std.specs.Prelude.{◌≡◌, ◌⊎◌, length, IfErr, IfOk};
 ghost use Rattle.sbx_image.specs.declared.fault.ImageFault.TheVariants as fault_of;
-ghost use Rattle.sbx_bench.specs.Images.{image_of, IsCodeLength};
+ghost use Rattle.sbx_bench.specs.Images.{image_of, zeros, IsCodeLength};
 ghost use Rattle.want.specs.Wants.{refused};
 
 use sbx_image::{Block, Function, Image, ImageFault, Items, Kind, Parts, Services};
@@ -178,6 +178,14 @@ const CODE: u32 = 0x4_0000;
 /// How many bytes of data the image has: two times what the copy copies.
 const DATA: usize = 0x2_0000;
 
+/// So many zeros.
+#[tactic(auto, unfolding(crate::specs::Images::zeros))]
+fn zeros(alloc: Global, count: usize) -> Result<Vec<u8>, AllocError>
+    ensures { IfOk result (λ bytes. bytes.items ≡ zeros count) }
+{
+    vec![in alloc; 0; count]
+}
+
 /// The parts of an image of these words, as one leaf function of one block, with 128 KiB of data.
 #[tactic(auto, unfolding(crate::specs::Images::image_of))]
 fn parts(alloc: Global, words: &[u32]) -> Result<Parts, AllocError>
@@ -206,7 +214,7 @@ fn parts(alloc: Global, words: &[u32]) -> Result<Parts, AllocError>
     Ok(Parts {
         services: Services::EXIT,
         words: Items::new(code),
-        bytes: Items::new(vec![in alloc; 0; DATA]?),
+        bytes: Items::new(zeros(alloc, DATA)?),
         stack_pages: 1,
         functions: Items::new(functions),
     })
