@@ -1,4 +1,5 @@
 pub mod Verdicts
+pub mod Listings
 pub mod Streamed
 pub mod Sources
 pub mod Safe

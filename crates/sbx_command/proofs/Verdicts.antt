@@ -11,7 +11,7 @@ use Rattle.sbx_command.specs.declared.stops.Stop.{Stop}
 use Rattle.sbx_command.specs.declared.stops.Stop.TheVariants.{Source, Image, Refused, File, Input, Output, Memory, NoRoom}
 use Rattle.sbx_command.specs.Stops.{IsRefusal, IsTrueOf, IsTrueOfImage, status_of}
 use Rattle.sbx_command.proofs.Sources.{source_stops}
-use Rattle.sbx_command.specs.Verdicts.{Traced, WroteTrace, Deserves, IsAccepted, IsImage, IsTold, StopsFor}
+use Rattle.sbx_command.specs.Verdicts.{Traced, WroteTrace, Deserves, IsAccepted, IsBefore, IsImage, IsTold, StopsFor}
 
 pub faulty_is_no_image : (bytes : List ℕ) (fault : ImageFault) → reading bytes ≡ Err fault → IsImage bytes → ⊥
 faulty_is_no_image bytes fault faulty image =
@@ -39,7 +39,7 @@ image_stop File bytes refuses told image = absurd refuses
 image_stop Input bytes refuses told image = absurd refuses
 image_stop Output bytes refuses told image = absurd refuses
 image_stop (Memory want) bytes refuses told image = absurd refuses
-image_stop NoRoom bytes refuses told image = absurd refuses
+image_stop (NoRoom full) bytes refuses told image = absurd refuses
 
 pub rule_stop : (stop : Stop) (bytes : List ℕ) → IsRefusal stop → IsTrueOf stop bytes → IsAccepted bytes → ⊥
 rule_stop (Source fault) bytes refuses told accepted = told
@@ -50,7 +50,7 @@ rule_stop File bytes refuses told accepted = absurd refuses
 rule_stop Input bytes refuses told accepted = absurd refuses
 rule_stop Output bytes refuses told accepted = absurd refuses
 rule_stop (Memory want) bytes refuses told accepted = absurd refuses
-rule_stop NoRoom bytes refuses told accepted = absurd refuses
+rule_stop (NoRoom full) bytes refuses told accepted = absurd refuses
 
 pub told_is_refused : (job : Job) (stop : Stop) (bytes : List ℕ) → IsRefusal stop → IsTold job stop bytes → Deserves job bytes → ⊥
 told_is_refused (Asm source object) stop bytes refuses told deserved = source_stops stop bytes refuses told deserved
@@ -87,6 +87,6 @@ traced_on windows limit (Some bytes) (Some all) old new parts taken read same wr
 
 -- a stop of a job, whose status is told
 pub stops_for : (job : Job) (known : Option (List ℕ)) (Untouched : Type 0) (LeftAt : Stop → Type 0) (stop : Stop) (status : ℕ) → status ≡ status_of stop
-    → IfSome known (IsTold job stop) → (IsRefusal stop → Untouched) → LeftAt stop → StopsFor job known Untouched LeftAt status
+    → IfSome known (IsTold job stop) → (IsBefore job stop → Untouched) → LeftAt stop → StopsFor job known Untouched LeftAt status
 stops_for job known Untouched LeftAt stop status is told untouched left =
-    (stop, is, told, (λ refuses. (known_is_refused known job stop refuses told, untouched refuses)), left)
+    (stop, is, told, (λ refuses. known_is_refused known job stop refuses told), untouched, left)

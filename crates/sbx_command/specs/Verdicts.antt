@@ -1,5 +1,5 @@
 -- What an exit status says of the bytes of the file that a job reads.
-use Rattle.std.specs.Prelude.{◌≡◌, ℕ, List, Ok, Option, IfSome}
+use Rattle.std.specs.Prelude.{◌≡◌, ℕ, List, Ok, Option, IfSome, codes}
 use Rattle.std.specs.Io.KnownBytes.{Appends}
 use Rattle.sbx_run.specs.Outcome.{Outcome}
 use Rattle.sbx_run.specs.Traces.{IsTrace, Wrote}
@@ -12,8 +12,10 @@ use Rattle.sbx_rules.specs.Verdicts.{Checked}
 use Rattle.sbx_command.specs.declared.jobs.Job.{Job}
 use Rattle.sbx_command.specs.declared.jobs.Job.TheVariants.{Asm, Verify, Run, List as Listing, Trace}
 use Rattle.sbx_command.specs.declared.stops.Stop.{Stop}
+use Rattle.v8_map.specs.declared.TheConstants.{CODE_START}
+use Rattle.sbx_command.specs.Listing.{listing}
 use Rattle.sbx_command.specs.Streaming.{Left, Ran}
-use Rattle.sbx_command.specs.Stops.{IsRefusal, IsTrueOf, IsTrueOfImage, IsTrueOfSource, status_of}
+use Rattle.sbx_command.specs.Stops.{IsOfFile, IsOfOutput, IsRefusal, IsTrueOf, IsTrueOfImage, IsTrueOfSource, status_of}
 
 -- the bytes spell an image
 abbrev pub IsImage : List ℕ → Type 0
@@ -69,12 +71,16 @@ TracedOn windows limit bytes input old new =
 abbrev pub Traced : ℕ → ℕ → Option (List ℕ) → Option (List ℕ) → Option (List ℕ) → Option (List ℕ) → Type 0
 Traced windows limit file input old new = IfSome file (λ bytes. IfSome input (λ all. TracedOn windows limit bytes all old new))
 
+-- The output grew by the listing of the image that the bytes of the file spell, where they are known.
+abbrev pub Listed : Option (List ℕ) → Option (List ℕ) → Option (List ℕ) → Type 0
+Listed file old new = IfSome file (λ bytes. (parts : Parts) × (reading bytes ≡ Ok parts) × Appends old new (listing CODE_START parts.words))
+
 -- what a job that is done has read and put out
 abbrev pub Gave : Job → Option (List ℕ) → Option (List ℕ) → Option (List ℕ) → Option (List ℕ) → Option (List ℕ) → ℕ → Type 0
 Gave (Asm source object) file input input_now old new status = Assembled file old new × (status ≡ 0)
-Gave (Verify image) file input input_now old new status = Unit {0}
+Gave (Verify image) file input input_now old new status = Appends old new (codes "accepted\n") × (status ≡ 0)
 Gave (Run image windows) file input input_now old new status = Ran windows file input input_now old new status
-Gave (Listing image) file input input_now old new status = Unit {0}
+Gave (Listing image) file input input_now old new status = Listed file old new × (status ≡ 0)
 Gave (Trace image windows limit) file input input_now old new status = Traced windows limit file input old new × (status ≡ 0)
 
 -- what a stop of a job leaves
@@ -85,9 +91,18 @@ LeftBy (Run image windows) file input input_now old new stop = Left file input i
 LeftBy (Listing image) file input input_now old new stop = Unit {0}
 LeftBy (Trace image windows limit) file input input_now old new stop = Unit {0}
 
+-- The stops of a job that come before it takes any input or puts anything out. A run and a trace take both while they go on; the other
+-- jobs take no input, and put out what is whole.
+abbrev pub IsBefore : Job → Stop → Type 0
+IsBefore (Asm source object) stop = IsOfOutput stop → ⊥
+IsBefore (Verify image) stop = IsOfOutput stop → ⊥
+IsBefore (Run image windows) stop = IsOfFile stop
+IsBefore (Listing image) stop = IsOfOutput stop → ⊥
+IsBefore (Trace image windows limit) stop = IsOfFile stop
+
 -- A status is that of a stop, which tells what is so of the bytes of the file, and leaves what such a stop leaves. Where it refuses the
--- bytes, they don't deserve the job, and what a refusal leaves as it was is as it was.
+-- bytes, they don't deserve the job; what a stop before all input and output leaves as it was is as it was.
 abbrev pub StopsFor : Job → Option (List ℕ) → Type 0 → (Stop → Type 0) → ℕ → Type 0
 StopsFor job file Untouched LeftAt status =
     (stop : Stop) × (status ≡ status_of stop) × IfSome file (IsTold job stop)
-    × (IsRefusal stop → IfSome file (λ bytes. Deserves job bytes → ⊥) × Untouched) × LeftAt stop
+    × (IsRefusal stop → IfSome file (λ bytes. Deserves job bytes → ⊥)) × (IsBefore job stop → Untouched) × LeftAt stop

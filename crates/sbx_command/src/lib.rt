@@ -19,4 +19,4 @@ pub use commands::command;
 pub use counts::Windows;
 pub use jobs::{Job, MOST_TURNS, decimal, turns, window_count};
 pub use reading::{ReadFault, read_whole};
-pub use stops::Stop;
+pub use stops::{Full, Stop};

@@ -1,7 +1,8 @@
 //! The command `trace`.
-ghost use Rattle.std.specs.Prelude.{◌≡◌, ◌≤◌, IfErr, IfOk, IfSome, OnOk};
-ghost use Rattle.sbx_command.specs.Stops.{IsRefusal, IsTrueOfImage};
+ghost use Rattle.std.specs.Prelude.{◌≡◌, ◌≤◌, ◌⊎◌, IfErr, IfOk, IfSome, OnOk};
+ghost use Rattle.sbx_command.specs.Stops.{IsOfFile, IsTrueOfImage};
 ghost use Rattle.sbx_command.specs.Verdicts.{IsImage, Traced, WroteTrace};
+ghost use Rattle.want.specs.Wants.{refused};
 
 use crate::counts::Windows;
 use crate::images::image_in;
@@ -15,7 +16,7 @@ use std::io::{Read, Write};
 /// All of standard input.
 fn input_of<I: Read>(alloc: Global, input: &mut I) -> Result<Vec<u8>, Stop>
     ensures whole { IfOk result (λ bytes. IfSome (I.remaining input.old) (λ all. bytes.items ≡ all)) }
-    ensures stop { IfErr result (λ stop. IsRefusal stop → ⊥) }
+    ensures stop { IfErr result (λ stop. (stop ≡ Stop.Memory refused) ⊎ (stop ≡ Stop.Input)) }
 {
     match read_whole(alloc, input, MOST) {
         Ok(bytes) => Ok(bytes),
@@ -156,7 +157,7 @@ pub fn trace_file<F: Read, I: Read, O: Write>(
     ensures traced { OnOk result (Traced windows limit (F.remaining file.old) (I.remaining input.old)
         (O.contents out.old) (O.contents out.new)) }
     ensures stop { IfErr result (λ stop. IfSome (F.remaining file.old) (IsTrueOfImage stop)) }
-    ensures untouched { IfErr result (λ stop. IsRefusal stop
+    ensures untouched { IfErr result (λ stop. IsOfFile stop
         → (input.new ≡ input.old) × (out.new ≡ out.old)) }
 {
     let image = image_in(alloc, file)?;
