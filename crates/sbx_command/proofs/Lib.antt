@@ -1,5 +1,6 @@
 pub mod Verdicts
 pub mod Listings
+pub mod Traces
 pub mod Streamed
 pub mod Sources
 pub mod Safe

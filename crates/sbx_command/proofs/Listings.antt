@@ -1,5 +1,5 @@
 -- The lines of words, one after another.
-use Rattle.std.proofs.Common.{◌≡◌, refl, ℕ, suc, ◌+◌, ◌<◌, List, [], ◌∷◌, ◌++◌, Option, None, Some, IfSome, Ok, length, slice_index, drop, sym, ap, ◌∙◌, add-one, append_assoc, append-nil, drop-cons}
+use Rattle.std.proofs.Common.{◌≡◌, refl, ℕ, ◌+◌, ◌<◌, List, [], ◌∷◌, ◌++◌, Option, None, Some, IfSome, Ok, length, slice_index, drop, sym, ap, ◌∙◌, add-one, append_assoc, append-nil, drop-cons}
 use Rattle.std.specs.Io.KnownBytes.{Appends, Keeps}
 use Rattle.std.proofs.KnownBytes.{Appends-nil, Appends-trans}
 use Rattle.sbx_image.specs.declared.parts.Parts.{Parts}

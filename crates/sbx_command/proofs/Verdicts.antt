@@ -11,7 +11,7 @@ use Rattle.sbx_command.specs.declared.stops.Stop.{Stop}
 use Rattle.sbx_command.specs.declared.stops.Stop.TheVariants.{Source, Image, Refused, File, Input, Output, Memory, NoRoom}
 use Rattle.sbx_command.specs.Stops.{IsRefusal, IsTrueOf, IsTrueOfImage, status_of}
 use Rattle.sbx_command.proofs.Sources.{source_stops}
-use Rattle.sbx_command.specs.Verdicts.{Traced, WroteTrace, Deserves, IsAccepted, IsBefore, IsImage, IsTold, StopsFor}
+use Rattle.sbx_command.specs.Verdicts.{Deserves, IsAccepted, IsBefore, IsImage, IsTold, StopsFor}
 
 pub faulty_is_no_image : (bytes : List ℕ) (fault : ImageFault) → reading bytes ≡ Err fault → IsImage bytes → ⊥
 faulty_is_no_image bytes fault faulty image =
@@ -70,20 +70,6 @@ appends_kept None b c bs p q = tt
 appends_kept (Some x) None c bs p q = absurd p
 appends_kept (Some x) (Some y) None bs p q = absurd q
 appends_kept (Some x) (Some y) (Some z) bs p q = q ∙ p
-
--- a trace on as many windows as another number says
-pub trace_at : (n windows : ℕ) (parts : Parts) (input : List ℕ) (limit : ℕ) (old new : Option (List ℕ)) → windows ≡ n
-    → WroteTrace n parts input limit old new → WroteTrace windows parts input limit old new
-trace_at n windows parts input limit old new same wrote = subst (λ (w : ℕ). WroteTrace w parts input limit old new) (sym same) wrote
-
--- a trace of the known bytes of a file on the known bytes of an input
-pub traced_on : (windows limit : ℕ) (file input old new : Option (List ℕ)) (parts : Parts) (taken : List ℕ)
-    → IfSome file (λ bytes. reading bytes ≡ Ok parts) → IfSome input (λ all. taken ≡ all)
-    → WroteTrace windows parts taken limit old new → Traced windows limit file input old new
-traced_on windows limit None input old new parts taken read same wrote = tt
-traced_on windows limit (Some bytes) None old new parts taken read same wrote = tt
-traced_on windows limit (Some bytes) (Some all) old new parts taken read same wrote =
-    (parts, read, subst (λ (input : List ℕ). WroteTrace windows parts input limit old new) same wrote)
 
 -- a stop of a job, whose status is told
 pub stops_for : (job : Job) (known : Option (List ℕ)) (Untouched : Type 0) (LeftAt : Stop → Type 0) (stop : Stop) (status : ℕ) → status ≡ status_of stop

@@ -1,8 +1,9 @@
 -- What an exit status says of the bytes of the file that a job reads.
-use Rattle.std.specs.Prelude.{◌≡◌, ℕ, List, Ok, Option, IfSome, codes}
+use Rattle.std.specs.Prelude.{◌≡◌, ◌⊎◌, ℕ, List, [], Result, Ok, Err, Option, IfSome, codes}
 use Rattle.std.specs.Io.KnownBytes.{Appends}
 use Rattle.sbx_run.specs.Outcome.{Outcome}
-use Rattle.sbx_run.specs.Traces.{IsTrace, Wrote}
+use Rattle.sbx_run.specs.RunFault.{RunFault}
+use Rattle.sbx_run.specs.Traces.{BeginsTrace, IsTrace, Leaves, Wrote}
 use Rattle.sbx_image.specs.declared.parts.Parts.{Parts}
 use Rattle.sbx_image.specs.Reading.{reading}
 use Rattle.sbx_image.specs.Spelling.{IsTyped, spelling}
@@ -12,6 +13,7 @@ use Rattle.sbx_rules.specs.Verdicts.{Checked}
 use Rattle.sbx_command.specs.declared.jobs.Job.{Job}
 use Rattle.sbx_command.specs.declared.jobs.Job.TheVariants.{Asm, Verify, Run, List as Listing, Trace}
 use Rattle.sbx_command.specs.declared.stops.Stop.{Stop}
+use Rattle.sbx_command.specs.declared.stops.Stop.TheVariants.{Source, Image, Refused, File, Input, Output, Memory, NoRoom}
 use Rattle.v8_map.specs.declared.TheConstants.{CODE_START}
 use Rattle.sbx_command.specs.Listing.{listing}
 use Rattle.sbx_command.specs.Streaming.{Left, Ran}
@@ -62,6 +64,32 @@ abbrev pub WroteTrace : ℕ → Parts → List ℕ → ℕ → Option (List ℕ)
 WroteTrace windows parts input limit old new =
     (outcome : Outcome) × Wrote old new (λ text. IsTrace windows parts input limit text outcome)
 
+-- What a trace gives on so many windows: all of it, or at a fault its first bytes.
+abbrev pub TraceGives : ℕ → Parts → List ℕ → ℕ → Option (List ℕ) → Option (List ℕ) → Result Outcome RunFault → Type 0
+TraceGives windows parts input limit old new (Ok outcome) = Wrote old new (λ text. IsTrace windows parts input limit text outcome)
+TraceGives windows parts input limit old new (Err fault) = Wrote old new (Leaves windows parts input limit fault)
+
+-- these are the first bytes of the trace of the image of the bytes
+abbrev pub BeginsTraceOf : ℕ → ℕ → List ℕ → List ℕ → List ℕ → Type 0
+BeginsTraceOf windows limit bytes input written = (parts : Parts) × (reading bytes ≡ Ok parts) × BeginsTrace windows parts input limit written
+
+-- What a stop of a trace leaves. Before the run nothing was put out; the input is told of an image alone; in the run the first bytes of the
+-- trace were put out.
+abbrev pub TraceLeaves : ℕ → ℕ → List ℕ → List ℕ → Stop → List ℕ → Type 0
+TraceLeaves windows limit bytes input Input written = IsImage bytes × (written ≡ [])
+TraceLeaves windows limit bytes input Output written = BeginsTraceOf windows limit bytes input written
+TraceLeaves windows limit bytes input (Memory want) written = (written ≡ []) ⊎ BeginsTraceOf windows limit bytes input written
+TraceLeaves windows limit bytes input (Source fault) written = written ≡ []
+TraceLeaves windows limit bytes input (Image fault) written = written ≡ []
+TraceLeaves windows limit bytes input (Refused refusal) written = written ≡ []
+TraceLeaves windows limit bytes input File written = written ≡ []
+TraceLeaves windows limit bytes input (NoRoom full) written = ⊥
+
+-- the same where the bytes of the file and of the input are known
+abbrev pub TraceLeft : ℕ → ℕ → Option (List ℕ) → Option (List ℕ) → Option (List ℕ) → Option (List ℕ) → Stop → Type 0
+TraceLeft windows limit file input old new stop =
+    IfSome file (λ bytes. IfSome input (λ all. Wrote old new (TraceLeaves windows limit bytes all stop)))
+
 -- It is the trace of the image of the bytes.
 abbrev pub TracedOn : ℕ → ℕ → List ℕ → List ℕ → Option (List ℕ) → Option (List ℕ) → Type 0
 TracedOn windows limit bytes input old new =
@@ -89,7 +117,7 @@ LeftBy (Asm source object) file input input_now old new stop = Unit {0}
 LeftBy (Verify image) file input input_now old new stop = Unit {0}
 LeftBy (Run image windows) file input input_now old new stop = Left file input input_now old new stop
 LeftBy (Listing image) file input input_now old new stop = Unit {0}
-LeftBy (Trace image windows limit) file input input_now old new stop = Unit {0}
+LeftBy (Trace image windows limit) file input input_now old new stop = TraceLeft windows limit file input old new stop
 
 -- The stops of a job that come before it takes any input or puts anything out. A run and a trace take both while they go on; the other
 -- jobs take no input, and put out what is whole.
