@@ -1,4 +1,6 @@
 pub mod Verdicts
+pub mod Listings
+pub mod Traces
 pub mod Streamed
 pub mod Pieces
 pub mod Sources

@@ -16,7 +16,7 @@ use Rattle.sbx_command.specs.declared.stops.Stop.{Stop}
 use Rattle.sbx_command.specs.declared.stops.Stop.TheVariants.{Source, Image, Refused, File, Input, Output, Memory, NoRoom}
 use Rattle.sbx_command.specs.Stops.{IsRefusal, IsTrueOf, IsTrueOfImage, status_of}
 use Rattle.sbx_command.proofs.Sources.{source_stops}
-use Rattle.sbx_command.specs.Verdicts.{Traced, WroteTrace, Deserves, IsAccepted, IsImage, IsTold, StopsFor}
+use Rattle.sbx_command.specs.Verdicts.{Deserves, IsAccepted, IsBefore, IsImage, IsTold, StopsFor}
 
 pub faulty_is_no_image : (bytes : List ℕ) (fault : ImageFault) → reading bytes ≡ Err fault → IsImage bytes → ⊥
 faulty_is_no_image bytes fault faulty image =
@@ -48,7 +48,7 @@ image_stop File bytes refuses told image = absurd refuses
 image_stop Input bytes refuses told image = absurd refuses
 image_stop Output bytes refuses told image = absurd refuses
 image_stop (Memory want) bytes refuses told image = absurd refuses
-image_stop NoRoom bytes refuses told image = absurd refuses
+image_stop (NoRoom full) bytes refuses told image = absurd refuses
 
 pub rule_stop : (stop : Stop) (bytes : List ℕ) → IsRefusal stop → IsTrueOf stop bytes → IsAccepted bytes → ⊥
 rule_stop (Source fault) bytes refuses told accepted = told
@@ -59,7 +59,7 @@ rule_stop File bytes refuses told accepted = absurd refuses
 rule_stop Input bytes refuses told accepted = absurd refuses
 rule_stop Output bytes refuses told accepted = absurd refuses
 rule_stop (Memory want) bytes refuses told accepted = absurd refuses
-rule_stop NoRoom bytes refuses told accepted = absurd refuses
+rule_stop (NoRoom full) bytes refuses told accepted = absurd refuses
 
 pub told_is_refused : (job : Job) (stop : Stop) (bytes : List ℕ) → IsRefusal stop → IsTold job stop bytes → Deserves job bytes → ⊥
 told_is_refused (Asm source object) stop bytes refuses told deserved = source_stops stop bytes refuses told deserved
@@ -80,22 +80,8 @@ appends_kept (Some x) None c bs p q = absurd p
 appends_kept (Some x) (Some y) None bs p q = absurd q
 appends_kept (Some x) (Some y) (Some z) bs p q = q ∙ p
 
--- a trace on as many windows as another number says
-pub trace_at : (n windows : ℕ) (parts : Parts) (input : List ℕ) (limit : ℕ) (old new : Option (List ℕ)) → windows ≡ n
-    → WroteTrace n parts input limit old new → WroteTrace windows parts input limit old new
-trace_at n windows parts input limit old new same wrote = subst (λ (w : ℕ). WroteTrace w parts input limit old new) (sym same) wrote
-
--- a trace of the known bytes of a file on the known bytes of an input
-pub traced_on : (windows limit : ℕ) (file input old new : Option (List ℕ)) (parts : Parts) (taken : List ℕ)
-    → IfSome file (λ bytes. reading bytes ≡ Ok parts) → IfSome input (λ all. taken ≡ all)
-    → WroteTrace windows parts taken limit old new → Traced windows limit file input old new
-traced_on windows limit None input old new parts taken read same wrote = tt
-traced_on windows limit (Some bytes) None old new parts taken read same wrote = tt
-traced_on windows limit (Some bytes) (Some all) old new parts taken read same wrote =
-    (parts, read, subst (λ (input : List ℕ). WroteTrace windows parts input limit old new) same wrote)
-
 -- a stop of a job, whose status is told
 pub stops_for : (job : Job) (known : Option (List ℕ)) (Untouched : Type 0) (LeftAt : Stop → Type 0) (stop : Stop) (status : ℕ) → status ≡ status_of stop
-    → IfSome known (IsTold job stop) → (IsRefusal stop → Untouched) → LeftAt stop → StopsFor job known Untouched LeftAt status
+    → IfSome known (IsTold job stop) → (IsBefore job stop → Untouched) → LeftAt stop → StopsFor job known Untouched LeftAt status
 stops_for job known Untouched LeftAt stop status is told untouched left =
-    (stop, is, told, (λ refuses. (known_is_refused known job stop refuses told, untouched refuses)), left)
+    (stop, is, told, (λ refuses. known_is_refused known job stop refuses told), untouched, left)

@@ -47,12 +47,13 @@ impl Read for Reader<'_> {
 }
 
 /// Keeps what is written, and fails at call `fails`, counted from 1, flushes among the calls. Its room is its own, so
-/// that no refused growth is its.
+/// that no refused growth is its. It knows whether it was flushed behind the last write.
 #[derive(Drop)]
 struct Writer {
     kept: ArrayVec<u8, 1024>,
     calls: usize,
     fails: usize,
+    flushed: bool,
 }
 
 impl Writer {
@@ -61,6 +62,7 @@ impl Writer {
             kept: ArrayVec::new(),
             calls: 0,
             fails,
+            flushed: false,
         }
     }
 
@@ -75,6 +77,7 @@ impl Writer {
 
 impl Write for Writer {
     fn write(&mut self, buf: &[u8]) -> io::Result<usize> {
+        self.flushed = false;
         self.call()?;
         match self.kept.try_extend_from_slice(buf) {
             Ok(()) => Ok(buf.len()),
@@ -83,7 +86,9 @@ impl Write for Writer {
     }
 
     fn flush(&mut self) -> io::Result<()> {
-        self.call()
+        self.call()?;
+        self.flushed = true;
+        Ok(())
     }
 }
 
@@ -192,10 +197,11 @@ fn answer_of(alloc: Global, job: &Job<'_>, file: &[u8], fails: [usize; 3]) -> To
     }
 }
 
-/// Whether the command answers as it has to.
+/// Whether the command answers as it has to; where its job is done, what it put out has to be flushed.
 fn is_answered(alloc: Global, case: &Case<'_>) -> bool {
     let told = answer_of(alloc, case.job, case.file, case.fails);
     told.status == case.status
+        && (told.status > 1 || told.out.flushed)
         && told.out.kept.as_slice() == case.out
         && told.err.kept.as_slice() == case.err
 }

@@ -4,6 +4,6 @@
 mod streams;
 
 pub use sbx_run::{
-    Accepted, Cause, Finished, Refusal, RunFault, budget, run_accepted, trace, verify,
+    Accepted, Cause, Finished, Outcome, Refusal, RunFault, budget, run_accepted, trace, verify,
 };
 pub use streams::run_stream;

@@ -6,7 +6,7 @@ ghost use Rattle.sbx_command.specs.Jobs.{IsInRange};
 
 use clap::error::ErrorKind;
 use clap::{Arg, ArgAction, ArgMatches, Command, Error};
-pub use sbx_command::{Job, Stop, Windows, command};
+pub use sbx_command::{Full, Job, Stop, Windows, command};
 use sbx_command::{turns, window_count};
 use std::alloc::{AllocError, Global};
 use std::convert::AsStr;
