@@ -398,16 +398,30 @@ fn refuses_what_is_bad(rt: HostRuntime) {
 /// The bytes of each of `BAD` up to the end of its bad field.
 const TOLD: [usize; 5] = [4, 6, 8, 68, 52];
 
+/// A job on a file whose reader fails at a call, and the status and the line that it has to end with.
+fn stopped<'a>(
+    job: &'a Job<'a>,
+    file: &'a [u8],
+    fails: usize,
+    status: u8,
+    err: &'a [u8],
+) -> Case<'a> {
+    Case {
+        job,
+        file,
+        fails: [fails, 0, 0],
+        status,
+        out: b"",
+        err,
+    }
+}
+
 /// Whether the changed sample is refused once so many bytes were read, and no sooner.
 fn is_told_after(alloc: Global, (place, bytes, line): Change, told: usize) -> bool {
     let image = changed(place, bytes);
-    let mut case = refused(&VERIFY, &image, line);
-    case.fails = [told.wrapping_add(1), 0, 0];
-    let is_told = is_answered(alloc, &case);
-    case.fails = [told, 0, 0];
-    case.status = 4;
-    case.err = b"file\n";
-    is_told && is_answered(alloc, &case)
+    let late = told.wrapping_add(1);
+    is_answered(alloc, &stopped(&VERIFY, &image, late, 2, line))
+        && is_answered(alloc, &stopped(&VERIFY, &image, told, 4, b"file\n"))
 }
 
 #[test]
