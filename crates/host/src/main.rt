@@ -103,6 +103,7 @@ fn path_of(rt: &HostRuntime) -> io::Result<Option<String>> {
 fn main(rt: HostRuntime) -> ExitCode {
     let status = match path_of(&rt) {
         Ok(Some(path)) => host(&rt, path.as_str()),
+        Err(error) if error.kind() == io::ErrorKind::OutOfMemory => tell(&rt, "memory", 4),
         Ok(None) | Err(_) => tell(&rt, "host: its argument is an image's path", 3),
     };
     match status {

@@ -1,16 +1,14 @@
 //! What is told of the image of a file.
-ghost use Rattle.std.specs.Prelude.{◌≡◌, ◌⊎◌, IfErr, IfOk, IfSome, Ok, OnOk};
+ghost use Rattle.std.specs.Prelude.{◌≡◌, ◌⊎◌, IfErr, IfOk, IfSome, OnOk};
 ghost use Rattle.std.specs.Io.KnownBytes.{Appends};
-ghost use Rattle.sbx_image.specs.Reading.{reading};
 ghost use Rattle.sbx_command.specs.Stops.{IsTrueOfImage};
 ghost use Rattle.sbx_tell.specs.Reports.{run_text};
 ghost use Rattle.inspect.specs.Told.{Explained, Ran, Shown, Traced};
 ghost use Rattle.want.specs.Wants.{refused};
 
-use sbx_command::{ReadFault, Stop, Windows, read_whole};
+use sbx_command::{ReadFault, Stop, Windows, image_in, read_whole};
 use sbx_declare::push_image;
 use sbx_explain::push_why;
-use sbx_image::{Image, parse};
 use sbx_rules::Refusal;
 use sbx_tell::{Progress, Run, push_run, run_windows};
 use sbx_watch::watch_windows;
@@ -18,21 +16,8 @@ use std::alloc::Global;
 use std::io::{Read, Write};
 use want::Want;
 
-/// The most bytes that an image file, or the input of a run, may have.
+/// The most bytes that the input of a run may have.
 const MOST: usize = 16_777_216;
-
-/// The image that the bytes of a file spell.
-fn image_in<F: Read>(alloc: Global, file: &mut F) -> Result<Image, Stop>
-    ensures image { IfOk result (λ image. IfSome (F.remaining file.old) (λ bytes. reading bytes ≡ Ok image)) }
-    ensures stop { IfErr result (λ stop. IfSome (F.remaining file.old) (IsTrueOfImage stop)) }
-{
-    let bytes = match read_whole(alloc, file, MOST) {
-        Ok(bytes) => bytes,
-        Err(ReadFault::Memory(want)) => return Err(Stop::Memory(want)),
-        Err(ReadFault::Reader | ReadFault::TooLong) => return Err(Stop::File),
-    };
-    Ok(parse(alloc, bytes.as_slice())?)
-}
 
 /// All of standard input.
 fn input_of<I: Read>(alloc: Global, input: &mut I) -> Result<Vec<u8>, Stop>

@@ -7,7 +7,7 @@ mod words;
 
 use commands::{explain_image, run_image, show_image, trace_image};
 use progress::Lines;
-use sbx_command::Stop;
+use sbx_command::{Full, Stop};
 use std::alloc::AllocError;
 use std::fs::File;
 use std::io::BufWriter;
@@ -22,8 +22,7 @@ const OTHER_WORDS: u8 = 3;
 fn opened(rt: &HostRuntime, path: &str) -> Result<File, Stop> {
     match fs::open(rt, path) {
         Ok(file) => Ok(file),
-        Err(error) if error.kind() == io::ErrorKind::OutOfMemory => Err(Stop::NoRoom),
-        Err(_) => Err(Stop::File),
+        Err(error) => Err(Stop::of(&error, Stop::File)),
     }
 }
 
@@ -36,8 +35,7 @@ fn perform(rt: &HostRuntime, job: Job<'_>) -> Result<(), Stop> {
     let mut file = opened(rt, image)?;
     let mut out = match BufWriter::new(rt.alloc(), rt.stdout()) {
         Ok(out) => out,
-        Err(error) if error.kind() == io::ErrorKind::OutOfMemory => return Err(Stop::NoRoom),
-        Err(_) => return Err(Stop::Output),
+        Err(error) => return Err(Stop::of(&error, Stop::Output)),
     };
     match job {
         Job::Image { .. } => show_image(rt.alloc(), &mut file, &mut out),
@@ -87,11 +85,13 @@ fn answer(rt: &HostRuntime, words: &[String]) -> Result<u8, Stop> {
 fn main(rt: HostRuntime) -> ExitCode {
     let status = match words_of(&rt) {
         Ok(words) => answer(&rt, words.as_slice()),
-        Err(error) if error.kind() == io::ErrorKind::OutOfMemory => Err(Stop::NoRoom),
-        Err(_) => {
-            let _ = eprint!(rt; "{USAGE}");
-            Ok(OTHER_WORDS)
-        }
+        Err(error) => match Full::of(&error) {
+            Some(full) => Err(Stop::NoRoom(full)),
+            None => {
+                let _ = eprint!(rt; "{USAGE}");
+                Ok(OTHER_WORDS)
+            }
+        },
     };
     match status {
         Ok(status) => ExitCode::from(status),

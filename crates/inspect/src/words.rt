@@ -34,11 +34,15 @@ pub enum Job<'a> {
 pub const USAGE: &str = "Usage: inspect COMMAND [--windows N] [--limit T] IMG
 
   image IMG    tells what an image declares, in the source language's own words
-  run IMG      runs any image on standard input and tells what it put out, how it ended, its turns and its pages
-  trace IMG    runs any image on standard input and tells each turn: place, instruction, and what it changed
+  run IMG      runs any image on standard input and tells what it put out, how it ended,
+               its turns and its pages
+  trace IMG    runs any image on standard input and tells each turn: place, instruction,
+               and what it changed
   why IMG      tells why an image is refused: the rule, the word, and what is known there
+  --version    of the script ./inspect: the commit of the sources, and the kit
 
-run, trace: --windows N is the count of register windows, 4 to 32 (8); --limit T the most turns, 0 to 9999999999 (100000).
+run, trace: --windows N is the count of register windows, 4 to 32 (8);
+            --limit T the most turns, 0 to 9999999999 (100000).
 Status 0: told. 2: no image. 3: other words. 4: a file, the input or the output fails. 5: memory.
 ";
 

@@ -5,7 +5,7 @@ use Rattle.sbx_image.specs.declared.fault.ImageFault.{ImageFault}
 use Rattle.sbx_image.specs.declared.fault.ImageFault.TheVariants.{Limit}
 use Rattle.sbx_image.specs.declared.parts.Parts.{Parts}
 use Rattle.sbx_image.specs.Rules.{◌>>=◌, wants, each, block_keeps, function_keeps, parts_keep}
-use Rattle.sbx_bench.specs.Images.{image_of, IsCodeLength}
+use Rattle.sbx_bench.specs.Images.{image_of, zeros, IsCodeLength}
 
 -- the rules of so many words
 abbrev judged : Bool → Bool → Result (Unit {0}) ImageFault
@@ -17,7 +17,7 @@ then_nothing false = refl
 
 -- nothing but the number of words can break a rule
 by_length : (words : List ℕ) → parts_keep (image_of words) ≡ judged (leb 1 (length words)) (leb (length words) 65536)
-unfolding parts_keep each function_keeps block_keeps image_of
+unfolding parts_keep each function_keeps block_keeps image_of zeros
 by_length words = then_nothing (leb 1 (length words) && leb (length words) 65536)
 
 both : (some few : Bool) → judged some few ≡ Ok tt → (some ≡ true) × (few ≡ true)

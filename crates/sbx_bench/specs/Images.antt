@@ -4,12 +4,16 @@ use Rattle.sbx_image.specs.declared.parts.Kind.TheVariants.{Leaf}
 use Rattle.sbx_image.specs.declared.parts.Parts.{Parts}
 use Rattle.sbx_image.specs.Rules.{code_start}
 
--- one leaf function of one block, without annotations; eight zero bytes of data, one page of stack, and the service exit
+-- so many zeros
+unfoldable pub zeros : ℕ → List ℕ
+zeros n = replicate n 0
+
+-- one leaf function of one block, without annotations; 128 KiB of zeros as data, one page of stack, and the service exit
 unfoldable pub image_of : List ℕ → Parts
 image_of words = record {
   services = record { 0 = 1 };
   words = words;
-  bytes = replicate 8 0;
+  bytes = zeros 131072;
   stack_pages = 1;
   functions = record {
     kind = Leaf;

@@ -1,11 +1,13 @@
 //! Measures turns of the board of eight windows, and verification.
 //!
-//! Drives the board through each raw loop for a number of turns, in each way: turn by turn, in one run, in a raw run, and in a trace.
-//! Prints what the board counted and the register that the loop counts down, the bytes that were put out, or the lines of the trace.
+//! Drives the board through each raw loop for a number of turns, in each way: turn by turn, in one run, in a raw run, in a trace, and
+//! by a plain interpreter.
+//! Prints what the board counted and the register that the loop counts down, the bytes that were put out, or the lines of the trace;
+//! the times, loading included, go to standard error.
 //! Then verifies images of each shape, a great one and one of a quarter of it, and prints the verdicts; the times go to standard error.
 //!
-//! Arguments, in any order: the number of turns; `arithmetic` or `memory` for that loop alone; `straight`, `branches`, `cells` or `calls`
-//! for that shape alone; `step`, `run`, `raw` or `trace` for that way alone, in place of all others and of verification.
+//! Arguments, in any order: the number of turns; a loop's name for that loop alone; `straight`, `branches`, `cells` or `calls`
+//! for that shape alone; `step`, `run`, `raw`, `trace` or `plain` for that way alone, in place of all others and of verification.
 #![tactic(auto)]
 
 mod callers;
@@ -18,17 +20,12 @@ mod verdicts;
 mod ways;
 
 use anyhow::{Result, anyhow};
+use loops::Loop;
 use shapes::Shape;
 use std::env;
+use std::time::Instant;
 use verdicts::timed_verdict;
 use ways::Way;
-
-/// What a loop does besides counting.
-#[derive(Clone, Copy, PartialEq, Eq)]
-enum Loop {
-    Arithmetic,
-    Memory,
-}
 
 /// What is measured: a loop's turns, or a shape's verification.
 #[derive(Clone, Copy, PartialEq, Eq)]
@@ -37,20 +34,27 @@ enum Subject {
     Shape(Shape),
 }
 
-const SUBJECTS: [(&str, Subject); 6] = [
+const SUBJECTS: [(&str, Subject); 12] = [
     ("arithmetic", Subject::Loop(Loop::Arithmetic)),
     ("memory", Subject::Loop(Loop::Memory)),
+    ("beside", Subject::Loop(Loop::Beside)),
+    ("called", Subject::Loop(Loop::Calls)),
+    ("nested", Subject::Loop(Loop::Nested)),
+    ("echo", Subject::Loop(Loop::Echo)),
+    ("divisions", Subject::Loop(Loop::Divisions)),
+    ("copy", Subject::Loop(Loop::Copy)),
     ("straight", Subject::Shape(Shape::Straight)),
     ("branches", Subject::Shape(Shape::Branches)),
     ("cells", Subject::Shape(Shape::Cells)),
     ("calls", Subject::Shape(Shape::Calls)),
 ];
 
-const WAYS: [(&str, Way); 4] = [
+const WAYS: [(&str, Way); 5] = [
     ("step", Way::Step),
     ("run", Way::Run),
     ("raw", Way::Raw),
     ("trace", Way::Trace),
+    ("plain", Way::Plain),
 ];
 
 /// What is measured; None is all.
@@ -103,17 +107,16 @@ fn planned(rt: &HostRuntime) -> Result<Plan> {
 
 /// Measures a loop in each way of the plan.
 fn measure_loop(rt: &HostRuntime, plan: Plan, loop_name: &str, measured: Loop) -> Result<()> {
-    let words = match measured {
-        Loop::Arithmetic => loops::ARITHMETIC.as_slice(),
-        Loop::Memory => loops::MEMORY.as_slice(),
-    };
-    let Ok(image) = loops::image(rt.alloc(), words) else {
+    let Ok(image) = loops::image(rt.alloc(), measured.words()) else {
         return Err(anyhow!("the loop is no image"));
     };
     for (way_name, way) in WAYS {
         if plan.only_way.unwrap_or(way) == way {
+            let begin = Instant::now(rt)?;
             let told = way.drive(rt.alloc(), &image, plan.turns)?;
+            let time = begin.elapsed(rt)?.as_micros();
             println!(rt; "{loop_name} by {way_name}: {told}")?;
+            eprintln!(rt; "{loop_name} by {way_name}: {time} us")?;
         }
     }
     Ok(())

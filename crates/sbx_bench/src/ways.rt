@@ -1,5 +1,5 @@
 //! The ways to drive a board of eight windows, and what each tells.
-ghost use Rattle.std.specs.Prelude.{◌≡◌, [], IfOk, vec_len};
+ghost use Rattle.std.specs.Prelude.{◌≡◌, ℕ, [], IfOk, vec_len};
 ghost use Rattle.v8_board.specs.Seen.{State};
 ghost use Rattle.v8_board.specs.Runs.{IsRun, after};
 ghost use Rattle.sbx_raw.specs.Runs.{IsBegun, IsRaw};
@@ -15,6 +15,7 @@ use sbx_raw::{SlicePort, run_raw, trace};
 use std::alloc::Global;
 use std::fmt::{self, Formatter, Write};
 use v8_board::Board;
+use v8_plain::Plain;
 use v8_word::Reg;
 
 /// How the board is driven.
@@ -28,7 +29,12 @@ pub enum Way {
     Raw,
     /// A trace, whose text is counted and not kept.
     Trace,
+    /// The plain interpreter, from the board's RAM on, with which the others' speed is compared.
+    Plain,
 }
+
+/// The register that the loops count down, %g3.
+const COUNTER: u8 = 3;
 
 /// What a way tells when it is done.
 #[derive(Clone, Copy)]
@@ -44,20 +50,20 @@ pub enum Told {
 impl fmt::Display for Told {
     fn fmt<W: Write>(&self, f: &mut Formatter<W>) -> fmt::Result {
         match self {
-            Told::Register { turns, counter } => write!(f, "{turns} turns, %o2 {counter:08x}"),
+            Told::Register { turns, counter } => write!(f, "{turns} turns, %g3 {counter:08x}"),
             Told::Output { turns, bytes } => write!(f, "{turns} turns, {bytes} bytes put out"),
             Told::Text(Tally { bytes, lines }) => write!(f, "{lines} lines, {bytes} bytes"),
         }
     }
 }
 
-/// What the board counted, and %o2.
+/// What the board counted, and %g3.
 fn register(board: &Board<8, SlicePort<'_>>) -> Told
     ensures { result ≡ register_of board.now.state }
 {
     Told::Register {
         turns: board.outcome().turns,
-        counter: board.reg(Reg::new(10).unwrap()),
+        counter: board.reg(Reg::new(COUNTER).unwrap()),
     }
 }
 
@@ -104,6 +110,22 @@ fn text(alloc: Global, image: &Image, turns: u64) -> Result<Told>
     }
 }
 
+/// Runs the plain interpreter from a board's RAM on.
+fn plain(board: &Board<8, SlicePort<'_>>, alloc: Global, turns: u64) -> Result<Told>
+    ensures { IfOk result (λ told. (made counter : ℕ) × (told ≡ tells.Register made counter)) }
+{
+    let mut plain = Plain::new(alloc)?;
+    for k in 0..0x4_0000u64 {
+        if let Some(word) = board.entry(4 * k) {
+            plain.place(4 * k, word);
+        }
+    }
+    Ok(Told::Register {
+        turns: plain.run(turns),
+        counter: plain.register(u32::from(COUNTER)),
+    })
+}
+
 /// A new board without input, loaded with an image.
 fn loaded<'a>(alloc: Global, image: &Image) -> Result<Board<8, SlicePort<'a>>>
     ensures { IfOk result (λ board. IsBegun 8 image.now [] board.state) }
@@ -123,6 +145,7 @@ impl Way {
             Way::Run => run(loaded(alloc, image)?, turns),
             Way::Raw => raw(alloc, image, turns),
             Way::Trace => text(alloc, image, turns),
+            Way::Plain => plain(&loaded(alloc, image)?, alloc, turns),
         }
     }
 }

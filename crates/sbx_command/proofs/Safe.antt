@@ -7,7 +7,7 @@ use Rattle.sbx_image.proofs.AgainLaws.{reading_again}
 use Rattle.sbx_asm.specs.declared.fault.AsmFault.{AsmFault}
 use Rattle.sbx_asm.specs.Meaning.{source_image, judged, kept}
 use Rattle.sbx_asm.proofs.Fitting.{meant_images_fit}
-use Rattle.sbx_sound.proofs.Whole.{checked_is_safe}
+use Rattle.sbx_stream.proofs.Whole.{checked_is_safe}
 use Rattle.sbx_command.specs.Laws.{SourcesAreSafe}
 
 kept_keeps : (after : ℕ) (p parts : Parts) (verdict : Result (Unit {0}) ImageFault) → parts_keep p ≡ verdict → kept after p verdict ≡ Ok parts

@@ -23,7 +23,7 @@ source_stops File bytes refuses told source = absurd refuses
 source_stops Input bytes refuses told source = absurd refuses
 source_stops Output bytes refuses told source = absurd refuses
 source_stops (Memory want) bytes refuses told source = absurd refuses
-source_stops NoRoom bytes refuses told source = absurd refuses
+source_stops (NoRoom full) bytes refuses told source = absurd refuses
 
 -- the spelling of the image of the known bytes of a file
 pub assembled_on : (file old new : Option (List ℕ)) (parts : Parts) (object : List ℕ) → IfSome file (λ bytes. source_image bytes ≡ Ok parts)

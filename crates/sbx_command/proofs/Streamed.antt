@@ -1,6 +1,6 @@
 -- What a run over a reader and a writer gives, and what it leaves where it stops.
 use Rattle.std.proofs.Common.{◌≡◌, ℕ, suc, Bool, true, false, List, [], ◌∷◌, ◌++◌, Option, Some, None, IfSome, Result, Ok, Err, IfOk, IfErr, refl, sym, ◌∙◌, subst, append-nil, rules}
-use Rattle.std.specs.Io.KnownBytes.{Appends, Consumes, Keeps}
+use Rattle.std.specs.Io.KnownBytes.{Consumes, Keeps}
 use Rattle.std.proofs.KnownBytes.{Appends-nil, Consumes-nil}
 use Rattle.sbx_image.specs.declared.parts.Parts.{Parts}
 use Rattle.sbx_image.specs.Reading.{reading}
@@ -9,14 +9,14 @@ use Rattle.sbx_port.specs.Following.{beyond}
 use Rattle.sbx_port.specs.Streams.{Streamed}
 use Rattle.sbx_port.proofs.Tracked.{no_bytes}
 use Rattle.sbx_rules.specs.Verdicts.{Checked}
-use Rattle.sbx_run.specs.declared.runner.Finished.{Finished}
-use Rattle.sbx_run.specs.RunFault.{RunFault}
-use Rattle.sbx_run.specs.RunFault.TheVariants as runs
+use Rattle.sbx_stream.specs.Finished.{Finished}
+use Rattle.sbx_stream.specs.RunFault.{RunFault}
+use Rattle.sbx_stream.specs.RunFault.TheVariants as runs
 use Rattle.sbx_stream.specs.Streams.{IsAnswerWritten, IsFront, IsStreamed}
 use Rattle.sbx_command.specs.Laws.{KnownInputsAreAnswered}
 use Rattle.sbx_command.specs.declared.stops.Stop.{Stop}
 use Rattle.sbx_command.specs.declared.stops.Stop.TheVariants.{Source, Image, Refused, File, Input, Output, Memory, NoRoom}
-use Rattle.sbx_command.specs.Stops.{IsEarly, IsRefusal, IsTrueOf, stop_of_run}
+use Rattle.sbx_command.specs.Stops.{IsEarly, IsOfFile, IsTrueOf, stop_of_run}
 use Rattle.sbx_command.specs.Streaming.{HasFront, HasNothing, Leaves, LeavesOn, Left, OfAccepted, Ran, RanOn, RunGives, status_of_word}
 use Rattle.sbx_command.proofs.Verdicts.{appends_kept}
 
@@ -95,7 +95,7 @@ leaves_of file parts (Source fault) read met written accepted so = absurd so
 leaves_of file parts (Image fault) read met written accepted so = absurd so
 leaves_of file parts (Refused refusal) read met written accepted so = absurd so
 leaves_of file parts File read met written accepted so = absurd so
-leaves_of file parts NoRoom read met written accepted so = absurd so
+leaves_of file parts (NoRoom full) read met written accepted so = absurd so
 
 pub left_of : (file a b c d : Option (List ℕ)) (parts : Parts) (stop : Stop) → IfSome file (λ bytes. (reading bytes ≡ Ok parts) × Checked parts)
     → Streamed a b c d (LeavesOn parts stop) → Left file a b c d stop
@@ -112,13 +112,13 @@ own_is_true parts (Source fault) read met written so bytes = absurd so
 own_is_true parts (Image fault) read met written so bytes = absurd so
 own_is_true parts (Refused refusal) read met written so bytes = absurd so
 own_is_true parts File read met written so bytes = absurd so
-own_is_true parts NoRoom read met written so bytes = absurd so
+own_is_true parts (NoRoom full) read met written so bytes = absurd so
 
 pub own_stop : (file a b c d : Option (List ℕ)) (parts : Parts) (stop : Stop) → Streamed a b c d (LeavesOn parts stop) → IfSome file (IsTrueOf stop)
 own_stop None a b c d parts stop left = tt
 own_stop (Some bytes) a b c d parts stop (read, met, written, so, fit, got, all, put) = own_is_true parts stop read met written so bytes
 
-own_refuses_none : (parts : Parts) (stop : Stop) (read : List ℕ) (met : Bool) (written : List ℕ) → LeavesOn parts stop read met written → IsRefusal stop → ⊥
+own_refuses_none : (parts : Parts) (stop : Stop) (read : List ℕ) (met : Bool) (written : List ℕ) → LeavesOn parts stop read met written → IsOfFile stop → ⊥
 own_refuses_none parts Input read met written so refuses = refuses
 own_refuses_none parts Output read met written so refuses = refuses
 own_refuses_none parts (Memory want) read met written so refuses = refuses
@@ -126,9 +126,9 @@ own_refuses_none parts (Source fault) read met written so refuses = so
 own_refuses_none parts (Image fault) read met written so refuses = so
 own_refuses_none parts (Refused refusal) read met written so refuses = so
 own_refuses_none parts File read met written so refuses = so
-own_refuses_none parts NoRoom read met written so refuses = so
+own_refuses_none parts (NoRoom full) read met written so refuses = so
 
-pub own_untouched : (a b c d : Option (List ℕ)) (parts : Parts) (stop : Stop) → Streamed a b c d (LeavesOn parts stop) → IsRefusal stop → ⊥
+pub own_untouched : (a b c d : Option (List ℕ)) (parts : Parts) (stop : Stop) → Streamed a b c d (LeavesOn parts stop) → IsOfFile stop → ⊥
 own_untouched a b c d parts stop (read, met, written, so, fit, got, all, put) refuses = own_refuses_none parts stop read met written so refuses
 
 -- ---- before a run
@@ -140,7 +140,7 @@ early_leaves : (file : Option (List ℕ)) (stop : Stop) → IsEarly stop → Lea
 early_leaves file Input early = absurd early
 early_leaves file Output early = absurd early
 early_leaves file (Memory want) early = nothing
-early_leaves file NoRoom early = absurd early
+early_leaves file (NoRoom full) early = absurd early
 early_leaves file (Source fault) early = nothing
 early_leaves file (Image fault) early = nothing
 early_leaves file (Refused refusal) early = nothing

@@ -4,14 +4,19 @@ use Rattle.std.specs.Io.KnownBytes.{Appends, Keeps}
 use Rattle.sbx_image.specs.declared.fault.ImageFault.{ImageFault}
 use Rattle.sbx_image.specs.declared.parts.Parts.{Parts}
 use Rattle.sbx_image.specs.Reading.{reading}
+use Rattle.want.specs.Wants.{refused}
+use Rattle.sbx_rules.specs.declared.cause.Cause.TheVariants.{NoMemory}
+use Rattle.sbx_rules.specs.declared.cause.Refusal.{Refusal}
 use Rattle.sbx_rules.specs.Verdicts.{Checked, IsFirst}
+use Rattle.sbx_stream.specs.Refusals.{IsRefusal as IsRefused}
+use Rattle.sbx_stream.proofs.Refusals.{broken_rule}
 use Rattle.sbx_command.specs.declared.jobs.Job.{Job}
 use Rattle.sbx_command.specs.declared.jobs.Job.TheVariants.{Asm, Verify, Run, List as Listing, Trace}
 use Rattle.sbx_command.specs.declared.stops.Stop.{Stop}
 use Rattle.sbx_command.specs.declared.stops.Stop.TheVariants.{Source, Image, Refused, File, Input, Output, Memory, NoRoom}
 use Rattle.sbx_command.specs.Stops.{IsRefusal, IsTrueOf, IsTrueOfImage, status_of}
 use Rattle.sbx_command.proofs.Sources.{source_stops}
-use Rattle.sbx_command.specs.Verdicts.{Traced, WroteTrace, Deserves, IsAccepted, IsImage, IsTold, StopsFor}
+use Rattle.sbx_command.specs.Verdicts.{Deserves, IsAccepted, IsBefore, IsImage, IsTold, StopsFor}
 
 pub faulty_is_no_image : (bytes : List ℕ) (fault : ImageFault) → reading bytes ≡ Err fault → IsImage bytes → ⊥
 faulty_is_no_image bytes fault faulty image =
@@ -24,6 +29,10 @@ fault_is_not_checked parts other bytes refusal read least same checked =
     let equal : parts ≡ other = search rules in
     let kept : Checked parts = rw equal checked in
     kept refusal.function refusal.address refusal.cause least.told
+
+-- a refusal that isn't for want of memory names a broken rule
+pub broken : (parts : Parts) (refusal : Refusal) → IsRefused parts refusal → (refusal.cause ≡ NoMemory refused → ⊥) → IsFirst parts refusal
+broken parts refusal told other = broken_rule parts refusal told other
 
 -- what is accepted of known bytes
 pub accepted_of : (known : Option (List ℕ)) (image accepted : Parts) → IfSome known (λ bytes. reading bytes ≡ Ok image) → (accepted ≡ image) × Checked image
@@ -39,7 +48,7 @@ image_stop File bytes refuses told image = absurd refuses
 image_stop Input bytes refuses told image = absurd refuses
 image_stop Output bytes refuses told image = absurd refuses
 image_stop (Memory want) bytes refuses told image = absurd refuses
-image_stop NoRoom bytes refuses told image = absurd refuses
+image_stop (NoRoom full) bytes refuses told image = absurd refuses
 
 pub rule_stop : (stop : Stop) (bytes : List ℕ) → IsRefusal stop → IsTrueOf stop bytes → IsAccepted bytes → ⊥
 rule_stop (Source fault) bytes refuses told accepted = told
@@ -50,7 +59,7 @@ rule_stop File bytes refuses told accepted = absurd refuses
 rule_stop Input bytes refuses told accepted = absurd refuses
 rule_stop Output bytes refuses told accepted = absurd refuses
 rule_stop (Memory want) bytes refuses told accepted = absurd refuses
-rule_stop NoRoom bytes refuses told accepted = absurd refuses
+rule_stop (NoRoom full) bytes refuses told accepted = absurd refuses
 
 pub told_is_refused : (job : Job) (stop : Stop) (bytes : List ℕ) → IsRefusal stop → IsTold job stop bytes → Deserves job bytes → ⊥
 told_is_refused (Asm source object) stop bytes refuses told deserved = source_stops stop bytes refuses told deserved
@@ -71,22 +80,8 @@ appends_kept (Some x) None c bs p q = absurd p
 appends_kept (Some x) (Some y) None bs p q = absurd q
 appends_kept (Some x) (Some y) (Some z) bs p q = q ∙ p
 
--- a trace on as many windows as another number says
-pub trace_at : (n windows : ℕ) (parts : Parts) (input : List ℕ) (limit : ℕ) (old new : Option (List ℕ)) → windows ≡ n
-    → WroteTrace n parts input limit old new → WroteTrace windows parts input limit old new
-trace_at n windows parts input limit old new same wrote = subst (λ (w : ℕ). WroteTrace w parts input limit old new) (sym same) wrote
-
--- a trace of the known bytes of a file on the known bytes of an input
-pub traced_on : (windows limit : ℕ) (file input old new : Option (List ℕ)) (parts : Parts) (taken : List ℕ)
-    → IfSome file (λ bytes. reading bytes ≡ Ok parts) → IfSome input (λ all. taken ≡ all)
-    → WroteTrace windows parts taken limit old new → Traced windows limit file input old new
-traced_on windows limit None input old new parts taken read same wrote = tt
-traced_on windows limit (Some bytes) None old new parts taken read same wrote = tt
-traced_on windows limit (Some bytes) (Some all) old new parts taken read same wrote =
-    (parts, read, subst (λ (input : List ℕ). WroteTrace windows parts input limit old new) same wrote)
-
 -- a stop of a job, whose status is told
 pub stops_for : (job : Job) (known : Option (List ℕ)) (Untouched : Type 0) (LeftAt : Stop → Type 0) (stop : Stop) (status : ℕ) → status ≡ status_of stop
-    → IfSome known (IsTold job stop) → (IsRefusal stop → Untouched) → LeftAt stop → StopsFor job known Untouched LeftAt status
+    → IfSome known (IsTold job stop) → (IsBefore job stop → Untouched) → LeftAt stop → StopsFor job known Untouched LeftAt status
 stops_for job known Untouched LeftAt stop status is told untouched left =
-    (stop, is, told, (λ refuses. (known_is_refused known job stop refuses told, untouched refuses)), left)
+    (stop, is, told, (λ refuses. known_is_refused known job stop refuses told), untouched, left)

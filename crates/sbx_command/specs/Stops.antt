@@ -10,10 +10,11 @@ use Rattle.sbx_asm.specs.declared.fault.Cause.{Cause}
 use Rattle.sbx_asm.specs.declared.fault.Cause.TheVariants as causes
 use Rattle.sbx_asm.specs.declared.fault.AsmFault.{AsmFault}
 use Rattle.sbx_asm.specs.Meaning.{source_image}
-use Rattle.sbx_run.specs.RunFault.{RunFault}
-use Rattle.sbx_run.specs.RunFault.TheVariants as runs
+use Rattle.sbx_stream.specs.RunFault.{RunFault}
+use Rattle.sbx_stream.specs.RunFault.TheVariants as runs
 use Rattle.sbx_rules.specs.Verdicts.{IsFirst}
 use Rattle.sbx_image.specs.declared.parts.Parts.{Parts}
+use Rattle.sbx_command.specs.declared.stops.Full.{Full}
 use Rattle.sbx_command.specs.declared.stops.Stop.{Stop}
 use Rattle.sbx_command.specs.declared.stops.Stop.TheVariants.{Source, Image, Refused, File, Input, Output, Memory, NoRoom}
 
@@ -26,7 +27,7 @@ status_of File = 4
 status_of Input = 4
 status_of Output = 4
 status_of (Memory want) = 5
-status_of NoRoom = 5
+status_of (NoRoom full) = 5
 
 -- The bytes of the file are at fault. The other stops tell of the system or of memory.
 abbrev pub IsRefusal : Stop → Type 0
@@ -37,7 +38,7 @@ IsRefusal File = ⊥
 IsRefusal Input = ⊥
 IsRefusal Output = ⊥
 IsRefusal (Memory want) = ⊥
-IsRefusal NoRoom = ⊥
+IsRefusal (NoRoom full) = ⊥
 
 -- the stops up to the verdict, which is before any input or output
 abbrev pub IsEarly : Stop → Type 0
@@ -48,7 +49,33 @@ IsEarly File = Unit {0}
 IsEarly Input = ⊥
 IsEarly Output = ⊥
 IsEarly (Memory want) = Unit {0}
-IsEarly NoRoom = ⊥
+IsEarly (NoRoom full) = ⊥
+
+-- the file or its bytes are at fault: nothing else has been touched
+abbrev pub IsOfFile : Stop → Type 0
+IsOfFile (Source fault) = Unit {0}
+IsOfFile (Image fault) = Unit {0}
+IsOfFile (Refused refusal) = Unit {0}
+IsOfFile File = Unit {0}
+IsOfFile Input = ⊥
+IsOfFile Output = ⊥
+IsOfFile (Memory want) = ⊥
+IsOfFile (NoRoom full) = ⊥
+
+-- want of memory that a file or a stream told
+abbrev pub HasNoRoom : Stop → Type 0
+HasNoRoom stop = (full : Full) × (stop ≡ NoRoom full)
+
+-- the stops that only the output brings: it can't be written, or has no room
+abbrev pub IsOfOutput : Stop → Type 0
+IsOfOutput (Source fault) = ⊥
+IsOfOutput (Image fault) = ⊥
+IsOfOutput (Refused refusal) = ⊥
+IsOfOutput File = ⊥
+IsOfOutput Input = ⊥
+IsOfOutput Output = Unit {0}
+IsOfOutput (Memory want) = ⊥
+IsOfOutput (NoRoom full) = Unit {0}
 
 -- the line on standard error
 abbrev pub line_of : Stop → List ℕ
@@ -59,7 +86,7 @@ line_of File = codes "file"
 line_of Input = codes "input"
 line_of Output = codes "output"
 line_of (Memory want) = codes "memory"
-line_of NoRoom = codes "memory"
+line_of (NoRoom full) = codes "memory"
 
 -- want of memory is told as such, whichever part met it
 abbrev pub stop_of_image : ImageFault → Stop
@@ -84,7 +111,7 @@ stop_of_run (runs.Memory want) = Memory want
 stop_of_run runs.Reader = Input
 stop_of_run runs.Writer = Output
 
--- what is told of a source holds of the bytes of the file
+-- What is told of a source holds of the bytes of the file. Only the writer of an object may have no room.
 abbrev pub IsTrueOfSource : Stop → List ℕ → Type 0
 IsTrueOfSource (Source fault) bytes = source_image bytes ≡ Err fault
 IsTrueOfSource (Image fault) bytes = ⊥
@@ -93,7 +120,7 @@ IsTrueOfSource File bytes = Unit {0}
 IsTrueOfSource Input bytes = Unit {0}
 IsTrueOfSource Output bytes = Unit {0}
 IsTrueOfSource (Memory want) bytes = Unit {0}
-IsTrueOfSource NoRoom bytes = Unit {0}
+IsTrueOfSource (NoRoom full) bytes = Unit {0}
 
 -- what is told of an image and of the rules holds of the bytes of the file
 abbrev pub IsTrueOf : Stop → List ℕ → Type 0
@@ -104,7 +131,7 @@ IsTrueOf File bytes = Unit {0}
 IsTrueOf Input bytes = Unit {0}
 IsTrueOf Output bytes = Unit {0}
 IsTrueOf (Memory want) bytes = Unit {0}
-IsTrueOf NoRoom bytes = Unit {0}
+IsTrueOf (NoRoom full) bytes = ⊥
 
 -- the same where no rule is looked at
 abbrev pub IsTrueOfImage : Stop → List ℕ → Type 0
@@ -115,4 +142,4 @@ IsTrueOfImage File bytes = Unit {0}
 IsTrueOfImage Input bytes = Unit {0}
 IsTrueOfImage Output bytes = Unit {0}
 IsTrueOfImage (Memory want) bytes = Unit {0}
-IsTrueOfImage NoRoom bytes = Unit {0}
+IsTrueOfImage (NoRoom full) bytes = ⊥

@@ -8,8 +8,8 @@ use Rattle.sbx_flat.specs.declared.path.Place.{Place}
 use Rattle.sbx_port.specs.Following.{beyond}
 use Rattle.sbx_port.specs.Streams.{Streamed}
 use Rattle.sbx_rules.specs.Verdicts.{Checked}
-use Rattle.sbx_run.specs.declared.runner.Finished.{Finished}
-use Rattle.sbx_run.specs.RunFault.{RunFault}
+use Rattle.sbx_stream.specs.Finished.{Finished}
+use Rattle.sbx_stream.specs.RunFault.{RunFault}
 use Rattle.sbx_stream.specs.Streams.{IsAnswerWritten, IsFront, IsStreamed}
 use Rattle.sbx_command.specs.declared.stops.Stop.{Stop}
 use Rattle.sbx_command.specs.declared.stops.Stop.TheVariants.{Source, Image, Refused, File, Input, Output, Memory, NoRoom}
@@ -70,7 +70,7 @@ LeavesOn parts (Source fault) read met written = ⊥
 LeavesOn parts (Image fault) read met written = ⊥
 LeavesOn parts (Refused refusal) read met written = ⊥
 LeavesOn parts File read met written = ⊥
-LeavesOn parts NoRoom read met written = ⊥
+LeavesOn parts (NoRoom full) read met written = ⊥
 
 -- the image that the bytes of the file spell is accepted, and it is so of that image
 abbrev pub OfAccepted : (Parts → Type 0) → Option (List ℕ) → Type 0
@@ -86,7 +86,7 @@ Leaves file (Source fault) read met written = HasNothing read met written
 Leaves file (Image fault) read met written = HasNothing read met written
 Leaves file (Refused refusal) read met written = HasNothing read met written
 Leaves file File read met written = HasNothing read met written
-Leaves file NoRoom read met written = ⊥
+Leaves file (NoRoom full) read met written = ⊥
 
 -- of what was read of the input, and written to the output
 abbrev pub Left : Option (List ℕ) → Option (List ℕ) → Option (List ℕ) → Option (List ℕ) → Option (List ℕ) → Stop → Type 0

@@ -1,8 +1,9 @@
 -- What an exit status says of the bytes of the file that a job reads.
-use Rattle.std.specs.Prelude.{◌≡◌, ℕ, List, Ok, Option, IfSome}
+use Rattle.std.specs.Prelude.{◌≡◌, ◌⊎◌, ℕ, List, [], Result, Ok, Err, Option, IfSome, codes}
 use Rattle.std.specs.Io.KnownBytes.{Appends}
-use Rattle.sbx_run.specs.Outcome.{Outcome}
-use Rattle.sbx_run.specs.Traces.{IsTrace, Wrote}
+use Rattle.sbx_stream.specs.Outcome.{Outcome}
+use Rattle.sbx_stream.specs.RunFault.{RunFault}
+use Rattle.sbx_stream.specs.Traces.{BeginsTrace, IsTrace, Leaves, Wrote}
 use Rattle.sbx_image.specs.declared.parts.Parts.{Parts}
 use Rattle.sbx_image.specs.Reading.{reading}
 use Rattle.sbx_image.specs.Spelling.{IsTyped, spelling}
@@ -12,8 +13,11 @@ use Rattle.sbx_rules.specs.Verdicts.{Checked}
 use Rattle.sbx_command.specs.declared.jobs.Job.{Job}
 use Rattle.sbx_command.specs.declared.jobs.Job.TheVariants.{Asm, Verify, Run, List as Listing, Trace}
 use Rattle.sbx_command.specs.declared.stops.Stop.{Stop}
+use Rattle.sbx_command.specs.declared.stops.Stop.TheVariants.{Source, Image, Refused, File, Input, Output, Memory, NoRoom}
+use Rattle.v8_map.specs.declared.TheConstants.{CODE_START}
+use Rattle.sbx_command.specs.Listing.{listing}
 use Rattle.sbx_command.specs.Streaming.{Left, Ran}
-use Rattle.sbx_command.specs.Stops.{IsRefusal, IsTrueOf, IsTrueOfImage, IsTrueOfSource, status_of}
+use Rattle.sbx_command.specs.Stops.{IsOfFile, IsOfOutput, IsRefusal, IsTrueOf, IsTrueOfImage, IsTrueOfSource, status_of}
 
 -- the bytes spell an image
 abbrev pub IsImage : List ℕ → Type 0
@@ -60,6 +64,32 @@ abbrev pub WroteTrace : ℕ → Parts → List ℕ → ℕ → Option (List ℕ)
 WroteTrace windows parts input limit old new =
     (outcome : Outcome) × Wrote old new (λ text. IsTrace windows parts input limit text outcome)
 
+-- What a trace gives on so many windows: all of it, or at a fault its first bytes.
+abbrev pub TraceGives : ℕ → Parts → List ℕ → ℕ → Option (List ℕ) → Option (List ℕ) → Result Outcome RunFault → Type 0
+TraceGives windows parts input limit old new (Ok outcome) = Wrote old new (λ text. IsTrace windows parts input limit text outcome)
+TraceGives windows parts input limit old new (Err fault) = Wrote old new (Leaves windows parts input limit fault)
+
+-- these are the first bytes of the trace of the image of the bytes
+abbrev pub BeginsTraceOf : ℕ → ℕ → List ℕ → List ℕ → List ℕ → Type 0
+BeginsTraceOf windows limit bytes input written = (parts : Parts) × (reading bytes ≡ Ok parts) × BeginsTrace windows parts input limit written
+
+-- What a stop of a trace leaves. Before the run nothing was put out; the input is told of an image alone; in the run the first bytes of the
+-- trace were put out.
+abbrev pub TraceLeaves : ℕ → ℕ → List ℕ → List ℕ → Stop → List ℕ → Type 0
+TraceLeaves windows limit bytes input Input written = IsImage bytes × (written ≡ [])
+TraceLeaves windows limit bytes input Output written = BeginsTraceOf windows limit bytes input written
+TraceLeaves windows limit bytes input (Memory want) written = (written ≡ []) ⊎ BeginsTraceOf windows limit bytes input written
+TraceLeaves windows limit bytes input (Source fault) written = written ≡ []
+TraceLeaves windows limit bytes input (Image fault) written = written ≡ []
+TraceLeaves windows limit bytes input (Refused refusal) written = written ≡ []
+TraceLeaves windows limit bytes input File written = written ≡ []
+TraceLeaves windows limit bytes input (NoRoom full) written = ⊥
+
+-- the same where the bytes of the file and of the input are known
+abbrev pub TraceLeft : ℕ → ℕ → Option (List ℕ) → Option (List ℕ) → Option (List ℕ) → Option (List ℕ) → Stop → Type 0
+TraceLeft windows limit file input old new stop =
+    IfSome file (λ bytes. IfSome input (λ all. Wrote old new (TraceLeaves windows limit bytes all stop)))
+
 -- It is the trace of the image of the bytes.
 abbrev pub TracedOn : ℕ → ℕ → List ℕ → List ℕ → Option (List ℕ) → Option (List ℕ) → Type 0
 TracedOn windows limit bytes input old new =
@@ -69,12 +99,16 @@ TracedOn windows limit bytes input old new =
 abbrev pub Traced : ℕ → ℕ → Option (List ℕ) → Option (List ℕ) → Option (List ℕ) → Option (List ℕ) → Type 0
 Traced windows limit file input old new = IfSome file (λ bytes. IfSome input (λ all. TracedOn windows limit bytes all old new))
 
+-- The output grew by the listing of the image that the bytes of the file spell, where they are known.
+abbrev pub Listed : Option (List ℕ) → Option (List ℕ) → Option (List ℕ) → Type 0
+Listed file old new = IfSome file (λ bytes. (parts : Parts) × (reading bytes ≡ Ok parts) × Appends old new (listing CODE_START parts.words))
+
 -- what a job that is done has read and put out
 abbrev pub Gave : Job → Option (List ℕ) → Option (List ℕ) → Option (List ℕ) → Option (List ℕ) → Option (List ℕ) → ℕ → Type 0
 Gave (Asm source object) file input input_now old new status = Assembled file old new × (status ≡ 0)
-Gave (Verify image) file input input_now old new status = Unit {0}
+Gave (Verify image) file input input_now old new status = Appends old new (codes "accepted\n") × (status ≡ 0)
 Gave (Run image windows) file input input_now old new status = Ran windows file input input_now old new status
-Gave (Listing image) file input input_now old new status = Unit {0}
+Gave (Listing image) file input input_now old new status = Listed file old new × (status ≡ 0)
 Gave (Trace image windows limit) file input input_now old new status = Traced windows limit file input old new × (status ≡ 0)
 
 -- what a stop of a job leaves
@@ -83,11 +117,20 @@ LeftBy (Asm source object) file input input_now old new stop = Unit {0}
 LeftBy (Verify image) file input input_now old new stop = Unit {0}
 LeftBy (Run image windows) file input input_now old new stop = Left file input input_now old new stop
 LeftBy (Listing image) file input input_now old new stop = Unit {0}
-LeftBy (Trace image windows limit) file input input_now old new stop = Unit {0}
+LeftBy (Trace image windows limit) file input input_now old new stop = TraceLeft windows limit file input old new stop
+
+-- The stops of a job that come before it takes any input or puts anything out. A run and a trace take both while they go on; the other
+-- jobs take no input, and put out what is whole.
+abbrev pub IsBefore : Job → Stop → Type 0
+IsBefore (Asm source object) stop = IsOfOutput stop → ⊥
+IsBefore (Verify image) stop = IsOfOutput stop → ⊥
+IsBefore (Run image windows) stop = IsOfFile stop
+IsBefore (Listing image) stop = IsOfOutput stop → ⊥
+IsBefore (Trace image windows limit) stop = IsOfFile stop
 
 -- A status is that of a stop, which tells what is so of the bytes of the file, and leaves what such a stop leaves. Where it refuses the
--- bytes, they don't deserve the job, and what a refusal leaves as it was is as it was.
+-- bytes, they don't deserve the job; what a stop before all input and output leaves as it was is as it was.
 abbrev pub StopsFor : Job → Option (List ℕ) → Type 0 → (Stop → Type 0) → ℕ → Type 0
 StopsFor job file Untouched LeftAt status =
     (stop : Stop) × (status ≡ status_of stop) × IfSome file (IsTold job stop)
-    × (IsRefusal stop → IfSome file (λ bytes. Deserves job bytes → ⊥) × Untouched) × LeftAt stop
+    × (IsRefusal stop → IfSome file (λ bytes. Deserves job bytes → ⊥)) × (IsBefore job stop → Untouched) × LeftAt stop

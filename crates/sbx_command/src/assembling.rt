@@ -4,7 +4,7 @@ ghost use Rattle.std.specs.Io.KnownBytes.{Appends};
 ghost use Rattle.sbx_image.specs.Spelling.{spelling};
 ghost use Rattle.sbx_asm.specs.Meaning.{source_image};
 ghost use Rattle.sbx_flat.specs.Runs.{AreBytes};
-ghost use Rattle.sbx_command.specs.Stops.{IsRefusal, IsTrueOfSource};
+ghost use Rattle.sbx_command.specs.Stops.{HasNoRoom, IsOfOutput, IsTrueOfSource};
 ghost use Rattle.sbx_command.specs.Verdicts.{IsSource, Assembled, FitsItsFields};
 
 use crate::reading::{MOST, ReadFault, read_whole};
@@ -12,7 +12,7 @@ use crate::stops::Stop;
 use sbx_asm::assemble;
 use sbx_image::{Image, write};
 use std::alloc::Global;
-use std::io::{ErrorKind, Read, Write};
+use std::io::{Read, Write};
 use want::Want;
 
 /// Tells that bytes are bytes.
@@ -47,12 +47,11 @@ fn source_in<F: Read>(alloc: Global, file: &mut F) -> Result<Image, Stop>
 #[tactic(auto, using(crate::proofs::Verdicts::appends_kept))]
 fn store<O: Write>(out: &mut O, bytes: &[u8]) -> Result<(), Stop>
     ensures bytes { OnOk result (Appends (O.contents out.old) (O.contents out.new) bytes.now) }
-    ensures stop { IfErr result (λ stop. (stop ≡ Stop.Output) ⊎ (stop ≡ Stop.NoRoom)) }
+    ensures stop { IfErr result (λ stop. (stop ≡ Stop.Output) ⊎ HasNoRoom stop) }
 {
     match out.write_all(bytes) {
         Ok(()) => {}
-        Err(error) if error.kind() == ErrorKind::OutOfMemory => return Err(Stop::NoRoom),
-        Err(_) => return Err(Stop::Output),
+        Err(error) => return Err(Stop::of(&error, Stop::Output)),
     }
     match out.flush() {
         Ok(()) => Ok(()),
@@ -70,7 +69,7 @@ pub fn assemble_file<F: Read, O: Write>(
     ensures source { OnOk result (IfSome (F.remaining file.old) IsSource) }
     ensures assembled { OnOk result (Assembled (F.remaining file.old) (O.contents out.old) (O.contents out.new)) }
     ensures stop { IfErr result (λ stop. IfSome (F.remaining file.old) (IsTrueOfSource stop)) }
-    ensures untouched { IfErr result (λ stop. IsRefusal stop → out.new ≡ out.old) }
+    ensures untouched { IfErr result (λ stop. (IsOfOutput stop → ⊥) → out.new ≡ out.old) }
 {
     let image = source_in(alloc, file)?;
     tells_fields(&image);

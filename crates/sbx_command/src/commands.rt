@@ -1,7 +1,6 @@
 //! A command from its job to its exit status.
 ghost use Rattle.std.specs.Prelude.{◌≡◌, ◌<◌, ◌≤◌, IfErr, IfOk, IfSome};
-ghost use Rattle.sbx_command.specs.Stops.{IsRefusal};
-ghost use Rattle.sbx_command.specs.Verdicts.{Deserves, Gave, IsTold, LeftBy, StopsFor};
+ghost use Rattle.sbx_command.specs.Verdicts.{Deserves, Gave, IsBefore, IsTold, LeftBy, StopsFor};
 
 use crate::assembling::assemble_file;
 use crate::jobs::Job;
@@ -26,7 +25,7 @@ fn perform<F: Read, I: Read, O: Write>(
     ensures ran { IfOk result (Gave job.now (F.remaining file.old) (I.remaining input.old) (I.remaining input.new)
         (O.contents out.old) (O.contents out.new)) }
     ensures stop { IfErr result (λ stop. IfSome (F.remaining file.old) (IsTold job.now stop)) }
-    ensures untouched { IfErr result (λ stop. IsRefusal stop
+    ensures untouched { IfErr result (λ stop. IsBefore job.now stop
         → (input.new ≡ input.old) × (out.new ≡ out.old)) }
     ensures left { IfErr result (LeftBy job.now (F.remaining file.old) (I.remaining input.old) (I.remaining input.new)
         (O.contents out.old) (O.contents out.new)) }

@@ -17,6 +17,7 @@ mod verifying;
 
 pub use commands::command;
 pub use counts::Windows;
+pub use images::image_in;
 pub use jobs::{Job, MOST_TURNS, decimal, turns, window_count};
 pub use reading::{ReadFault, read_whole};
-pub use stops::Stop;
+pub use stops::{Full, Stop};

@@ -7,7 +7,7 @@ use std::alloc::Global;
 use std::io::Read;
 use want::Want;
 
-/// The most bytes that a file, or the input of a trace, may have.
+/// The most bytes that a source, or the input of a trace, may have.
 pub const MOST: usize = 16_777_216;
 
 /// Why the bytes of a reader aren't there.

@@ -1,7 +1,7 @@
 //! The command `run`.
 ghost use Rattle.std.specs.Prelude.{◌≡◌, ◌<◌, IfErr, IfOk, IfSome};
 ghost use Rattle.sbx_port.specs.Streams.{Streamed};
-ghost use Rattle.sbx_command.specs.Stops.{IsRefusal, IsTrueOf};
+ghost use Rattle.sbx_command.specs.Stops.{IsOfFile, IsTrueOf};
 ghost use Rattle.sbx_command.specs.Streaming.{LeavesOn, Left, Ran, RanOn, status_of_word};
 ghost use Rattle.sbx_command.specs.Verdicts.{IsAccepted};
 
@@ -9,7 +9,7 @@ use crate::counts::Windows;
 use crate::stops::Stop;
 use crate::streaming::stream_windows;
 use crate::verifying::accepted_in;
-use sbx_verify::Accepted;
+use sbx_stream::Accepted;
 use std::alloc::Global;
 use std::io::{Read, Write};
 
@@ -55,7 +55,7 @@ pub fn run_file<F: Read, I: Read, O: Write>(
     ensures ran { IfOk result (Ran windows (F.remaining file.old) (I.remaining input.old) (I.remaining input.new)
         (O.contents out.old) (O.contents out.new)) }
     ensures stop { IfErr result (λ stop. IfSome (F.remaining file.old) (IsTrueOf stop)) }
-    ensures untouched { IfErr result (λ stop. IsRefusal stop
+    ensures untouched { IfErr result (λ stop. IsOfFile stop
         → (input.new ≡ input.old) × (out.new ≡ out.old)) }
     ensures left { IfErr result (Left (F.remaining file.old) (I.remaining input.old) (I.remaining input.new)
         (O.contents out.old) (O.contents out.new)) }

@@ -1,13 +1,13 @@
 //! Why a command stops, its line on standard error and its exit status.
-ghost use Rattle.std.specs.Prelude.{◌≡◌, Some};
-ghost use Rattle.sbx_command.specs.Stops.{line_of, status_of, stop_of_image, stop_of_run, stop_of_source};
+ghost use Rattle.std.specs.Prelude.{◌≡◌, ◌≢◌, ◌↔◌, IsSome, Some};
+ghost use Rattle.std.specs.IoError.{error_kind};
+ghost use Rattle.sbx_command.specs.Stops.{HasNoRoom, line_of, status_of, stop_of_image, stop_of_run, stop_of_source};
 
 use sbx_asm::{AsmFault, Cause};
 use sbx_image::ImageFault;
-use sbx_run::RunFault;
-use sbx_verify::Refusal;
+use sbx_stream::{Refusal, RunFault};
 use std::fmt::{self, Display, Formatter, Write};
-use std::io;
+use std::io::{self, ErrorKind};
 use want::Want;
 
 /// Why a command stops before its job is done. Its text is its line on standard error.
@@ -27,11 +27,39 @@ pub enum Stop {
     Output,
     /// Memory was refused.
     Memory(Want),
-    /// There was no room for a file or a stream, as its fault of the kind `OutOfMemory` tells, which holds no evidence of that.
-    NoRoom,
+    /// There was no room for a file or a stream.
+    NoRoom(Full),
+}
+
+/// The evidence that there was no room for a file or a stream. It is made of an error of the kind `OutOfMemory`, and of nothing else.
+#[derive(Clone, Copy, Debug, PartialEq, Eq)]
+pub struct Full(());
+
+impl Full {
+    /// The evidence that an error of a file or a stream holds, where it is of that kind.
+    pub fn of(error: &io::Error) -> Option<Full>
+        ensures { IsSome result ↔ (error_kind error.now ≡ ErrorKind.OutOfMemory) }
+    {
+        if error.kind() == ErrorKind::OutOfMemory {
+            Some(Full(()))
+        } else {
+            None
+        }
+    }
 }
 
 impl Stop {
+    /// What an error of a file or a stream stops with: want of memory where it is of the kind `OutOfMemory`, else the stop that is given.
+    pub fn of(error: &io::Error, other: Stop) -> Stop
+        ensures no_room { error_kind error.now ≡ ErrorKind.OutOfMemory → HasNoRoom result }
+        ensures other { error_kind error.now ≢ ErrorKind.OutOfMemory → result ≡ other }
+    {
+        match Full::of(error) {
+            Some(full) => Stop::NoRoom(full),
+            None => other,
+        }
+    }
+
     /// The exit status: 2 where the bytes of the file are at fault, 4 where a file, an input or an output is, 5 for
     /// memory.
     pub fn status(self) -> u8
@@ -40,7 +68,7 @@ impl Stop {
         match self {
             Stop::Source(_) | Stop::Image(_) | Stop::Refused(_) => 2,
             Stop::File | Stop::Input | Stop::Output => 4,
-            Stop::Memory(_) | Stop::NoRoom => 5,
+            Stop::Memory(_) | Stop::NoRoom(_) => 5,
         }
     }
 
@@ -64,7 +92,7 @@ impl Display for Stop {
             Stop::File => f.write_str("file"),
             Stop::Input => f.write_str("input"),
             Stop::Output => f.write_str("output"),
-            Stop::Memory(_) | Stop::NoRoom => f.write_str("memory"),
+            Stop::Memory(_) | Stop::NoRoom(_) => f.write_str("memory"),
         }
     }
 }

@@ -3,9 +3,7 @@ ghost use Rattle.std.specs.Prelude.{◌≡◌, ◌≤◌};
 ghost use Rattle.sbx_command.specs.Streaming.{RunGives};
 
 use crate::counts::Windows;
-use sbx_run::{Finished, RunFault};
-use sbx_stream::run_stream;
-use sbx_verify::Accepted;
+use sbx_stream::{Accepted, Finished, RunFault, run_stream};
 use std::alloc::Global;
 use std::io::{Read, Write};
 

@@ -1,21 +1,22 @@
 //! The command `trace`.
-ghost use Rattle.std.specs.Prelude.{◌≡◌, ◌≤◌, IfErr, IfOk, IfSome, OnOk};
-ghost use Rattle.sbx_command.specs.Stops.{IsRefusal, IsTrueOfImage};
-ghost use Rattle.sbx_command.specs.Verdicts.{IsImage, Traced, WroteTrace};
+ghost use Rattle.std.specs.Prelude.{◌≡◌, ◌≤◌, ◌⊎◌, IfErr, IfOk, IfSome, OnOk};
+ghost use Rattle.sbx_command.specs.Stops.{IsOfFile, IsTrueOfImage};
+ghost use Rattle.sbx_command.specs.Verdicts.{IsImage, TraceGives, TraceLeft, Traced};
+ghost use Rattle.want.specs.Wants.{refused};
 
 use crate::counts::Windows;
 use crate::images::image_in;
 use crate::reading::{MOST, ReadFault, read_whole};
 use crate::stops::Stop;
 use sbx_image::Image;
-use sbx_run::{RunFault, trace};
+use sbx_stream::{Outcome, RunFault, trace};
 use std::alloc::Global;
 use std::io::{Read, Write};
 
 /// All of standard input.
 fn input_of<I: Read>(alloc: Global, input: &mut I) -> Result<Vec<u8>, Stop>
     ensures whole { IfOk result (λ bytes. IfSome (I.remaining input.old) (λ all. bytes.items ≡ all)) }
-    ensures stop { IfErr result (λ stop. IsRefusal stop → ⊥) }
+    ensures stop { IfErr result (λ stop. (stop ≡ Stop.Memory refused) ⊎ (stop ≡ Stop.Input)) }
 {
     match read_whole(alloc, input, MOST) {
         Ok(bytes) => Ok(bytes),
@@ -25,7 +26,7 @@ fn input_of<I: Read>(alloc: Global, input: &mut I) -> Result<Vec<u8>, Stop>
 }
 
 /// Writes the trace on `N` windows, which are as many as the number says.
-#[tactic(auto, using(crate::proofs::Verdicts::trace_at))]
+#[tactic(auto, using(crate::proofs::Traces::trace_at))]
 fn trace_on<const N: usize, O: Write>(
     alloc: Global,
     windows: u32,
@@ -33,16 +34,13 @@ fn trace_on<const N: usize, O: Write>(
     input: &[u8],
     limit: u64,
     out: &mut O,
-) -> Result<(), RunFault>
+) -> Result<Outcome, RunFault>
     requires range { (4 ≤ N) × (N ≤ 32) }
     requires same { windows ≡ N }
-    ensures { OnOk result (WroteTrace windows image.now input.now limit (O.contents out.old) (O.contents out.new)) }
+    ensures { TraceGives windows image.now input.now limit (O.contents out.old) (O.contents out.new) result }
 {
     let _ = windows;
-    match trace::<N, O>(alloc, image, input, limit, out) {
-        Ok(_outcome) => Ok(()),
-        Err(fault) => Err(fault),
-    }
+    trace::<N, O>(alloc, image, input, limit, out)
 }
 
 /// The trace on as many windows as there are, of these numbers, which rise from the least that it can be to the greatest.
@@ -65,9 +63,9 @@ fn trace_to_10<O: Write>(
     input: &[u8],
     limit: u64,
     out: &mut O,
-) -> Result<(), RunFault>
+) -> Result<Outcome, RunFault>
     requires { (4 ≤ windows) × (windows ≤ 10) }
-    ensures { OnOk result (WroteTrace windows image.now input.now limit (O.contents out.old) (O.contents out.new)) }
+    ensures { TraceGives windows image.now input.now limit (O.contents out.old) (O.contents out.new) result }
 {
     traced_on!(windows, alloc, image, input, limit, out: 4 5 6 7 8 9 or 10)
 }
@@ -80,9 +78,9 @@ fn trace_to_17<O: Write>(
     input: &[u8],
     limit: u64,
     out: &mut O,
-) -> Result<(), RunFault>
+) -> Result<Outcome, RunFault>
     requires { (11 ≤ windows) × (windows ≤ 17) }
-    ensures { OnOk result (WroteTrace windows image.now input.now limit (O.contents out.old) (O.contents out.new)) }
+    ensures { TraceGives windows image.now input.now limit (O.contents out.old) (O.contents out.new) result }
 {
     traced_on!(windows, alloc, image, input, limit, out: 11 12 13 14 15 16 or 17)
 }
@@ -95,9 +93,9 @@ fn trace_to_24<O: Write>(
     input: &[u8],
     limit: u64,
     out: &mut O,
-) -> Result<(), RunFault>
+) -> Result<Outcome, RunFault>
     requires { (18 ≤ windows) × (windows ≤ 24) }
-    ensures { OnOk result (WroteTrace windows image.now input.now limit (O.contents out.old) (O.contents out.new)) }
+    ensures { TraceGives windows image.now input.now limit (O.contents out.old) (O.contents out.new) result }
 {
     traced_on!(windows, alloc, image, input, limit, out: 18 19 20 21 22 23 or 24)
 }
@@ -110,9 +108,9 @@ fn trace_to_32<O: Write>(
     input: &[u8],
     limit: u64,
     out: &mut O,
-) -> Result<(), RunFault>
+) -> Result<Outcome, RunFault>
     requires { (25 ≤ windows) × (windows ≤ 32) }
-    ensures { OnOk result (WroteTrace windows image.now input.now limit (O.contents out.old) (O.contents out.new)) }
+    ensures { TraceGives windows image.now input.now limit (O.contents out.old) (O.contents out.new) result }
 {
     traced_on!(windows, alloc, image, input, limit, out: 25 26 27 28 29 30 31 or 32)
 }
@@ -126,8 +124,8 @@ fn trace_windows<O: Write>(
     input: &[u8],
     limit: u64,
     out: &mut O,
-) -> Result<(), RunFault>
-    ensures { OnOk result (WroteTrace windows image.now input.now limit (O.contents out.old) (O.contents out.new)) }
+) -> Result<Outcome, RunFault>
+    ensures { TraceGives windows image.now input.now limit (O.contents out.old) (O.contents out.new) result }
 {
     let count = windows.count();
     if count <= 10 {
@@ -143,7 +141,7 @@ fn trace_windows<O: Write>(
 
 /// Writes the trace of the image of a file on the input, on so many windows, up to so many turns. The input is read whole before
 /// the run.
-#[tactic(auto, using(crate::proofs::Verdicts::traced_on))]
+#[tactic(auto, using(crate::proofs::Traces::traced_on, crate::proofs::Traces::left_before, crate::proofs::Traces::left_by_input, crate::proofs::Traces::left_in_run))]
 pub fn trace_file<F: Read, I: Read, O: Write>(
     alloc: Global,
     windows: Windows,
@@ -156,11 +154,15 @@ pub fn trace_file<F: Read, I: Read, O: Write>(
     ensures traced { OnOk result (Traced windows limit (F.remaining file.old) (I.remaining input.old)
         (O.contents out.old) (O.contents out.new)) }
     ensures stop { IfErr result (λ stop. IfSome (F.remaining file.old) (IsTrueOfImage stop)) }
-    ensures untouched { IfErr result (λ stop. IsRefusal stop
+    ensures untouched { IfErr result (λ stop. IsOfFile stop
         → (input.new ≡ input.old) × (out.new ≡ out.old)) }
+    ensures left { IfErr result (TraceLeft windows limit (F.remaining file.old) (I.remaining input.old)
+        (O.contents out.old) (O.contents out.new)) }
 {
     let image = image_in(alloc, file)?;
     let bytes = input_of(alloc, input)?;
-    trace_windows(alloc, windows, &image, bytes.as_slice(), limit, out)?;
-    Ok(())
+    match trace_windows(alloc, windows, &image, bytes.as_slice(), limit, out) {
+        Ok(_outcome) => Ok(()),
+        Err(fault) => Err(Stop::from(fault)),
+    }
 }

@@ -1,19 +1,19 @@
 //! The command `verify`.
-ghost use Rattle.std.specs.Prelude.{◌≡◌, IfErr, IfOk, IfSome, Ok, OnOk};
+ghost use Rattle.std.specs.Prelude.{◌≡◌, IfErr, IfOk, IfSome, Ok, OnOk, codes};
 ghost use Rattle.std.specs.Io.KnownBytes.{Appends};
 ghost use Rattle.sbx_image.specs.Reading.{reading};
 ghost use Rattle.sbx_rules.specs.Verdicts.{Checked};
-ghost use Rattle.sbx_command.specs.Stops.{IsEarly, IsRefusal, IsTrueOf};
+ghost use Rattle.sbx_command.specs.Stops.{IsEarly, IsOfOutput, IsTrueOf};
 ghost use Rattle.sbx_command.specs.Verdicts.{IsAccepted};
 
 use crate::images::image_in;
 use crate::stops::Stop;
-use sbx_verify::{Accepted, Cause, verify};
+use sbx_stream::{Accepted, Cause, verify};
 use std::alloc::Global;
 use std::io::{Read, Write};
 
 /// The image of a file, where it breaks no rule.
-#[tactic(auto, using(sbx_verify::proofs::Refusals::broken_rule))]
+#[tactic(auto, using(crate::proofs::Verdicts::broken))]
 pub fn accepted_in<F: Read>(alloc: Global, file: &mut F) -> Result<Accepted, Stop>
     ensures accepted { IfOk result (λ accepted. IfSome (F.remaining file.old)
         (λ bytes. (reading bytes ≡ Ok accepted) × Checked accepted)) }
@@ -49,7 +49,8 @@ pub fn write_through<O: Write>(out: &mut O, bytes: &[u8]) -> Result<(), Stop>
 pub fn verify_file<F: Read, O: Write>(alloc: Global, file: &mut F, out: &mut O) -> Result<(), Stop>
     ensures accepted { OnOk result (IfSome (F.remaining file.old) IsAccepted) }
     ensures stop { IfErr result (λ stop. IfSome (F.remaining file.old) (IsTrueOf stop)) }
-    ensures untouched { IfErr result (λ stop. IsRefusal stop → out.new ≡ out.old) }
+    ensures line { OnOk result (Appends (O.contents out.old) (O.contents out.new) (codes "accepted\n")) }
+    ensures untouched { IfErr result (λ stop. (IsOfOutput stop → ⊥) → out.new ≡ out.old) }
 {
     let _accepted = accepted_in(alloc, file)?;
     write_through(out, b"accepted\n")

@@ -47,12 +47,13 @@ impl Read for Reader<'_> {
 }
 
 /// Keeps what is written, and fails at call `fails`, counted from 1, flushes among the calls. Its room is its own, so
-/// that no refused growth is its.
+/// that no refused growth is its. It knows whether it was flushed behind the last write.
 #[derive(Drop)]
 struct Writer {
     kept: ArrayVec<u8, 1024>,
     calls: usize,
     fails: usize,
+    flushed: bool,
 }
 
 impl Writer {
@@ -61,6 +62,7 @@ impl Writer {
             kept: ArrayVec::new(),
             calls: 0,
             fails,
+            flushed: false,
         }
     }
 
@@ -75,6 +77,7 @@ impl Writer {
 
 impl Write for Writer {
     fn write(&mut self, buf: &[u8]) -> io::Result<usize> {
+        self.flushed = false;
         self.call()?;
         match self.kept.try_extend_from_slice(buf) {
             Ok(()) => Ok(buf.len()),
@@ -83,7 +86,9 @@ impl Write for Writer {
     }
 
     fn flush(&mut self) -> io::Result<()> {
-        self.call()
+        self.call()?;
+        self.flushed = true;
+        Ok(())
     }
 }
 
@@ -192,10 +197,11 @@ fn answer_of(alloc: Global, job: &Job<'_>, file: &[u8], fails: [usize; 3]) -> To
     }
 }
 
-/// Whether the command answers as it has to.
+/// Whether the command answers as it has to; where its job is done, what it put out has to be flushed.
 fn is_answered(alloc: Global, case: &Case<'_>) -> bool {
     let told = answer_of(alloc, case.job, case.file, case.fails);
     told.status == case.status
+        && (told.status > 1 || told.out.flushed)
         && told.out.kept.as_slice() == case.out
         && told.err.kept.as_slice() == case.err
 }
@@ -386,6 +392,45 @@ fn is_change_refused(alloc: Global, (place, bytes, line): Change) -> bool {
 fn refuses_what_is_bad(rt: HostRuntime) {
     for change in BAD {
         assert!(rt; is_change_refused(rt.alloc(), change), "at {change:?}");
+    }
+}
+
+/// The bytes of each of `BAD` up to the end of its bad field.
+const TOLD: [usize; 5] = [4, 6, 8, 68, 52];
+
+/// A job on a file whose reader fails at a call, and the status and the line that it has to end with.
+fn stopped<'a>(
+    job: &'a Job<'a>,
+    file: &'a [u8],
+    fails: usize,
+    status: u8,
+    err: &'a [u8],
+) -> Case<'a> {
+    Case {
+        job,
+        file,
+        fails: [fails, 0, 0],
+        status,
+        out: b"",
+        err,
+    }
+}
+
+/// Whether the changed sample is refused once so many bytes were read, and no sooner.
+fn is_told_after(alloc: Global, (place, bytes, line): Change, told: usize) -> bool {
+    let image = changed(place, bytes);
+    let late = told.wrapping_add(1);
+    is_answered(alloc, &stopped(&VERIFY, &image, late, 2, line))
+        && is_answered(alloc, &stopped(&VERIFY, &image, told, 4, b"file\n"))
+}
+
+#[test]
+fn reads_no_further_than_the_bad_field(rt: HostRuntime) {
+    for (change, told) in BAD.into_iter().zip(TOLD) {
+        assert!(rt;
+            is_told_after(rt.alloc(), change, told),
+            "after {told} bytes"
+        );
     }
 }
 

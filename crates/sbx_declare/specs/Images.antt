@@ -10,7 +10,7 @@ use Rattle.sbx_image.specs.declared.parts.Kind.TheVariants.{Leaf, Framed}
 use Rattle.sbx_image.specs.declared.parts.Parts.{Parts}
 use Rattle.sbx_image.specs.declared.parts.Range.{Range}
 use Rattle.sbx_image.specs.declared.parts.Term.{Term}
-use Rattle.sbx_rules.specs.Causes.{eight_digits}
+use Rattle.sbx_lines.specs.Words.{word_text}
 use Rattle.sbx_declare.specs.Names.{bounds_text, location_text}
 
 abbrev pub line_end : List ℕ
@@ -35,7 +35,7 @@ block_lines b = flat_map cell_line b.cells ++ (codes ".fuel " ++ (signed_decimal
 
 -- block k of function n
 abbrev pub block_head : ℕ → ℕ → Block → List ℕ
-block_head n k b = codes "\n! " ++ (eight_digits b.address ++ (codes "\n.block f" ++ (decimal n ++ (codes "_b" ++ (decimal k ++ line_end)))))
+block_head n k b = codes "\n! " ++ (word_text b.address ++ (codes "\n.block f" ++ (decimal n ++ (codes "_b" ++ (decimal k ++ line_end)))))
 
 -- the first block begins with its function
 abbrev pub block_text : ℕ → ℕ → Block → List ℕ
@@ -58,7 +58,7 @@ abbrev pub result_line : Range → List ℕ
 result_line r = codes ".result " ++ (bounds_text r ++ line_end)
 
 abbrev pub function_head : ℕ → Function → List ℕ
-function_head n f = codes "\n! " ++ (eight_digits f.entry ++ (codes "\n.function f" ++ (decimal n ++ (codes "," ++ (kind_text f.kind
+function_head n f = codes "\n! " ++ (word_text f.entry ++ (codes "\n.function f" ++ (decimal n ++ (codes "," ++ (kind_text f.kind
     ++ (codes "," ++ (decimal f.frame ++ (codes "," ++ (decimal f.stack_room ++ (codes "," ++ (decimal f.budget ++ line_end)))))))))))
 
 abbrev pub function_text : ℕ → Function → List ℕ

@@ -6,14 +6,14 @@ use Rattle.std.proofs.Math.Seq.{drop-cons}
 use Rattle.std.proofs.lemmas.Bool.Decides.{nat_tests}
 use Rattle.std.proofs.lemmas.Grind.{get_or-set_at}
 use Rattle.std.proofs.lemmas.List.{get_or-set_other, get_or-replicate, get_or_past, length-replicate, drop_all}
-use Rattle.sbx_image.specs.declared.parts.Range.{Range}
-use Rattle.v8_formats.specs.declared.instr.Three.{Three}
-use Rattle.v8_meaning.specs.declared.operation.Operation.TheVariants.{Save}
+use Rattle.sbx_range.specs.Range.{Range}
+use Rattle.sbx_flat.specs.Three.{Three}
+use Rattle.sbx_flat.specs.Operation.TheVariants.{Save}
 use Rattle.sbx_domain.specs.Transfer.{called, is_global, is_in, is_kept_by_calls, is_out, restored, result_entry, saved, transferred}
 use Rattle.sbx_domain.specs.declared.entry.Entry.{Entry}
 use Rattle.sbx_domain.specs.declared.relation.Relation.{Relation}
 use Rattle.sbx_domain.specs.Known.{Known, Table, cell_entry, entry_of_cell, is_location, known, nothing_known, started, with_entry, without_location}
-use Rattle.sbx_image.specs.declared.parts.Cell.{Cell}
+use Rattle.sbx_range.specs.Cell.{Cell}
 use Rattle.sbx_domain.specs.Refining.{narrowed_at, with_range_of}
 
 at_written : (xs : List (Option Entry)) (l : ℕ) (e : Option Entry) (k : ℕ) → l < length xs → slice_index_or (slice_set xs l e) k None ≡ (if k == l then e else slice_index_or xs k None)

@@ -1,17 +1,17 @@
 -- What is known along a few words, worked out by hand.
 use Rattle.std.specs.Prelude.{ℕ, ◌≡◌, ◌∷◌, [], ℤ, pos, negsuc, true, Option, Some, None}
 use Rattle.v8_word.specs.declared.Cond.TheVariants.{Equal, Greater, Less, NotEqual}
-use Rattle.v8_formats.specs.declared.instr.Operand.TheVariants.{Register, Immediate}
+use Rattle.sbx_flat.specs.Operand.TheVariants.{Register, Immediate}
 use Rattle.v8_alu.specs.declared.Op.{Op}
 use Rattle.v8_alu.specs.declared.Op.TheVariants.{Add, AddCc, OrCc, Sll, SubCc, Umul}
-use Rattle.v8_meaning.specs.declared.operation.Loading.TheVariants.{Word as LoadedWord}
-use Rattle.v8_meaning.specs.declared.operation.MemoryOperand.{MemoryOperand}
-use Rattle.v8_meaning.specs.declared.operation.Operation.{Operation}
-use Rattle.v8_meaning.specs.declared.operation.Operation.TheVariants.{Compute, Restore, Save, Transfer}
-use Rattle.v8_meaning.specs.declared.operation.Space.TheVariants.{Normal}
-use Rattle.v8_meaning.specs.declared.operation.Transfer.TheVariants.{Load, Store}
+use Rattle.sbx_flat.specs.Loading.TheVariants.{Word as LoadedWord}
+use Rattle.sbx_flat.specs.MemoryOperand.{MemoryOperand}
+use Rattle.sbx_flat.specs.Operation.{Operation}
+use Rattle.sbx_flat.specs.Operation.TheVariants.{Compute, Restore, Save, Transfer}
+use Rattle.sbx_flat.specs.Space.TheVariants.{Normal}
+use Rattle.sbx_flat.specs.Transfer.TheVariants.{Load, Store}
 use Rattle.v8_word.specs.declared.Size.TheVariants.{Word as StoredWord}
-use Rattle.sbx_image.specs.declared.parts.Range.{Range}
+use Rattle.sbx_range.specs.Range.{Range}
 use Rattle.sbx_range.specs.Ranges.{all, range}
 use Rattle.sbx_domain.specs.Forms.{Form, form_of_location}
 use Rattle.sbx_domain.specs.declared.relation.Relation.TheVariants.{Compared, Signs}

@@ -2,7 +2,7 @@
 use Rattle.std.specs.Prelude.{ℕ, ◌≡◌, ◌==◌, ◌<◌, ◌^◌, false, if◌then◌else◌, Option, Some, None}
 use Rattle.v8_word.specs.declared.Icc.{Icc}
 use Rattle.v8_alu.specs.Results.{difference_codes, signed}
-use Rattle.sbx_image.specs.declared.parts.Range.{Range}
+use Rattle.sbx_range.specs.Range.{Range}
 use Rattle.sbx_form.specs.Forms.{Cells}
 use Rattle.sbx_range.specs.Laws.{HasSigns}
 use Rattle.sbx_range.specs.Ranges.{InInterval, IsAligned}

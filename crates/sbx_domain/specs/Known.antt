@@ -1,8 +1,8 @@
 -- What the verifier knows between two words of a block: of each location a range and perhaps a linear form, the range of Y,
 -- whether the condition codes are defined, and what they were set from.
 use Rattle.std.specs.Prelude.{ℕ, Bool, false, ◌&&◌, ◌||◌, ◌==◌, nat_lt, if◌then◌else◌, List, [], ◌∷◌, Option, Some, None, slice_index_or}
-use Rattle.sbx_image.specs.declared.parts.Cell.{Cell}
-use Rattle.sbx_image.specs.declared.parts.Range.{Range}
+use Rattle.sbx_range.specs.Cell.{Cell}
+use Rattle.sbx_range.specs.Range.{Range}
 use Rattle.sbx_domain.specs.declared.entry.Entry.{Entry}
 use Rattle.sbx_domain.specs.declared.relation.Related.{Related}
 use Rattle.sbx_domain.specs.declared.relation.Related.TheVariants.{Location, Word}

@@ -1,6 +1,6 @@
 -- The least value of a form.
 use Rattle.std.specs.Prelude.{ℤ, ◌+ℤ◌, Option, Some, None}
-use Rattle.sbx_image.specs.declared.parts.Range.{Range}
+use Rattle.sbx_range.specs.Range.{Range}
 use Rattle.sbx_form.specs.Forms.{Ends, least_terms, no_range}
 use Rattle.sbx_domain.specs.Forms.{Form}
 use Rattle.sbx_domain.specs.Known.{Known, range_at}

@@ -8,3 +8,6 @@ pub mod Refining
 pub mod Fits
 pub mod Examples
 pub mod Laws
+pub use Rattle.sbx_flat.specs.Effects
+pub use Rattle.sbx_flat.specs.Turns
+pub use Rattle.sbx_flat.specs.Runs

@@ -1,7 +1,7 @@
 -- What a branch lets know on each of its ways.
 use Rattle.std.specs.Prelude.{ℕ, Bool, true, false, ◌==◌, if◌then◌else◌, Option, Some, None}
 use Rattle.v8_word.specs.declared.Cond.{Cond}
-use Rattle.sbx_image.specs.declared.parts.Range.{Range}
+use Rattle.sbx_range.specs.Range.{Range}
 use Rattle.sbx_range.specs.Ranges.{known}
 use Rattle.sbx_range.specs.Refining.{both_of, common, refine, refine_by_value, some_range}
 use Rattle.sbx_range.specs.declared.refining.Pair.{Pair}

@@ -1,12 +1,12 @@
 -- What is known of operands, and of the results that operations make of them.
 use Rattle.std.specs.Prelude.{ℕ, ◌==◌, pos, negsuc, if◌then◌else◌, Option, Some, None}
-use Rattle.v8_formats.specs.declared.instr.Operand.{Operand}
-use Rattle.v8_formats.specs.declared.instr.Operand.TheVariants.{Register, Immediate}
+use Rattle.sbx_flat.specs.Operand.{Operand}
+use Rattle.sbx_flat.specs.Operand.TheVariants.{Register, Immediate}
 use Rattle.v8_alu.specs.Results.{signed}
 use Rattle.v8_alu.specs.declared.Op.{Op}
 use Rattle.v8_alu.specs.declared.Op.TheVariants.{Add, AddCc, Sub, SubCc, Or, OrCc}
 use Rattle.v8_alu.specs.declared.TaggedOp.{TaggedOp}
-use Rattle.sbx_image.specs.declared.parts.Range.{Range}
+use Rattle.sbx_range.specs.Range.{Range}
 use Rattle.sbx_range.specs.Ranges.{is_single, is_zero, known}
 use Rattle.sbx_range.specs.Rows.{differences_fit, range_divide, sums_fit}
 use Rattle.sbx_range.specs.Table.{range_of, range_of_address, range_of_tagged, range_of_written_y}

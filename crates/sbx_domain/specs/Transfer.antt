@@ -2,25 +2,25 @@
 use Rattle.std.specs.Prelude.{ℕ, ◌+◌, ◌-◌, ◌/◌, ◌%◌, ◌&&◌, Bool, true, false, ◌==◌, nat_lt, nat_le, if◌then◌else◌, List, Option, Some, None, ℤ, pos, negsuc, ◌+ℤ◌, slice_get}
 use Rattle.v8_word.specs.declared.Size.{Size}
 use Rattle.v8_word.specs.declared.Size.TheVariants as sizes
-use Rattle.v8_formats.specs.declared.instr.Operand.{Operand}
-use Rattle.v8_formats.specs.declared.instr.Operand.TheVariants.{Register, Immediate}
-use Rattle.v8_formats.specs.declared.instr.Three.{Three}
+use Rattle.sbx_flat.specs.Operand.{Operand}
+use Rattle.sbx_flat.specs.Operand.TheVariants.{Register, Immediate}
+use Rattle.sbx_flat.specs.Three.{Three}
 use Rattle.v8_alu.specs.Results.{signed}
 use Rattle.v8_alu.specs.declared.Division.{Division}
 use Rattle.v8_alu.specs.declared.Division.TheVariants as divisions
 use Rattle.v8_alu.specs.declared.Op.{Op}
 use Rattle.v8_alu.specs.declared.Op.TheVariants as ops
-use Rattle.v8_meaning.specs.Transfers.{odd_of}
-use Rattle.v8_meaning.specs.declared.operation.Exchange.{Exchange as Exchanging}
-use Rattle.v8_meaning.specs.declared.operation.Exchange.TheVariants as exchanges
-use Rattle.v8_meaning.specs.declared.operation.Loading.{Loading}
-use Rattle.v8_meaning.specs.declared.operation.Loading.TheVariants as loadings
-use Rattle.v8_meaning.specs.declared.operation.MemoryOperand.{MemoryOperand}
-use Rattle.v8_meaning.specs.declared.operation.Operation.{Operation}
-use Rattle.v8_meaning.specs.declared.operation.Operation.TheVariants.{Compute, Divide, TaggedTrap, SetHigh, ReadY, WriteY, Transfer, Save, Restore, Call, TrapOnCondition}
-use Rattle.v8_meaning.specs.declared.operation.Transfer.{Transfer as Moving}
-use Rattle.v8_meaning.specs.declared.operation.Transfer.TheVariants.{Load, Store, Exchange}
-use Rattle.sbx_image.specs.declared.parts.Range.{Range}
+use Rattle.sbx_flat.specs.Transfers.{odd_of}
+use Rattle.sbx_flat.specs.Exchange.{Exchange as Exchanging}
+use Rattle.sbx_flat.specs.Exchange.TheVariants as exchanges
+use Rattle.sbx_flat.specs.Loading.{Loading}
+use Rattle.sbx_flat.specs.Loading.TheVariants as loadings
+use Rattle.sbx_flat.specs.MemoryOperand.{MemoryOperand}
+use Rattle.sbx_flat.specs.Operation.{Operation}
+use Rattle.sbx_flat.specs.Operation.TheVariants.{Compute, Divide, TaggedTrap, SetHigh, ReadY, WriteY, Transfer, Save, Restore, Call, TrapOnCondition}
+use Rattle.sbx_flat.specs.Transfer.{Transfer as Moving}
+use Rattle.sbx_flat.specs.Transfer.TheVariants.{Load, Store, Exchange}
+use Rattle.sbx_range.specs.Range.{Range}
 use Rattle.sbx_range.specs.Ranges.{all}
 use Rattle.sbx_range.specs.Rows.{byte_or_end, signed_byte, signed_half, unsigned_byte, unsigned_half}
 use Rattle.sbx_range.specs.Table.{writes_y}

@@ -4,8 +4,7 @@ ghost use Rattle.sbx_range.specs.Refining.{refine};
 ghost use Rattle.sbx_domain.specs.Refining.{in_both, is_same};
 
 use crate::relation::Related;
-use sbx_image::Range;
-use sbx_range::{Pair, common, refine};
+use sbx_range::{Pair, Range, common, refine};
 use v8_word::Cond;
 
 fn is_same(x: Related, y: Related) -> bool

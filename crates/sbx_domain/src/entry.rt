@@ -4,7 +4,7 @@ ghost use Rattle.sbx_domain.specs.Known.{entry_of_cell, plain_entry_of};
 ghost use Rattle.sbx_domain.specs.Refining.{with_range_of};
 
 use crate::lin::Lin;
-use sbx_image::{Cell, Range};
+use sbx_range::{Cell, Range};
 
 /// A range, and perhaps a form over the numbers that the block's cells start with.
 #[derive(Clone, Copy)]

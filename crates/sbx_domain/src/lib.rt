@@ -20,4 +20,5 @@ pub use lin::Lin;
 pub use lowest::least;
 pub use memory::{frame_word_of, offset_from_sp};
 pub use relation::{Related, Relation};
+pub use sbx_flat::{asked, declares, service_of, weight_of};
 pub use state::{LOCATIONS, State};

@@ -8,7 +8,7 @@ use crate::lin::{Lin, with_constant};
 use crate::state::State;
 use arrayvec::ArrayVec;
 use sbx_form::{FormTerm, least_term, plus};
-use sbx_image::Range;
+use sbx_range::Range;
 
 fn range_or_zero(range: Option<Range>) -> Range
     ensures { result ≡ range_or_zero range }

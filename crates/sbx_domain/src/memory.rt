@@ -1,14 +1,12 @@
 //! What is known after a load, a store or an exchange.
 ghost use Rattle.std.specs.Prelude.{◌≡◌, if◌then◌else◌, ◌+◌, ◌-◌, ◌/◌, Some, None};
-ghost use Rattle.v8_meaning.specs.Transfers.{odd_of};
+ghost use Rattle.sbx_flat.specs.Transfers.{odd_of};
 ghost use Rattle.sbx_domain.specs.Transfer.{exchanged_range, frame_word_of, is_word_offset, loaded_range, offset_from_sp, word_at_offset};
 
 use crate::entry::{Entry, plain_entry};
 use crate::state::State;
-use sbx_image::Range;
-use sbx_range::{SIGNED_BYTE, SIGNED_HALF, UNSIGNED_BYTE, UNSIGNED_HALF, all};
-use v8_formats::Operand;
-use v8_meaning::{Exchange, Loading, MemoryOperand, Transfer};
+use sbx_flat::{Exchange, Loading, MemoryOperand, Operand, Transfer};
+use sbx_range::{Range, SIGNED_BYTE, SIGNED_HALF, UNSIGNED_BYTE, UNSIGNED_HALF, all};
 use v8_word::{Reg, Size};
 
 /// The offset from %sp that an address of %sp or %fp and an immediate has, in a frame of so many bytes.
@@ -83,7 +81,7 @@ fn exchanged_range(exchange: Exchange) -> Range
 }
 
 impl State {
-    ghost use Rattle.v8_meaning.specs.declared.operation.Operation.TheVariants.{Transfer as Moves};
+    ghost use Rattle.sbx_flat.specs.Operation.TheVariants.{Transfer as Moves};
     ghost use Rattle.sbx_domain.specs.Known.{known};
     ghost use Rattle.sbx_domain.specs.Transfer.{loaded_entry, transferred, with_loaded, with_stored};
 

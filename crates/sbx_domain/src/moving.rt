@@ -3,7 +3,7 @@ ghost use Rattle.std.specs.Prelude.{◌≡◌, ℕ, ◌<◌, ◌+◌, ◌-◌, N
 ghost use Rattle.sbx_domain.specs.Transfer.{is_global, is_in, is_kept_by_calls, is_out, result_entry};
 
 use crate::entry::{Entry, plain_entry};
-use sbx_image::Range;
+use sbx_range::Range;
 
 /// What an in gets of the outs; nothing for other locations.
 fn saved_entry<T: Copy>(entries: &[Option<T>], location: usize) -> Option<T>

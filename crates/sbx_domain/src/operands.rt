@@ -4,8 +4,7 @@ ghost use Rattle.sbx_domain.specs.Results.{constant_entry, entry_of_result, entr
 
 use crate::entry::Entry;
 use crate::lin::Lin;
-use sbx_image::Range;
-use sbx_range::{is_single, known, range_of_division, range_of_tagged, range_of_written_y};
+use sbx_range::{Range, is_single, known, range_of_division, range_of_tagged, range_of_written_y};
 use v8_alu::TaggedOp;
 
 /// A known word.

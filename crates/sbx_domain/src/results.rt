@@ -8,10 +8,9 @@ use crate::entry::Entry;
 use crate::lin::{Lin, combined};
 use crate::operands::entry_of_result;
 use crate::relation::{Related, Relation};
-use sbx_image::Range;
-use sbx_range::{differences_fit, range_of, sums_fit};
+use sbx_flat::{Operand, Three};
+use sbx_range::{Range, differences_fit, range_of, sums_fit};
 use v8_alu::Op;
-use v8_formats::{Operand, Three};
 use v8_word::Reg;
 
 fn sum_form(a: Entry, b: Entry) -> Option<Lin>

@@ -7,8 +7,7 @@ use crate::lin::Lin;
 use crate::moving::{clear_entries, restore_entries, return_entries, save_entries};
 use crate::relation::{Related, Relation, without_location};
 use crate::room::repeated;
-use sbx_image::{Cell, Range};
-use sbx_range::{Pair, refine_by_value};
+use sbx_range::{Cell, Pair, Range, refine_by_value};
 use std::alloc::{AllocError, Global};
 use std::marker::Model;
 use v8_word::Cond;
@@ -42,8 +41,8 @@ impl State {
     ghost use Rattle.sbx_domain.specs.declared.relation.Relation.TheVariants.{Compared, Signs};
     ghost use Rattle.sbx_domain.specs.Refining.{narrowed_at, narrowed_related, range_of_related, refined, refined_by, with_pair};
     ghost use Rattle.std.specs.Prelude.{ℕ};
-    ghost use Rattle.v8_formats.specs.declared.instr.Three.{Three};
-    ghost use Rattle.v8_meaning.specs.declared.operation.Operation.TheVariants.{Save};
+    ghost use Rattle.sbx_flat.specs.Three.{Three};
+    ghost use Rattle.sbx_flat.specs.Operation.TheVariants.{Save};
     ghost use Rattle.sbx_domain.specs.Transfer.{called, restored, transferred, with_codes};
     ghost use Rattle.sbx_domain.specs.Known.{entry_of_cell, form_at, known, nothing_known, range_at, started, with_entry, with_icc, with_range, with_y};
 

@@ -5,17 +5,15 @@ use crate::entry::Entry;
 use crate::operands::{constant_entry, entry_of_y, quotient_of, tagged_of, written_y};
 use crate::results::{relation_of, result_of, sets_codes};
 use crate::state::State;
-use sbx_flat::service_of;
+use sbx_flat::{Instr, Operand, Operation, Three, Trap, Two, Upper, operation_of, service_of};
 use sbx_range::{BYTE_OR_END, all};
 use v8_alu::{Division, Op, TaggedOp};
-use v8_formats::{Instr, Operand, Three, Trap, Two, Upper};
-use v8_meaning::{Operation, operation_of};
 use v8_word::Reg;
 
 impl State {
     ghost use Rattle.std.specs.Prelude.{Some, true};
-    ghost use Rattle.v8_meaning.specs.declared.operation.Operation.TheVariants.{Call, Compute, Divide, ReadY, Restore, SetHigh, TaggedTrap, TrapOnCondition, WriteY};
-    ghost use Rattle.v8_meaning.specs.Operations.{operation_of};
+    ghost use Rattle.sbx_flat.specs.Operation.TheVariants.{Call, Compute, Divide, ReadY, Restore, SetHigh, TaggedTrap, TrapOnCondition, WriteY};
+    ghost use Rattle.sbx_flat.specs.Operations.{operation_of};
     ghost use Rattle.sbx_domain.specs.Known.{known};
     ghost use Rattle.sbx_domain.specs.Results.{operand_entry, register_entry};
     ghost use Rattle.sbx_domain.specs.Transfer.{relation_of, served, sets_codes, transferred, with_codes, with_product_y};

@@ -1,3 +1,2 @@
-pub mod Values
 pub mod Texts
 pub mod Refusals

@@ -1,11 +1,7 @@
 //! Why an image is refused, in words.
 #![tactic(auto)]
 
-mod asked;
-mod reads;
 mod rules;
-mod sights;
-mod values;
 mod why;
 
 pub use rules::rule_text;

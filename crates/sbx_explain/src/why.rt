@@ -1,19 +1,20 @@
 //! Why an image is refused.
-ghost use Rattle.std.specs.Prelude.{◌≡◌, ◌++◌, IfOk, IfSome, None, OnOk, string_bytes};
+ghost use Rattle.std.specs.Prelude.{◌≡◌, ◌++◌, IfOk, IfSome, None, OnOk, Some, codes, string_bytes};
 ghost use Rattle.sbx_rules.specs.Verdicts.{Checked, IsFirst};
 ghost use Rattle.sbx_known.specs.Spots.{IsSpot};
 ghost use Rattle.sbx_inspect.specs.Sights.{IsSeen};
+ghost use Rattle.sbx_verify.specs.Refusals.{IsRefusal};
 ghost use Rattle.sbx_explain.specs.Refusals.{IsTold, Tells, head_text};
 
-use crate::asked::{push_arrivals, push_fuel, push_room};
 use crate::rules::rule_text;
-use crate::sights::push_sight;
 use arrayvec::ArrayString;
+use sbx_asked::{push_arrivals, push_fuel, push_room};
 use sbx_declare::{push_function_head, push_numbered, push_params, push_results};
 use sbx_image::Image;
 use sbx_inspect::{NotKnown, Sight, known_at};
 use sbx_known::{Spot, block_at, function_at};
 use sbx_rules::{Cause, Refusal};
+use sbx_sights::push_sight;
 use sbx_verify::verify;
 use std::alloc::{AllocError, Global};
 use v8_formats::decode;
@@ -80,6 +81,29 @@ fn push_asked(
     }
 }
 
+/// The word with its function and its block, and what is known on its ways.
+fn push_seen(out: &mut String, image: &Image, address: u32, sight: &Sight) -> Result<(), AllocError>
+    requires { IsSeen image.now sight.now }
+{
+    push_place(out, image, &sight.spot)?;
+    push_words(out, image, address, sight.spot.word)?;
+    push_sight(out, image, sight)
+}
+
+/// What explains a refusal at a word.
+fn push_known(
+    alloc: Global,
+    out: &mut String,
+    image: &Image,
+    refusal: Refusal,
+    sight: Sight,
+) -> Result<(), AllocError>
+    requires { IsSeen image.now sight }
+{
+    push_seen(out, image, refusal.address, &sight)?;
+    push_asked(alloc, out, image, refusal.cause, sight)
+}
+
 /// What explains a refusal, where its function has a word at its address.
 fn push_reasons(
     alloc: Global,
@@ -87,15 +111,11 @@ fn push_reasons(
     image: &Image,
     refusal: Refusal,
 ) -> Result<(), AllocError> {
-    let sight = match known_at(alloc, image, refusal.function, refusal.address) {
-        Ok(sight) => sight,
-        Err(NotKnown::NoMemory(want)) => return Err(AllocError::from(want)),
-        Err(NotKnown::NoFunction | NotKnown::NoWord) => return Ok(()),
-    };
-    push_place(out, image, &sight.spot)?;
-    push_words(out, image, refusal.address, sight.spot.word)?;
-    push_sight(out, image, &sight)?;
-    push_asked(alloc, out, image, refusal.cause, sight)
+    match known_at(alloc, image, refusal.function, refusal.address) {
+        Ok(sight) => push_known(alloc, out, image, refusal, sight),
+        Err(NotKnown::NoMemory(want)) => Err(AllocError::from(want)),
+        Err(NotKnown::NoFunction | NotKnown::NoWord) => Ok(()),
+    }
 }
 
 /// A refusal explained.
@@ -114,10 +134,39 @@ fn explain(
     Ok(())
 }
 
+/// The line of an accepted image, of which there is no refusal.
+fn push_accepted(out: &mut String) -> Result<Option<Refusal>, AllocError>
+    ensures none { IfOk result (λ found. found ≡ None) }
+    ensures told { OnOk result (string_bytes out.new ≡ string_bytes out.old ++ codes "accepted: no rule is broken\n") }
+{
+    out.push_str("accepted: no rule is broken\n")?;
+    Ok(None)
+}
+
+/// A refusal explained, unless it is want of memory, and the refusal.
+#[tactic(auto, using(sbx_verify::proofs::Refusals::broken_rule))]
+fn push_refused(
+    alloc: Global,
+    out: &mut String,
+    image: &Image,
+    refusal: Refusal,
+) -> Result<Option<Refusal>, AllocError>
+    requires { IsRefusal image.now refusal }
+    ensures refused { IfOk result (λ found. (found ≡ Some refusal) × IsFirst image.now refusal) }
+    ensures told { OnOk result (IsTold refusal (string_bytes out.old) (string_bytes out.new)) }
+{
+    match refusal.cause {
+        Cause::NoMemory(want) => Err(AllocError::from(want)),
+        _ => {
+            explain(alloc, out, image, refusal)?;
+            Ok(Some(refusal))
+        }
+    }
+}
+
 /// Pushes why an image is refused: the refusal and its rule in words; function, block and word; what is known of each location that
 /// the word reads, on each of its ways; and of cells, results, fuel and stack room what is asked for, beside what there is. Of an
 /// image that breaks no rule it says so. It gives the refusal, if there is one. It fails where memory is refused.
-#[tactic(auto, using(sbx_verify::proofs::Refusals::broken_rule))]
 pub fn push_why(
     alloc: Global,
     out: &mut String,
@@ -128,16 +177,7 @@ pub fn push_why(
     ensures told { IfOk result (λ found. Tells found (string_bytes out.old) (string_bytes out.new)) }
 {
     match verify(alloc, image) {
-        Ok(_accepted) => {
-            out.push_str("accepted: no rule is broken\n")?;
-            Ok(None)
-        }
-        Err((image, refusal)) => match refusal.cause {
-            Cause::NoMemory(want) => Err(AllocError::from(want)),
-            _ => {
-                explain(alloc, out, &image, refusal)?;
-                Ok(Some(refusal))
-            }
-        },
+        Ok(_accepted) => push_accepted(out),
+        Err((image, refusal)) => push_refused(alloc, out, &image, refusal),
     }
 }

@@ -5,7 +5,7 @@ use Rattle.std.specs.List.{list_all, list_any}
 use Rattle.sbx_image.specs.declared.parts.Block.{Block}
 use Rattle.sbx_image.specs.declared.parts.Function.{Function}
 use Rattle.sbx_image.specs.declared.parts.Cell.{Cell}
-use Rattle.sbx_domain.specs.Known.{Known, range_at}
+use Rattle.sbx_rules.specs.Known.{Known, range_at}
 use Rattle.sbx_rules.specs.Rules.{has_cells, has_range, is_writable, lists_badly}
 
 pub all_cells : (d : Known) (cells : List Cell) → has_cells d cells ≡ list_all (λ c. has_range (range_at d c.location) c.range) cells

@@ -1,6 +1,6 @@
 -- What a test asks of a register.
 use Rattle.std.specs.Prelude.{ℕ, Bool, ◌&&◌, ◌==◌, not}
-use Rattle.sbx_domain.specs.Known.{Known}
+use Rattle.sbx_rules.specs.Known.{Known}
 use Rattle.sbx_rules.specs.Operations.{is_reserved}
 use Rattle.sbx_rules.specs.Rules.{is_defined}
 

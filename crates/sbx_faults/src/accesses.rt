@@ -1,14 +1,14 @@
 //! Where an operation reaches memory, and what it asks of its operands' ranges.
 ghost use Rattle.std.specs.Prelude.{◌≡◌, ◌≤◌};
-ghost use Rattle.sbx_domain.specs.Known.{known};
-ghost use Rattle.sbx_domain.specs.Results.{address_of, operand_entry, register_entry};
+ghost use Rattle.sbx_rules.specs.Known.{known};
+ghost use Rattle.sbx_rules.specs.Results.{address_of, operand_entry, register_entry};
 ghost use Rattle.sbx_rules.specs.Operations.{access_of};
 ghost use Rattle.sbx_rules.specs.Rules.{holds_zero, is_aligned_access, is_aligned_range, is_in_data, is_in_frame, is_multiple_of_4, is_placed_access, may_divide_by_zero, may_overflow, needed_alignment, tagged_ranges_fit};
 
 use crate::reads::frame_offset;
-use sbx_domain::{Entry, State};
 use sbx_image::{Function, Image};
 use sbx_range::{Range, excludes_zero, range_of_address, tagged_fits};
+use sbx_rules::{Entry, State};
 use v8_alu::TaggedOp;
 use v8_meaning::{MemoryOperand, Operation, bytes_in};
 

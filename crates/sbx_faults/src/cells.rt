@@ -1,14 +1,14 @@
 //! What an edge, a call or a return asks of what is known, and what a block may list.
 ghost use Rattle.std.specs.Prelude.{◌≡◌, ◌+◌, ◌≤◌, length, not};
 ghost use Rattle.std.specs.List.{list_all, list_any};
-ghost use Rattle.sbx_domain.specs.Known.{known, range_at};
+ghost use Rattle.sbx_rules.specs.Known.{known, range_at};
 ghost use Rattle.sbx_rules.specs.Rules.{has_cells, has_outs, has_range, is_writable, lists_badly};
 ghost use Rattle.sbx_rules.specs.Ways.{names_cell};
 
 use crate::kinds::is_framed;
-use sbx_domain::State;
 use sbx_image::{Block, Cell, Function, Range, Term};
 use sbx_range::is_within;
+use sbx_rules::State;
 
 fn has_range(found: Option<Range>, wanted: Range) -> bool
     ensures { result ≡ has_range found wanted }

@@ -1,15 +1,14 @@
 //! Which locations, codes and Y an operation reads.
 ghost use Rattle.std.specs.Prelude.{◌≡◌, ◌∷◌, Some};
 ghost use Rattle.std.specs.List.{list_any};
-ghost use Rattle.sbx_domain.specs.Known.{Known, known};
+ghost use Rattle.sbx_rules.specs.Known.{Known, known};
 ghost use Rattle.sbx_rules.specs.Operations.{address_reads, frame_offset, frame_word_read, moved_reads, reads_codes, reads_of, reads_y, second_reads, service_reads};
 ghost use Rattle.sbx_rules.specs.Rules.{is_undefined_word, reads_undefined};
 ghost use Rattle.sbx_faults.specs.Registers.{is_unknown};
 
 use crate::kinds::{is_framed, is_reserved, loads_word, moves_word};
-use sbx_domain::{State, frame_word_of, offset_from_sp};
-use sbx_flat::service_of;
 use sbx_image::Function;
+use sbx_rules::{State, frame_word_of, offset_from_sp, service_of};
 use v8_alu::Op;
 use v8_formats::Operand;
 use v8_meaning::{Exchange, MemoryOperand, Operation, Transfer, is_always, odd_of};

@@ -5,8 +5,8 @@ ghost use Rattle.sbx_rules.specs.Places.{ends_run, is_exit, service_asked};
 ghost use Rattle.sbx_rules.specs.Rules.{enters_well, is_declared, is_frame_size, is_minus, is_save_of, is_undefined, suits};
 
 use crate::kinds::is_framed;
-use sbx_flat::{declares, service_of};
 use sbx_image::{Function, Kind, Services};
+use sbx_rules::{declares, service_of};
 use v8_formats::{Instr, Operand, decode, is_canonical};
 use v8_meaning::{Operation, is_ret};
 

@@ -6,8 +6,8 @@ ghost use Rattle.sbx_rules.specs.Rules.{touches_reserved};
 
 use crate::kinds::{is_framed, is_reserved};
 use crate::reads::frame_offset;
-use sbx_flat::service_of;
 use sbx_image::{Function, Kind};
+use sbx_rules::service_of;
 use v8_formats::Operand;
 use v8_meaning::{Exchange, Loading, MemoryOperand, Operation, Transfer, odd_of};
 use v8_word::{Reg, Size};

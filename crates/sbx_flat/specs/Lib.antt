@@ -16,3 +16,13 @@ pub mod Examples
 pub use Rattle.sbx_image.specs.Rules
 pub use Rattle.sbx_image.specs.declared.parts.Parts
 pub use Rattle.sbx_image.specs.declared.services.Services
+pub use Rattle.v8_meaning.specs.Transfers
+pub use Rattle.v8_meaning.specs.declared.operation.Operation
+pub use Rattle.v8_meaning.specs.Operations
+pub use Rattle.v8_meaning.specs.declared.operation.Loading
+pub use Rattle.v8_meaning.specs.declared.operation.MemoryOperand
+pub use Rattle.v8_meaning.specs.declared.operation.Space
+pub use Rattle.v8_meaning.specs.declared.operation.Transfer
+pub use Rattle.v8_meaning.specs.declared.operation.Exchange
+pub use Rattle.v8_formats.specs.declared.instr.Three
+pub use Rattle.v8_formats.specs.declared.instr.Operand

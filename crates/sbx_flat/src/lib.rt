@@ -11,3 +11,5 @@ mod path;
 pub use code::{asked, declares, service_of, weight_of, word_at};
 pub use invariants::Relation;
 pub use path::{Place, Traffic, Wrong};
+pub use v8_formats::{Instr, Operand, Three, Trap, Two, Upper};
+pub use v8_meaning::{Exchange, Loading, MemoryOperand, Operation, Transfer, operation_of};

@@ -3,7 +3,7 @@ use Rattle.std.specs.Prelude.{ℕ, suc, ◌≤◌, ◌==◌, ℤ, pos, ◌+ℤ�
 use Rattle.std.specs.Int.{int_min}
 use Rattle.std.specs.Ordering.{int_eq}
 use Rattle.sbx_form.specs.declared.terms.FormTerm.{FormTerm}
-use Rattle.sbx_image.specs.declared.parts.Range.{Range}
+use Rattle.sbx_range.specs.Range.{Range}
 
 -- the numbers that the cells start with, by location
 abbrev pub Cells : Type 0

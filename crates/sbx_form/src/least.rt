@@ -5,7 +5,7 @@ ghost use Rattle.sbx_form.specs.declared.terms.FormTerm.{FormTerm};
 ghost use Rattle.sbx_form.specs.Forms.{ends_of, least_terms};
 
 use crate::terms::FormTerm;
-use sbx_image::Range;
+use sbx_range::Range;
 
 fn times(number: i32, coefficient: i128) -> i128
     requires { unsigned_abs coefficient ≤ 2 ^ 70 }

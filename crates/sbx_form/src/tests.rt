@@ -1,7 +1,7 @@
 // Values worked out by hand.
 use super::*;
 use arrayvec::ArrayVec;
-use sbx_image::Range;
+use sbx_range::Range;
 
 #[test]
 fn the_first_term(rt: HostRuntime) {

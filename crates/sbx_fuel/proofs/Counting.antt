@@ -13,7 +13,7 @@ use Rattle.sbx_form.specs.declared.terms.FormTerm.{FormTerm}
 use Rattle.sbx_form.specs.Forms.{AreWithin, add_term, add_terms}
 use Rattle.sbx_form.proofs.Bounds.{added_within, wider_bound}
 use Rattle.sbx_form.proofs.Ordered.{sums_stay_in_order}
-use Rattle.sbx_domain.specs.Known.{Known, cell_entry, entry_of_cell, form_at, is_location, range_at, range_of_entry, started}
+use Rattle.sbx_rules.specs.Known.{Known, cell_entry, entry_of_cell, form_at, is_location, range_at, range_of_entry, started}
 use Rattle.sbx_rules.specs.Ways.{counted, form_term, names_cell, out_cells}
 use Rattle.sbx_fuel.specs.Least.{negated}
 use Rattle.sbx_fuel.specs.Margins.{less_terms, start_terms}

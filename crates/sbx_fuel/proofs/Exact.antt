@@ -7,8 +7,8 @@ use Rattle.std.proofs.lemmas.Int.{ints}
 use Rattle.sbx_form.specs.declared.terms.FormTerm.{FormTerm}
 use Rattle.sbx_form.specs.Forms.{AscendFrom, Cells, add_term, add_terms, keep, terms_value}
 use Rattle.sbx_form.proofs.Values.{by_test}
-use Rattle.sbx_domain.specs.Forms.{Form, form_value}
-use Rattle.sbx_domain.specs.Known.{Known, form_at, nothing_known, range_at}
+use Rattle.sbx_rules.specs.Forms.{Form, form_value}
+use Rattle.sbx_rules.specs.Known.{Known, form_at, nothing_known, range_at}
 use Rattle.sbx_rules.specs.Fuel.{InCells, IsEnough, IsPaid, IsWithinBudget}
 use Rattle.sbx_fuel.specs.Margins.{AreSome, constant_left, less_constant, less_terms, open_terms, start_terms, with_open}
 use Rattle.sbx_fuel.specs.Least.{AreNonzero, both, is_natural_sum, least_in, least_over, negated, taken, taken_by}

@@ -9,7 +9,7 @@ use Rattle.sbx_form.specs.declared.terms.FormTerm.{FormTerm}
 use Rattle.sbx_form.specs.Forms.{AscendFrom, Cells, Ends, Within, least_term, least_terms, terms_value}
 use Rattle.sbx_form.proofs.Values.{least-reached}
 use Rattle.sbx_range.proofs.Products.{between-first}
-use Rattle.sbx_domain.specs.Known.{Known, range_at}
+use Rattle.sbx_rules.specs.Known.{Known, range_at}
 use Rattle.sbx_rules.specs.Fuel.{InCells}
 use Rattle.sbx_fuel.specs.Margins.{AreSome}
 use Rattle.sbx_fuel.proofs.Products.{times_neg}

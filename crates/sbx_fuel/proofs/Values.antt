@@ -6,8 +6,8 @@ use Rattle.sbx_form.specs.declared.terms.FormTerm.{FormTerm}
 use Rattle.sbx_form.specs.Forms.{AscendFrom, Cells, add_term, add_terms, terms_value}
 use Rattle.sbx_form.proofs.Values.{value-add_terms}
 use Rattle.sbx_form.proofs.Ordered.{sums_stay_in_order}
-use Rattle.sbx_domain.specs.Forms.{Form, form_value}
-use Rattle.sbx_domain.specs.Known.{Known, form_at}
+use Rattle.sbx_rules.specs.Forms.{Form, form_value}
+use Rattle.sbx_rules.specs.Known.{Known, form_at}
 use Rattle.sbx_rules.specs.Fuel.{number_now, numbers_now}
 use Rattle.sbx_fuel.specs.Margins.{constant_left, less_constant, less_terms, open_terms, start_terms, with_open}
 use Rattle.sbx_fuel.proofs.Products.{sum_less, times_neg}

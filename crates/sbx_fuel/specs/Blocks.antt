@@ -3,8 +3,8 @@ use Rattle.std.specs.Prelude.{ℕ, ◌≤◌, length}
 use Rattle.sbx_image.specs.declared.parts.Block.{Block}
 use Rattle.sbx_image.specs.declared.parts.Function.{Function}
 use Rattle.sbx_form.specs.Forms.{AscendFrom}
-use Rattle.sbx_domain.specs.Forms.{Form}
-use Rattle.sbx_domain.specs.Known.{Known, started}
+use Rattle.sbx_rules.specs.Forms.{Form}
+use Rattle.sbx_rules.specs.Known.{Known, started}
 use Rattle.sbx_rules.specs.Ways.{cells_of, counted}
 use Rattle.sbx_fuel.specs.Margins.{AreSome}
 use Rattle.sbx_fuel.specs.Least.{AreNonzero}

@@ -4,8 +4,8 @@ use Rattle.std.specs.Int.{int_min}
 use Rattle.sbx_image.specs.declared.parts.Range.{Range}
 use Rattle.sbx_range.specs.Ranges.{is_empty}
 use Rattle.sbx_form.specs.declared.terms.FormTerm.{FormTerm}
-use Rattle.sbx_domain.specs.Forms.{Form}
-use Rattle.sbx_domain.specs.Known.{Known, form_at, is_location, range_at}
+use Rattle.sbx_rules.specs.Forms.{Form}
+use Rattle.sbx_rules.specs.Known.{Known, form_at, is_location, range_at}
 
 abbrev pub both : Option ℤ → Option ℤ → Option ℤ
 both (Some a) (Some b) = Some (a +ℤ b)

@@ -6,8 +6,8 @@ use Rattle.std.specs.Prelude.{◌≡◌, ℕ, ◌+ℤ◌, ◌*ℤ◌, ◌≤ℤ�
 use Rattle.sbx_image.specs.declared.parts.Range.{Range}
 use Rattle.sbx_form.specs.declared.terms.FormTerm.{FormTerm}
 use Rattle.sbx_form.specs.Forms.{add_terms}
-use Rattle.sbx_domain.specs.Forms.{Form}
-use Rattle.sbx_domain.specs.Known.{Known, form_at, range_at}
+use Rattle.sbx_rules.specs.Forms.{Form}
+use Rattle.sbx_rules.specs.Known.{Known, form_at, range_at}
 
 abbrev pub less_constant : ℤ → Option Form → ℤ → ℤ
 less_constant c None z = z

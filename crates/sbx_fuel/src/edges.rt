@@ -1,6 +1,6 @@
 //! Whether a block's fuel lasts.
 ghost use Rattle.std.specs.Prelude.{◌≡◌, ◌<◌, ◌≤◌, ◌^◌, ◌+ℤ◌, ◌-ℤ◌, pos, true, false, length, unsigned_abs, IfSome, Ok, Some, map, not};
-ghost use Rattle.sbx_domain.specs.Known.{known, range_at};
+ghost use Rattle.sbx_rules.specs.Known.{known, range_at};
 ghost use Rattle.sbx_image.specs.Rules.{parts_keep};
 ghost use Rattle.sbx_range.specs.Ranges.{is_empty};
 ghost use Rattle.sbx_rules.specs.Fuel.{IsEnough, IsPaid, IsWithinBudget};
@@ -14,9 +14,9 @@ ghost use Rattle.sbx_fuel.specs.Margins.{AreSome};
 use crate::starts::{all_negated, fuel_terms, names_none};
 use crate::sums::{least_at_start, less_forms, taken_by};
 use arrayvec::ArrayVec;
-use sbx_domain::{LOCATIONS, State};
 use sbx_form::FormTerm;
 use sbx_image::{Block, Function, Image, Range};
+use sbx_rules::{LOCATIONS, State};
 
 fn total(number: i128, least: i128, other: i128) -> i128
     requires number { unsigned_abs number ≤ 2 ^ 70 }

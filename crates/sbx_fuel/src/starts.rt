@@ -3,14 +3,14 @@ ghost use Rattle.std.specs.Prelude.{◌≡◌, ◌^◌, ◌<◌, ◌≤◌, leng
 ghost use Rattle.std.specs.List.{list_any};
 ghost use Rattle.arrayvec.specs.ArrayVec.{array_vec_len};
 ghost use Rattle.sbx_form.specs.Forms.{AreWithin};
-ghost use Rattle.sbx_domain.specs.Known.{cell_entry, range_at, range_of_entry, started};
+ghost use Rattle.sbx_rules.specs.Known.{cell_entry, range_at, range_of_entry, started};
 ghost use Rattle.sbx_rules.specs.Ways.{cells_of, counted, form_term, names_cell, out_cells};
 ghost use Rattle.sbx_fuel.specs.Least.{negated};
 
 use arrayvec::ArrayVec;
-use sbx_domain::LOCATIONS;
 use sbx_form::FormTerm;
 use sbx_image::{Block, Cell, Function, Range, Term};
+use sbx_rules::LOCATIONS;
 
 /// The range of a location among cells.
 fn cell_range(cells: &[Cell], location: u16) -> Option<Range>

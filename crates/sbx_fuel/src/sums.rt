@@ -6,16 +6,16 @@
 ghost use Rattle.std.specs.Prelude.{◌≡◌, ℕ, ◌+◌, ◌*◌, ◌^◌, ◌<◌, ◌≤◌, ◌*ℤ◌, length, unsigned_abs, IfSome};
 ghost use Rattle.arrayvec.specs.ArrayVec.{array_vec_len};
 ghost use Rattle.sbx_form.specs.Forms.{AreWithin, add_term, add_terms};
-ghost use Rattle.sbx_domain.specs.Known.{form_at, known, range_at, started};
+ghost use Rattle.sbx_rules.specs.Known.{form_at, known, range_at, started};
 ghost use Rattle.sbx_rules.specs.Ways.{cells_of};
 ghost use Rattle.sbx_fuel.specs.Least.{both, least_in, least_over, taken, taken_by};
 ghost use Rattle.sbx_fuel.specs.Margins.{less_terms, start_terms};
 
 use crate::starts::{negated, start_range};
 use arrayvec::ArrayVec;
-use sbx_domain::State;
 use sbx_form::{FormTerm, add_term, least_term, plus};
 use sbx_image::{Block, Function, Range};
+use sbx_rules::State;
 
 fn product(times: i128, number: i128) -> i128
     requires small_times { unsigned_abs times ≤ 2 ^ 31 }

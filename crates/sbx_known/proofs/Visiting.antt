@@ -2,7 +2,7 @@
 use Rattle.std.proofs.Common.{◌≡◌, Bool, true, false, ◌++◌, Option, Some, None, refl}
 use Rattle.std.specs.Prelude.{◌||◌}
 use Rattle.std.specs.List.{list_any}
-use Rattle.sbx_domain.specs.Known.{Known}
+use Rattle.sbx_rules.specs.Known.{Known}
 use Rattle.sbx_rules.specs.Ways.{Visit}
 use Rattle.sbx_known.specs.declared.courses.Course.{Course}
 use Rattle.sbx_known.specs.Courses.{is_any, visit_of, visits_of}

@@ -2,7 +2,7 @@
 ghost use Rattle.std.specs.Prelude.{◌≡◌, ◌-◌, ◌<◌, ℕ, IfSome, None, Ok, Some, false, length};
 ghost use Rattle.std.specs.List.{list_any};
 ghost use Rattle.v8_meaning.specs.declared.operation.Operation.TheVariants.{BranchOnCondition};
-ghost use Rattle.sbx_domain.specs.Known.{Known, known};
+ghost use Rattle.sbx_rules.specs.Known.{Known, known};
 ghost use Rattle.sbx_image.specs.Rules.{parts_keep};
 ghost use Rattle.sbx_range.specs.Refining.{opposite};
 ghost use Rattle.sbx_rules.specs.Places.{IsPlace, function_at};
@@ -13,9 +13,9 @@ ghost use Rattle.sbx_known.specs.Spots.{IsSpot, visits_from};
 
 use crate::places::{address_of, find_block, function_at};
 use crate::spot::Spot;
-use sbx_domain::State;
 use sbx_faults::ends_run;
 use sbx_image::Image;
+use sbx_rules::State;
 use v8_formats::Branch;
 use v8_meaning::{Operation, is_always, target};
 use v8_word::Cond;

@@ -1,7 +1,7 @@
 //! What a word does to what is known.
 ghost use Rattle.std.specs.Prelude.{◌≡◌, if◌then◌else◌};
-ghost use Rattle.sbx_domain.specs.Known.{known};
-ghost use Rattle.sbx_domain.specs.Transfer.{transferred};
+ghost use Rattle.sbx_rules.specs.Known.{known};
+ghost use Rattle.sbx_rules.specs.Transfer.{transferred};
 ghost use Rattle.sbx_rules.specs.Places.{function_at};
 ghost use Rattle.sbx_rules.specs.Ways.{after_call};
 ghost use Rattle.sbx_known.specs.Courses.{runs};
@@ -10,8 +10,8 @@ ghost use Rattle.sbx_known.specs.Spots.{IsSpot};
 use crate::courses::{Courses, runs};
 use crate::places::function_at;
 use crate::spot::Spot;
-use sbx_domain::State;
 use sbx_image::Image;
+use sbx_rules::State;
 use v8_meaning::Operation;
 
 /// What a word that runs does, in a frame of so many bytes; one that is annulled does nothing.

@@ -6,8 +6,8 @@ ghost use Rattle.sbx_rules.specs.Ways.{budget_of_callee, weight_of_place};
 ghost use Rattle.sbx_known.specs.Spots.{IsSpot};
 
 use crate::places::{address_of, callee_of, function_at, word_of};
-use sbx_flat::{asked, weight_of};
 use sbx_image::Image;
+use sbx_rules::{asked, weight_of};
 use v8_meaning::Operation;
 
 /// A word of a block, what it asks for, and what the word before it does.

@@ -1,13 +1,13 @@
 //! What is known where a block begins.
 ghost use Rattle.std.specs.Prelude.{◌≡◌, ◌≤◌, ◌+◌, ◌<◌, Ok, length, slice_index_or, take};
-ghost use Rattle.sbx_domain.specs.Known.{known};
+ghost use Rattle.sbx_rules.specs.Known.{known};
 ghost use Rattle.sbx_image.specs.Rules.{parts_keep};
 ghost use Rattle.sbx_rules.specs.Ways.{out_cells, state_at};
 ghost use Rattle.sbx_known.specs.Spots.{IsBlock};
 
 use crate::places::{block_at, function_at};
-use sbx_domain::State;
 use sbx_image::{Cell, Image, Range};
+use sbx_rules::State;
 
 /// What stands in the place of a param that isn't there.
 const NONE: Range = Range {

@@ -2,7 +2,7 @@
 use Rattle.std.proofs.Common.{◌≡◌, ℕ, List, ◌++◌, Option, Some, None, ap, subst}
 use Rattle.std.specs.Prelude.{IfSome, slice_get}
 use Rattle.sbx_image.specs.declared.parts.Parts.{Parts}
-use Rattle.sbx_domain.specs.Known.{Known}
+use Rattle.sbx_rules.specs.Known.{Known}
 use Rattle.sbx_rules.specs.Ways.{Visit, visits_at}
 use Rattle.sbx_known.specs.declared.courses.Course.{Course}
 use Rattle.sbx_known.specs.declared.courses.Courses.{Courses}

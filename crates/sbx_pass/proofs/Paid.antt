@@ -2,7 +2,7 @@
 use Rattle.std.proofs.Common.{◌≡◌, ℕ, zero, suc, Bool, true, false, List, [], ◌∷◌, ◌++◌, map, Option, Some, None, refl, ap, subst, inl, inr}
 use Rattle.std.specs.Prelude.{◌&&◌, ◌||◌, ◌↔◌, ◌⊎◌, IsTrue, slice_get}
 use Rattle.sbx_image.specs.declared.parts.Parts.{Parts}
-use Rattle.sbx_domain.specs.Known.{Known}
+use Rattle.sbx_rules.specs.Known.{Known}
 use Rattle.sbx_rules.specs.Rules.{HasUnpaidEdge, now}
 use Rattle.sbx_rules.specs.Ways.{To, Visit, Way, fuel_at, state_at, visits_at, weight_to}
 use Rattle.sbx_rules.specs.Fuel.{IsPaid}

@@ -1,2 +1,7 @@
 pub mod Firsts
 pub mod Paying
+pub use Rattle.sbx_rules.specs.Verdicts
+pub use Rattle.sbx_rules.specs.declared.cause.Refusal
+pub use Rattle.sbx_rules.specs.Places
+pub use Rattle.sbx_rules.specs.declared.cause.Cause
+pub use Rattle.sbx_rules.specs.Rules

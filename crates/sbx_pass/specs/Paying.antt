@@ -1,7 +1,7 @@
 -- Where the fuel of a block has to last.
 use Rattle.std.specs.Prelude.{ℕ, Option, Some, None}
 use Rattle.sbx_image.specs.declared.parts.Parts.{Parts}
-use Rattle.sbx_domain.specs.Known.{Known}
+use Rattle.sbx_rules.specs.Known.{Known}
 use Rattle.sbx_rules.specs.Fuel.{IsPaid}
 use Rattle.sbx_rules.specs.Ways.{To, Way, fuel_at, state_at}
 use Rattle.sbx_known.specs.declared.courses.Course.{Course}

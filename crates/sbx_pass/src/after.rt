@@ -1,7 +1,7 @@
 //! The rules that look after a word: what is known then on each of its ways, and where they lead.
 ghost use Rattle.std.specs.Prelude.{◌≡◌, ◌&&◌, ◌||◌, ◌==◌, ◌<◌, ◌+◌, ◌*◌, ◌↔◌, IfSome, IsTrue, Ok, false, if◌then◌else◌, length, nat_lt, not, suc};
 ghost use Rattle.std.specs.List.{list_any};
-ghost use Rattle.sbx_domain.specs.Known.{Known, known};
+ghost use Rattle.sbx_rules.specs.Known.{Known, known};
 ghost use Rattle.sbx_fuel.specs.Least.{HasOnlyLocations};
 ghost use Rattle.sbx_image.specs.Rules.{parts_keep};
 ghost use Rattle.sbx_image.specs.Spelling.{IsCountedFunction};
@@ -16,15 +16,13 @@ ghost use Rattle.sbx_pass.specs.Paying.{IsPaidOn};
 ghost use Rattle.sbx_known.specs.Spots.{IsBlock, IsSpot};
 
 use crate::before::is_entry;
-use sbx_domain::State;
-use sbx_faults::{ends_run, has_cells, has_outs, is_call, is_return, lists_badly};
 use sbx_fuel::{is_enough, is_within_budget, lasts, names_strange};
 use sbx_image::{Function, Image};
 use sbx_known::{
-    Course, Courses, Going, Spot, block_at, comes_back, function_at, return_to, some_comes_back,
-    some_goes_past,
+    Course, Courses, Going, Spot, block_at, comes_back, ends_run, function_at, has_cells, has_outs,
+    is_call, is_return, lists_badly, return_to, some_comes_back, some_goes_past,
 };
-use sbx_rules::Cause;
+use sbx_rules::{Cause, State};
 
 /// Whether what is known is within what a block begins with: a function's first one with the params.
 fn keeps_cells(image: &Image, function: usize, block: usize, state: &State) -> bool

@@ -1,7 +1,7 @@
 //! The rules that look before a word: what it is, where it goes, and what it reads, writes and reaches on each of its ways.
 ghost use Rattle.std.specs.Prelude.{◌≡◌, ◌<◌, ◌+◌, ◌&&◌, ◌||◌, nat_le, not, ℕ};
 ghost use Rattle.sbx_image.specs.declared.parts.Parts.{Parts};
-ghost use Rattle.sbx_domain.specs.Known.{Known, known};
+ghost use Rattle.sbx_rules.specs.Known.{Known, known};
 ghost use Rattle.sbx_rules.specs.Operations.{access_of, is_call, is_framed, is_framed_return, is_restore, is_save, is_transfer, is_trap};
 ghost use Rattle.sbx_rules.specs.Rules.{Holds, branches_badly, enters_well, has_bad_shape, is_aligned_access, is_entry, is_later, is_placed_access, may_divide_by_zero, may_overflow, reads_undefined, runs_with, same_test, suits, touches_reserved};
 ghost use Rattle.sbx_rules.specs.Places.{ends_run};
@@ -10,15 +10,14 @@ ghost use Rattle.sbx_known.specs.Courses.{listed};
 ghost use Rattle.sbx_pass.specs.Firsts.{Tells};
 ghost use Rattle.sbx_known.specs.Spots.{IsSpot};
 
-use sbx_domain::State;
-use sbx_faults::{
-    ends_run, enters_well, is_aligned, is_call, is_declared, is_framed, is_framed_return,
-    is_no_instruction, is_placed, is_restore, is_save, is_transfer, is_trap, may_divide_by_zero,
-    may_overflow, reads_undefined, suits, touches_reserved,
-};
 use sbx_image::{Function, Image};
-use sbx_known::{Courses, Spot, branch_way, function_at, is_inner_edge, runs};
-use sbx_rules::Cause;
+use sbx_known::{
+    Courses, Spot, branch_way, ends_run, enters_well, function_at, is_aligned, is_call,
+    is_declared, is_framed, is_framed_return, is_inner_edge, is_no_instruction, is_placed,
+    is_restore, is_save, is_transfer, is_trap, may_divide_by_zero, may_overflow, reads_undefined,
+    runs, suits, touches_reserved,
+};
+use sbx_rules::{Cause, State};
 use v8_meaning::{Operation, is_admitted};
 
 /// Whether a word is the first of its function.

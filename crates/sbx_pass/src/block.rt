@@ -5,10 +5,9 @@ ghost use Rattle.sbx_pass.specs.Firsts.{IsFirstOfBlock, IsQuiet};
 ghost use Rattle.sbx_known.specs.Spots.{IsBlock};
 
 use crate::step::fault_at;
-use sbx_domain::State;
 use sbx_image::Image;
 use sbx_known::{spot_at, start, weight_of_spot, words_in};
-use sbx_rules::Cause;
+use sbx_rules::{Cause, State};
 use v8_meaning::Operation;
 
 /// The first word of a block that breaks a rule, by its number in the block, and of the rules that it breaks the one of least

@@ -7,3 +7,5 @@ mod block;
 mod step;
 
 pub use block::first_fault_in_block;
+pub use sbx_known::{address_of, function_at};
+pub use sbx_rules::{Cause, Refusal, State};

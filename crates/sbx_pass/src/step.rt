@@ -1,6 +1,6 @@
 //! All rules at one word, and the step to the next.
 ghost use Rattle.std.specs.Prelude.{◌≡◌, ◌<◌, ℕ, false, suc, None};
-ghost use Rattle.sbx_domain.specs.Known.{known};
+ghost use Rattle.sbx_rules.specs.Known.{known};
 ghost use Rattle.sbx_rules.specs.Places.{words_in};
 ghost use Rattle.sbx_rules.specs.Rules.{Holds, has_bad_shape};
 ghost use Rattle.sbx_rules.specs.Ways.{after_word, state_at, visits_at, weight_to};
@@ -10,10 +10,9 @@ ghost use Rattle.sbx_known.specs.Spots.{IsSpot};
 
 use crate::after::{end_call, fault_after};
 use crate::before::fault_before;
-use sbx_domain::State;
 use sbx_image::Image;
 use sbx_known::{Courses, Spot, courses_of, perform_on};
-use sbx_rules::Cause;
+use sbx_rules::{Cause, State};
 
 /// The first of the rules 13 to 18 that a word breaks, once it has run on its ways. The states go on to what is known then.
 fn fault_once_run(

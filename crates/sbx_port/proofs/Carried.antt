@@ -25,7 +25,7 @@ use Rattle.v8_core.specs.declared.turn.Turn.{Turn}
 use Rattle.v8_core.specs.Memory.{Memory, answers, fetches, moves, move_answered, move_through}
 use Rattle.v8_core.specs.Accesses.{World, world, access_of, is_user, place_of, transfer_ends, transfers}
 use Rattle.v8_core.specs.Steps.{acts, attempts, ends, executes, executes_or, goes_on, next, proceeds, ran_event, tries, trap_event, turn_of}
-use Rattle.v8_loaded.specs.Board.{Device, board}
+use Rattle.v8_board.specs.Board.{Device, board}
 
 -- ---- answers of two devices that are related by R wherever the first is in good order, F
 

@@ -17,7 +17,7 @@ use Rattle.v8_core.specs.declared.turn.Turn.{Turn}
 use Rattle.v8_core.specs.Accesses.{world}
 use Rattle.v8_core.specs.Memory.{answers, loaded_from}
 use Rattle.v8_core.specs.Steps.{next}
-use Rattle.v8_loaded.specs.Board.{Device, beside, board, board_load, board_store, device_base, device_load, device_store, gets, is_word, overwritten, seen, with_ram}
+use Rattle.v8_board.specs.Board.{Device, beside, board, board_load, board_store, device_base, device_load, device_store, gets, is_word, overwritten, seen, with_ram}
 use Rattle.v8_board.specs.declared.outcome.Counts.{Counts}
 use Rattle.v8_board.specs.declared.outcome.Ending.{Ending}
 use Rattle.v8_board.specs.Seen.{State, counts_unless, ending_by, ending_of, turned}

@@ -1,6 +1,6 @@
 -- Boards of which one has more input than is known yet, and whose output was partly taken away.
 use Rattle.std.specs.Prelude.{ℕ, ◌≡◌, ◌≤◌, Bool, true, false, List, [], ◌∷◌, ◌++◌, length}
-use Rattle.v8_loaded.specs.Board.{Device}
+use Rattle.v8_board.specs.Board.{Device}
 use Rattle.v8_board.specs.Seen.{State, turned}
 
 -- what stands in the first board's input past the bytes that are known: a mark and more, or nothing where the end was met

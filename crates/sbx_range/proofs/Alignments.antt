@@ -5,10 +5,10 @@ use Rattle.std.proofs.lemmas.Bool.{cases_lt}
 use Rattle.std.proofs.lemmas.Nat.{or_comm, xor_lt}
 use Rattle.std.proofs.lemmas.Int.{ints}
 use Rattle.std.proofs.lemmas.Bool.Decides.{nat_tests}
-use Rattle.v8_word.specs.declared.Icc.{Icc}
+use Rattle.v8_alu.specs.Icc.{Icc}
 use Rattle.v8_alu.specs.Outcomes.{outcome, complement, divided, tagged_codes, tagged_of, tagged_outcome}
 use Rattle.v8_alu.specs.declared.AluOut.{AluOut}
-use Rattle.v8_word.specs.Word.{sign_extend}
+use Rattle.v8_alu.specs.Word.{sign_extend}
 use Rattle.v8_alu.specs.declared.TaggedOp.TheVariants.{TaggedAdd, TaggedSub}
 use Rattle.v8_alu.specs.Results.{signed, is_signed_word, is_tagged, low_word, signed_product, sum, sum_codes, difference, difference_codes, shifted_left, shifted_right, shifted_right_signed}
 use Rattle.v8_alu.specs.declared.Op.{Op}

@@ -3,8 +3,8 @@ use Rattle.std.proofs.Common.{◌≡◌, ◌≢◌, ℕ, ◌^◌, ◌<◌, ◌�
 use Rattle.std.specs.Prelude.{◌==◌, not, nat_le, ℤ, pos, negsuc, ◌-ℤ◌, ◌≤ℤ◌, ◌<ℤ◌}
 use Rattle.std.proofs.lemmas.Bool.Decides.{nat_tests, Decides-eqb}
 use Rattle.std.proofs.lemmas.Int.{ints}
-use Rattle.v8_word.specs.Conditions.{holds, differ}
-use Rattle.v8_word.specs.declared.Cond.TheVariants.{Less}
+use Rattle.v8_alu.specs.Conditions.{holds, differ}
+use Rattle.v8_alu.specs.Cond.TheVariants.{Less}
 use Rattle.v8_alu.specs.Results.{signed, is_signed_word, difference, difference_codes}
 use Rattle.sbx_range.proofs.Words.{signed-word, is_signed_word-says}
 use Rattle.sbx_range.proofs.Additions.{signed-difference}

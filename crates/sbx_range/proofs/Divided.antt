@@ -5,7 +5,7 @@ use Rattle.std.specs.Int.{cast_signed, w64}
 use Rattle.std.proofs.lemmas.Nat.{le-div}
 use Rattle.std.proofs.Math.Nat.{div-mul-le_self, div-le_self, mul-le-mul_left}
 use Rattle.std.proofs.lemmas.Int.{ints}
-use Rattle.v8_word.specs.declared.Icc.{Icc}
+use Rattle.v8_alu.specs.Icc.{Icc}
 use Rattle.v8_alu.specs.Outcomes.{divided}
 use Rattle.v8_alu.specs.Results.{signed, dividend, quotient, signed_quotient, nearest_word}
 use Rattle.v8_alu.specs.declared.Division.{Division}

@@ -6,10 +6,10 @@ use Rattle.std.specs.Ordering.{int_eq}
 use Rattle.std.proofs.lemmas.Bool.{cases_lt}
 use Rattle.std.proofs.lemmas.Bool.Decides.{nat_tests, Decides-int_eq, Decides-eqb}
 use Rattle.std.proofs.lemmas.Int.{ints, clamps, by_lt_z}
-use Rattle.v8_word.specs.Conditions.{holds}
-use Rattle.v8_word.specs.declared.Icc.{Icc}
-use Rattle.v8_word.specs.declared.Cond.{Cond}
-use Rattle.v8_word.specs.declared.Cond.TheVariants.{Never, Equal, LessOrEqual, Less, LessOrEqualUnsigned, CarrySet, Negative, OverflowSet, Always, NotEqual, Greater, GreaterOrEqual, GreaterUnsigned, CarryClear, Positive, OverflowClear}
+use Rattle.v8_alu.specs.Conditions.{holds}
+use Rattle.v8_alu.specs.Icc.{Icc}
+use Rattle.v8_alu.specs.Cond.{Cond}
+use Rattle.v8_alu.specs.Cond.TheVariants.{Never, Equal, LessOrEqual, Less, LessOrEqualUnsigned, CarrySet, Negative, OverflowSet, Always, NotEqual, Greater, GreaterOrEqual, GreaterUnsigned, CarryClear, Positive, OverflowClear}
 use Rattle.v8_alu.specs.Results.{signed, codes, difference_codes}
 use Rattle.sbx_image.specs.declared.parts.Range.{Range}
 use Rattle.sbx_range.specs.declared.refining.Pair.{Pair}

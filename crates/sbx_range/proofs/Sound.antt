@@ -2,7 +2,7 @@
 use Rattle.std.proofs.Common.{◌≡◌, ℕ, ◌-◌, ◌*◌, ◌%◌, ◌^◌, ◌<◌, Bool, true, false, refl, sym, ap, ◌∙◌, subst, arith, Some, None}
 use Rattle.std.specs.Prelude.{◌&&◌, if◌then◌else◌, bit_xor}
 use Rattle.std.proofs.lemmas.Nat.{mod_below, mul-le, or_lt}
-use Rattle.v8_word.specs.declared.Icc.{Icc}
+use Rattle.v8_alu.specs.Icc.{Icc}
 use Rattle.v8_alu.specs.Outcomes.{outcome, complement, tagged_of}
 use Rattle.v8_alu.specs.Results.{high_word, signed_product, step_y}
 use Rattle.v8_alu.specs.declared.AluOut.{AluOut}

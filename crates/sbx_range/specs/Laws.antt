@@ -1,10 +1,10 @@
 -- The laws of ranges: each result of the result table lies in the range that the table of ranges gives.
 -- Intervals stay by the ends alone, whatever alignments the operands have; alignments stay by the alignments, at words of the intervals.
 use Rattle.std.specs.Prelude.{ℕ, ◌-◌, ◌<◌, ◌≤◌, ◌^◌, ◌≡◌, Bool, true, false, not, ◌==◌, ◌||◌, nat_le, pos, negsuc, ◌+ℤ◌, ◌-ℤ◌, ◌≤ℤ◌, Option, Some, None}
-use Rattle.v8_word.specs.Conditions.{holds}
-use Rattle.v8_word.specs.Word.{sign_extend}
-use Rattle.v8_word.specs.declared.Cond.{Cond}
-use Rattle.v8_word.specs.declared.Icc.{Icc}
+use Rattle.v8_alu.specs.Conditions.{holds}
+use Rattle.v8_alu.specs.Word.{sign_extend}
+use Rattle.v8_alu.specs.Cond.{Cond}
+use Rattle.v8_alu.specs.Icc.{Icc}
 use Rattle.v8_alu.specs.Outcomes.{outcome, divided, division_of, tagged_outcome}
 use Rattle.v8_alu.specs.Results.{signed, sum, difference, difference_codes}
 use Rattle.v8_alu.specs.declared.AluOut.{AluOut}

@@ -1,6 +1,6 @@
 -- The table of ranges, by the operations of the result table.
 use Rattle.std.specs.Prelude.{Bool, true, false, ◌&&◌, nat_le, if◌then◌else◌}
-use Rattle.v8_word.specs.declared.Icc.{Icc}
+use Rattle.v8_alu.specs.Icc.{Icc}
 use Rattle.v8_alu.specs.Outcomes.{outcome}
 use Rattle.v8_alu.specs.declared.Op.{Op}
 use Rattle.v8_alu.specs.declared.Op.TheVariants.{Add, AddCc, Sub, SubCc, And, AndCc, Andn, AndnCc, Or, OrCc, Orn, OrnCc, Xor, XorCc, Xnor, XnorCc, Sll, Srl, Sra, Umul, UmulCc, Smul, SmulCc, TaddCc, TsubCc, MulsCc}

@@ -13,7 +13,7 @@ mod table;
 pub use bounds::{all, is_single, is_within, known};
 pub use quotients::excludes_zero;
 pub use refining::{Pair, common, refine, refine_by_value};
-pub use sbx_image::Range;
+pub use sbx_image::{Cell, Range};
 pub use sums::{differences_fit, sums_fit};
 pub use table::{
     BYTE_OR_END, SIGNED_BYTE, SIGNED_HALF, UNSIGNED_BYTE, UNSIGNED_HALF, range_of,

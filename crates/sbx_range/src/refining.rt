@@ -6,7 +6,7 @@ ghost use Rattle.sbx_range.specs.Refining.{above_unsigned, below, below_unsigned
 
 use crate::bounds::{greatest_alignment, is_natural, is_single, known};
 use sbx_image::Range;
-use v8_word::Cond;
+use v8_alu::Cond;
 
 /// The ranges of two words that were compared.
 #[derive(Clone, Copy)]

@@ -9,8 +9,7 @@ use crate::quotients::range_divide;
 use crate::shifts::{range_sll, range_sra, range_srl};
 use crate::sums::{differences_fit, range_add, range_smul, range_sub, range_umul, sums_fit};
 use sbx_image::Range;
-use v8_alu::{Op, TaggedOp, alu};
-use v8_word::Icc;
+use v8_alu::{Icc, Op, TaggedOp, alu};
 
 /// What LDUB and LDSTUB load.
 pub const UNSIGNED_BYTE: Range = Range {

@@ -9,10 +9,10 @@ use Rattle.v8_meaning.specs.Operations.{operation_of}
 use Rattle.sbx_image.specs.declared.parts.Parts.{Parts}
 use Rattle.sbx_image.specs.declared.parts.Range.{Range}
 use Rattle.sbx_form.specs.Forms.{Cells, add_term, add_terms}
-use Rattle.sbx_range.specs.Ranges.{range}
-use Rattle.sbx_range.specs.Rows.{range_add, range_or, range_sub}
-use Rattle.sbx_range.specs.Table.{range_of, row_of}
-use Rattle.sbx_range.specs.Refining.{both_of, common, narrowed, narrowed_by_value, refine, refine_by_value, some_pair, some_range, without}
+use Rattle.sbx_form.specs.Ranges.{range}
+use Rattle.sbx_form.specs.Rows.{range_add, range_or, range_sub}
+use Rattle.sbx_form.specs.Table.{range_of, row_of}
+use Rattle.sbx_form.specs.Refining.{both_of, common, narrowed, narrowed_by_value, refine, refine_by_value, some_pair, some_range, without}
 use Rattle.sbx_domain.specs.declared.entry.Entry.{Entry}
 use Rattle.sbx_domain.specs.Forms.{form_value, is_kept}
 use Rattle.sbx_domain.specs.Known.{cell_entry, is_location, range_at, range_of_entry, started, with_entry}

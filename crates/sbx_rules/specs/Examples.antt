@@ -6,7 +6,7 @@ use Rattle.sbx_image.specs.declared.parts.Function.{Function}
 use Rattle.sbx_image.specs.declared.parts.Kind.TheVariants.{Framed, Leaf}
 use Rattle.sbx_image.specs.declared.parts.Parts.{Parts}
 use Rattle.sbx_image.specs.declared.parts.Term.{Term}
-use Rattle.sbx_range.specs.Ranges.{range}
+use Rattle.sbx_form.specs.Ranges.{range}
 use Rattle.sbx_rules.specs.declared.cause.Cause.{Cause}
 use Rattle.sbx_rules.specs.declared.cause.Cause.TheVariants.{BadCall, UndefinedRead, ReservedRegister, UnkeptCells, OutOfFuel, OutOfStack, UnkeptResults, BadEntry}
 use Rattle.sbx_rules.specs.declared.cause.Refusal.{Refusal}

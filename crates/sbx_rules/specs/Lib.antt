@@ -6,3 +6,13 @@ pub mod Fuel
 pub mod Rules
 pub mod Verdicts
 pub mod Examples
+pub use Rattle.sbx_domain.specs.Known
+pub use Rattle.sbx_domain.specs.Results
+pub use Rattle.sbx_domain.specs.Transfer
+pub use Rattle.sbx_domain.specs.Forms
+pub use Rattle.sbx_domain.specs.declared.entry.Entry
+pub use Rattle.sbx_domain.specs.declared.relation.Related
+pub use Rattle.sbx_domain.specs.declared.relation.Relation
+pub use Rattle.sbx_domain.specs.Refining
+pub use Rattle.sbx_domain.specs.Fits
+pub use Rattle.sbx_domain.specs.Effects

@@ -19,7 +19,7 @@ use Rattle.sbx_image.specs.declared.parts.Function.{Function}
 use Rattle.sbx_image.specs.declared.parts.Kind.{Kind}
 use Rattle.sbx_image.specs.declared.parts.Kind.TheVariants.{Leaf, Framed}
 use Rattle.sbx_image.specs.declared.parts.Range.{Range}
-use Rattle.sbx_flat.specs.Effects.{service_of}
+use Rattle.sbx_domain.specs.Effects.{service_of}
 use Rattle.sbx_domain.specs.Known.{Known}
 use Rattle.sbx_domain.specs.Results.{address_of, operand_entry, register_entry}
 use Rattle.sbx_domain.specs.Transfer.{frame_word_of, offset_from_sp}

@@ -9,8 +9,8 @@ use Rattle.sbx_image.specs.declared.parts.Block.{Block}
 use Rattle.sbx_image.specs.declared.parts.Function.{Function}
 use Rattle.sbx_image.specs.declared.parts.Kind.TheVariants.{Leaf}
 use Rattle.sbx_image.specs.declared.parts.Parts.{Parts}
-use Rattle.sbx_flat.specs.Effects.{service_of}
-use Rattle.sbx_flat.specs.Turns.{asked}
+use Rattle.sbx_domain.specs.Effects.{service_of}
+use Rattle.sbx_domain.specs.Turns.{asked}
 
 -- ---- functions and blocks by number
 

@@ -20,10 +20,10 @@ use Rattle.sbx_image.specs.declared.parts.Kind.TheVariants.{Leaf, Framed}
 use Rattle.sbx_image.specs.declared.parts.Parts.{Parts}
 use Rattle.sbx_image.specs.declared.parts.Range.{Range}
 use Rattle.sbx_image.specs.declared.services.Services.{Services}
-use Rattle.sbx_flat.specs.Effects.{declares}
-use Rattle.sbx_flat.specs.Runs.{data_start}
-use Rattle.sbx_range.specs.Ranges.{is_within}
-use Rattle.sbx_range.specs.Table.{tagged_fits}
+use Rattle.sbx_domain.specs.Effects.{declares}
+use Rattle.sbx_domain.specs.Runs.{data_start}
+use Rattle.sbx_form.specs.Ranges.{is_within}
+use Rattle.sbx_form.specs.Table.{tagged_fits}
 use Rattle.sbx_domain.specs.declared.entry.Entry.{Entry}
 use Rattle.sbx_domain.specs.Forms.{Form}
 use Rattle.sbx_domain.specs.Known.{Known, range_at}

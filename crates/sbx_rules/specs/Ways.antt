@@ -12,9 +12,9 @@ use Rattle.sbx_image.specs.declared.parts.Function.{Function}
 use Rattle.sbx_image.specs.declared.parts.Parts.{Parts}
 use Rattle.sbx_image.specs.declared.parts.Range.{Range}
 use Rattle.sbx_image.specs.declared.parts.Term.{Term}
-use Rattle.sbx_flat.specs.Runs.{weight_of}
+use Rattle.sbx_domain.specs.Runs.{weight_of}
 use Rattle.sbx_form.specs.declared.terms.FormTerm.{FormTerm}
-use Rattle.sbx_range.specs.Refining.{opposite}
+use Rattle.sbx_form.specs.Refining.{opposite}
 use Rattle.sbx_domain.specs.Forms.{Form}
 use Rattle.sbx_domain.specs.Known.{Known, started}
 use Rattle.sbx_domain.specs.Refining.{refined}

@@ -7,3 +7,6 @@ mod cause;
 pub mod laws;
 
 pub use cause::{Cause, Refusal};
+pub use sbx_domain::{
+    Entry, LOCATIONS, State, asked, declares, frame_word_of, offset_from_sp, service_of, weight_of,
+};

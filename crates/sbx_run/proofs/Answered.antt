@@ -2,7 +2,7 @@
 use Rattle.std.proofs.Common.{◌≡◌, ℕ, zero, suc, List, [], sym, ap, ◌∙◌, subst}
 use Rattle.v8_memory.specs.Board.{Device}
 use Rattle.v8_loaded.specs.States.{IsState}
-use Rattle.v8_contained.proofs.States.{states_stay}
+use Rattle.v8_board.proofs.States.{states_stay}
 use Rattle.v8_board.specs.declared.outcome.Ending.{Ending}
 use Rattle.v8_board.specs.declared.outcome.Ending.TheVariants.{Exit}
 use Rattle.v8_board.specs.declared.outcome.Outcome.{Outcome}

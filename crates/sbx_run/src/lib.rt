@@ -10,6 +10,7 @@ mod windows;
 pub use boards::{Ended, run_board};
 pub use limits::tells_limits;
 pub use runner::{Finished, run_accepted};
+pub use sbx_image::{Image, ImageFault, Services, parse};
 pub use sbx_raw::{Ending, Outcome, PageUse, Raw, RunFault, run_raw, trace};
 pub use sbx_verify::{Accepted, Cause, Refusal, budget, verify};
 pub use windows::run_windows;

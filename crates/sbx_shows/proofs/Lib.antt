@@ -43,3 +43,5 @@ pub mod Whole
 pub mod Overflow
 pub mod Underflow
 pub mod Retries
+pub use Rattle.v8_board.proofs.Placed
+pub use Rattle.v8_board.proofs.Stays

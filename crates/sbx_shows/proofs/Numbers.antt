@@ -20,7 +20,7 @@ use Rattle.v8_loaded.proofs.Stack.{word_there}
 use Rattle.v8_board.specs.Marks.{bit_of}
 use Rattle.v8_board.specs.Start.{pages_of}
 use Rattle.v8_board.proofs.Placed.{pages_few}
-use Rattle.v8_contained.proofs.Stays.{word_kept}
+use Rattle.v8_board.proofs.Stays.{word_kept}
 use Rattle.sbx_flat.specs.Parts.{Parts}
 use Rattle.sbx_flat.specs.Memory.{Bytes, byte_of, followed_by, number_at, with_number}
 use Rattle.sbx_flat.specs.Registers.{Registers}

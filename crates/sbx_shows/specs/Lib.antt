@@ -5,3 +5,9 @@ pub mod Turns
 pub mod Steps
 pub mod Advances
 pub mod Laws
+pub use Rattle.v8_board.specs.declared.outcome.Counts
+pub use Rattle.v8_board.specs.Runs
+pub use Rattle.v8_board.specs.Seen
+pub use Rattle.v8_board.specs.Start
+pub use Rattle.v8_board.specs.declared.outcome.Ending
+pub use Rattle.v8_board.specs.Counting

@@ -21,11 +21,11 @@ use Rattle.sbx_range.proofs.Alignments.{of_range_of}
 use Rattle.sbx_range.proofs.Multiples.{aligned-fewer}
 use Rattle.sbx_range.proofs.Sound.{in_range_of}
 use Rattle.sbx_range.proofs.Words.{both_true, signed-word}
-use Rattle.sbx_domain.specs.declared.entry.Entry.{Entry}
-use Rattle.sbx_domain.specs.Fits.{HasAlignment}
-use Rattle.sbx_domain.specs.Known.{range_of_entry}
-use Rattle.sbx_domain.specs.Results.{address_of}
-use Rattle.sbx_domain.specs.Transfer.{is_word_offset, word_at_offset}
+use Rattle.sbx_rules.specs.Entry.{Entry}
+use Rattle.sbx_rules.specs.Fits.{HasAlignment}
+use Rattle.sbx_rules.specs.Known.{range_of_entry}
+use Rattle.sbx_rules.specs.Results.{address_of}
+use Rattle.sbx_rules.specs.Transfer.{is_word_offset, word_at_offset}
 use Rattle.sbx_fits.proofs.Entries.{Has}
 use Rattle.sbx_rules.specs.Rules.{is_aligned_range, is_in_data, is_in_frame, is_multiple_of_4, needed_alignment}
 

@@ -1,5 +1,5 @@
 -- Where a run comes to after a word: the next word, another block, a callee, or back to a caller.
-use Rattle.sbx_domain.specs.declared.entry.Entry.{Entry}
+use Rattle.sbx_rules.specs.Entry.{Entry}
 use Rattle.std.proofs.Common.{◌≡◌, ◌≢◌, ℕ, zero, suc, ◌+◌, ◌-◌, ◌%◌, ◌<◌, Bool, true, false, List, length, Option, Some, None, refl, sym, ap, ◌∙◌, subst, arith}
 use Rattle.std.specs.Prelude.{pos, ◌+ℤ◌, ◌-ℤ◌, ◌≤ℤ◌, ◌&&◌, nat_lt, if◌then◌else◌, slice_get}
 use Rattle.std.proofs.lemmas.Bool.Decides.{nat_tests}
@@ -15,15 +15,15 @@ use Rattle.sbx_flat.specs.Runs.{budget, weight_of}
 use Rattle.sbx_rules.specs.Fuel.{IsPaid}
 use Rattle.sbx_rules.specs.Rules.{has_cells}
 use Rattle.sbx_rules.specs.Operations.{is_call, is_framed, is_return}
-use Rattle.sbx_domain.specs.Fits.{Fits, HasAlignment, HasForm, HasInterval}
-use Rattle.sbx_domain.specs.Known.{Known, range_of_entry, form_of_entry}
-use Rattle.sbx_domain.specs.Forms.{form_value}
+use Rattle.sbx_rules.specs.Fits.{Fits, HasAlignment, HasForm, HasInterval}
+use Rattle.sbx_rules.specs.Known.{Known, range_of_entry, form_of_entry}
+use Rattle.sbx_rules.specs.Forms.{form_value}
 use Rattle.sbx_rules.specs.Ways.{Next, Past, To, Visit, Way, after_call, after_word, budget_of_callee, cells_at, falls, falls_to, fuel_at, state_at, visits_after, visits_at, weight_of_place, weight_to}
 use Rattle.sbx_rules.specs.Places.{IsPlace, address_of, callee_at, callee_before, callee_of, ends_run, function_at, op_at, op_before, words_in}
 use Rattle.sbx_sound.proofs.Running.{After, At, Follows, GoesTo, IsThere, IsVisit, bytes_of, left_to_all, straight_visit}
 use Rattle.sbx_form.specs.Forms.{Cells}
 use Rattle.sbx_sound.proofs.Shared.{AreStored, Open, Shared}
-use Rattle.sbx_domain.specs.Transfer.{is_in, saved, transferred}
+use Rattle.sbx_rules.specs.Transfer.{is_in, saved, transferred}
 use Rattle.sbx_sound.proofs.Frames.{moved_in}
 use Rattle.sbx_sound.proofs.Ledger.{edge_pays, fits_begin, near_in_cells, numbers, one_edge, one_word}
 

@@ -9,9 +9,9 @@ use Rattle.v8_meaning.specs.declared.operation.Operation.TheVariants.{BranchOnCo
 use Rattle.v8_meaning.specs.Admitted.{is_admitted}
 use Rattle.sbx_image.specs.declared.parts.Function.{Function}
 use Rattle.sbx_image.specs.declared.parts.Parts.{Parts}
-use Rattle.sbx_domain.specs.Forms.{Form}
-use Rattle.sbx_domain.specs.Known.{Known}
-use Rattle.sbx_domain.specs.Transfer.{transferred}
+use Rattle.sbx_rules.specs.Forms.{Form}
+use Rattle.sbx_rules.specs.Known.{Known}
+use Rattle.sbx_rules.specs.Transfer.{transferred}
 use Rattle.sbx_rules.specs.declared.cause.Cause.{Cause}
 use Rattle.sbx_rules.specs.declared.cause.Cause.TheVariants.{NotAdmitted, BadShape, BadBranch, BadCall, UndefinedRead, ReservedRegister, Misaligned, OutOfBounds, ZeroDivisor, TagOverflow, UndeclaredService, UnkeptCells, OutOfFuel, OutOfStack, UnkeptResults, BadEntry}
 use Rattle.sbx_rules.specs.Fuel.{IsWithinBudget}

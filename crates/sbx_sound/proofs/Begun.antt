@@ -13,10 +13,10 @@ use Rattle.sbx_image.specs.declared.parts.Cell.{Cell}
 use Rattle.sbx_image.specs.declared.parts.Parts.{Parts}
 use Rattle.sbx_image.specs.declared.parts.Range.{Range}
 use Rattle.sbx_form.specs.Forms.{Cells}
-use Rattle.sbx_domain.specs.declared.entry.Entry.{Entry}
-use Rattle.sbx_domain.specs.Fits.{HasForm, HasInterval}
-use Rattle.sbx_domain.specs.Forms.{Form, form_of_location}
-use Rattle.sbx_domain.specs.Known.{cell_entry, form_of_entry, is_location, range_of_entry, started}
+use Rattle.sbx_rules.specs.Entry.{Entry}
+use Rattle.sbx_rules.specs.Fits.{HasForm, HasInterval}
+use Rattle.sbx_rules.specs.Forms.{Form, form_of_location}
+use Rattle.sbx_rules.specs.Known.{cell_entry, form_of_entry, is_location, range_of_entry, started}
 use Rattle.sbx_rules.specs.Fuel.{InCells}
 use Rattle.sbx_rules.specs.Places.{IsPlace, words_in}
 use Rattle.sbx_rules.specs.Verdicts.{Checked}

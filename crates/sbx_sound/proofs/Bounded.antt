@@ -15,9 +15,9 @@ use Rattle.sbx_image.specs.declared.parts.Term.{Term}
 use Rattle.sbx_flat.specs.Effects.{service_of}
 use Rattle.sbx_flat.specs.Runs.{weight_of, weight_of_service}
 use Rattle.sbx_form.specs.Forms.{Cells, terms_value}
-use Rattle.sbx_domain.specs.declared.entry.Entry.{Entry}
-use Rattle.sbx_domain.specs.Forms.{form_of_location, form_value}
-use Rattle.sbx_domain.specs.Known.{cell_entry, entry_of_cell, is_location, range_of_entry, started}
+use Rattle.sbx_rules.specs.Entry.{Entry}
+use Rattle.sbx_rules.specs.Forms.{form_of_location, form_value}
+use Rattle.sbx_rules.specs.Known.{cell_entry, entry_of_cell, is_location, range_of_entry, started}
 use Rattle.sbx_rules.specs.Fuel.{InCells}
 use Rattle.sbx_rules.specs.Places.{block_at, callee_before, op_at}
 use Rattle.sbx_rules.specs.Ways.{budget_of_callee, cells_at, counted, form_term, fuel_at, names_cell, state_at, weight_to}

@@ -13,8 +13,8 @@ use Rattle.sbx_image.specs.declared.parts.Parts.{Parts}
 use Rattle.sbx_flat.specs.Registers.{Words}
 use Rattle.sbx_flat.specs.Runs.{weight_of}
 use Rattle.sbx_rules.specs.Operations.{is_call, is_return}
-use Rattle.sbx_domain.specs.Fits.{Fits}
-use Rattle.sbx_domain.specs.Known.{Known}
+use Rattle.sbx_rules.specs.Fits.{Fits}
+use Rattle.sbx_rules.specs.Known.{Known}
 use Rattle.sbx_rules.specs.Rules.{is_defined, is_some}
 use Rattle.sbx_rules.specs.Ways.{Visit, Way, branch_way, falls, state_at, taken_visit, untaken_visit, visit_if, visits_after, visits_at, way_to}
 use Rattle.sbx_rules.specs.Places.{address_of, find_block, function_at, op_at, or_block}
@@ -22,7 +22,7 @@ use Rattle.sbx_range.specs.Refining.{opposite}
 use Rattle.sbx_sound.proofs.Running.{At, Follows, IsVisit, straight_visit}
 use Rattle.sbx_form.specs.Forms.{Cells}
 use Rattle.sbx_sound.proofs.Shared.{Shared}
-use Rattle.sbx_domain.specs.Refining.{refined}
+use Rattle.sbx_rules.specs.Refining.{refined}
 use Rattle.sbx_sound.proofs.Arrivals.{goes_plainly, next_there}
 use Rattle.sbx_sound.proofs.Effects.{branched_shared}
 use Rattle.sbx_sound.proofs.Transfers.{ComesStraight, light_ledger, slot_at}

@@ -10,8 +10,8 @@ use Rattle.sbx_image.specs.declared.parts.Parts.{Parts}
 use Rattle.sbx_flat.specs.Runs.{weight_of}
 use Rattle.sbx_range.specs.Refining.{opposite}
 use Rattle.sbx_form.specs.Forms.{Cells}
-use Rattle.sbx_domain.specs.Refining.{refined}
-use Rattle.sbx_domain.specs.Transfer.{transferred}
+use Rattle.sbx_rules.specs.Refining.{refined}
+use Rattle.sbx_rules.specs.Transfer.{transferred}
 use Rattle.sbx_rules.specs.Fuel.{IsPaid}
 use Rattle.sbx_rules.specs.Operations.{is_call, is_framed, is_framed_return, is_restore, is_return, is_save, is_transfer, is_trap}
 use Rattle.sbx_rules.specs.Places.{IsPlace, ends_run, function_at, op_at, words_in}

@@ -1,5 +1,5 @@
 -- A call: the CALL, its slot, and the SAVE of the callee.
-use Rattle.sbx_domain.specs.declared.entry.Entry.{Entry}
+use Rattle.sbx_rules.specs.Entry.{Entry}
 use Rattle.std.proofs.Common.{◌≡◌, ◌≢◌, ℕ, suc, ◌+◌, Bool, true, false, ◌∷◌, Option, Some, None, refl, sym, ap, ◌∙◌, subst, inl, arith}
 use Rattle.std.specs.Prelude.{pos, ◌≤ℤ◌, ◌==◌, ◌&&◌, ◌||◌, not, nat_le, if◌then◌else◌}
 use Rattle.std.proofs.lemmas.Bool.Decides.{nat_tests}
@@ -11,7 +11,7 @@ use Rattle.sbx_flat.specs.Effects.{does}
 use Rattle.sbx_flat.specs.Runs.{reached_by, weight_of}
 use Rattle.sbx_flat.specs.States.{State}
 use Rattle.sbx_rules.specs.Operations.{is_call, is_framed}
-use Rattle.sbx_domain.specs.Known.{Known, started, with_entry}
+use Rattle.sbx_rules.specs.Known.{Known, started, with_entry}
 use Rattle.sbx_rules.specs.Rules.{is_defined, is_some}
 use Rattle.sbx_rules.specs.Ways.{Visit, cells_at, state_at}
 use Rattle.sbx_rules.specs.Places.{address_of, callee_at, function_at, op_at, op_before}
@@ -19,7 +19,7 @@ use Rattle.sbx_sound.specs.Positive.{left_at}
 use Rattle.sbx_sound.proofs.Running.{At, straight_visit, tests, window_of}
 use Rattle.sbx_form.specs.Forms.{Cells}
 use Rattle.sbx_sound.proofs.Shared.{Lent, Own, Shared, Shows, Window}
-use Rattle.sbx_domain.specs.Transfer.{transferred}
+use Rattle.sbx_rules.specs.Transfer.{transferred}
 use Rattle.sbx_sound.proofs.Arrivals.{Left, after_no_call, left_by}
 use Rattle.sbx_sound.proofs.Calls.{CallsWell, enters, in_slot, kept_entry, opened}
 use Rattle.sbx_sound.proofs.Effects.{IsFewer, call_reaches, linked, moved_to, reaches_by}

@@ -5,7 +5,7 @@ use Rattle.std.proofs.lemmas.Int.{ints}
 use Rattle.v8_meaning.specs.declared.operation.Operation.TheVariants.{Call}
 use Rattle.sbx_image.specs.declared.parts.Parts.{Parts}
 use Rattle.sbx_form.specs.Forms.{Cells}
-use Rattle.sbx_domain.specs.Forms.{form_value}
+use Rattle.sbx_rules.specs.Forms.{form_value}
 use Rattle.sbx_rules.specs.Fuel.{InCells}
 use Rattle.sbx_rules.specs.Operations.{is_call, is_framed_return, is_restore, is_transfer}
 use Rattle.sbx_rules.specs.Places.{IsPlace, callee_at, ends_run, op_at, op_before}

@@ -10,16 +10,16 @@ use Rattle.sbx_flat.specs.Runs.{budget, weight_of}
 use Rattle.sbx_rules.specs.Fuel.{IsWithinBudget}
 use Rattle.sbx_rules.specs.Rules.{has_cells, is_defined}
 use Rattle.sbx_rules.specs.Operations.{is_call, is_framed}
-use Rattle.sbx_domain.specs.Fits.{Fits, HasAlignment, HasForm, HasInterval}
-use Rattle.sbx_domain.specs.Known.{Known, range_at, form_at, range_of_entry, form_of_entry}
-use Rattle.sbx_domain.specs.Forms.{form_value}
+use Rattle.sbx_rules.specs.Fits.{Fits, HasAlignment, HasForm, HasInterval}
+use Rattle.sbx_rules.specs.Known.{Known, range_at, form_at, range_of_entry, form_of_entry}
+use Rattle.sbx_rules.specs.Forms.{form_value}
 use Rattle.sbx_rules.specs.Ways.{Way, after_call, budget_of_callee, cells_at, falls, fuel_at, state_at, weight_to}
 use Rattle.sbx_rules.specs.Places.{address_of, callee_at, callee_before, function_at, op_at}
 use Rattle.sbx_sound.specs.Positive.{left_at}
 use Rattle.sbx_sound.proofs.Running.{At, Follows, GoesTo, IsOpen, IsThere, entry_of, left_to_all, straight_visit}
 use Rattle.sbx_form.specs.Forms.{Cells}
 use Rattle.sbx_sound.proofs.Shared.{AreStored, Open, Shared}
-use Rattle.sbx_domain.specs.Transfer.{called, transferred}
+use Rattle.sbx_rules.specs.Transfer.{called, transferred}
 use Rattle.sbx_sound.proofs.Arrivals.{Left, entry_bytes, framed_bytes, is_straight_visit, left_by}
 use Rattle.sbx_sound.proofs.Ledger.{fits_begin, near_in_cells, numbers, one_call}
 

@@ -26,11 +26,11 @@ use Rattle.sbx_flat.specs.Registers.{Words}
 use Rattle.sbx_flat.specs.Runs.{reached_by}
 use Rattle.sbx_flat.specs.States.{State, Goes, Fails, advanced, reg, with_reg}
 use Rattle.sbx_flat.specs.declared.path.Wrong.TheVariants.{StackPointer}
-use Rattle.sbx_domain.specs.declared.entry.Entry.{Entry}
-use Rattle.sbx_domain.specs.Fits.{Fits, with_word}
-use Rattle.sbx_domain.specs.Known.{Known, plain_entry, with_entry}
-use Rattle.sbx_domain.specs.Results.{address_of, operand_entry, register_entry}
-use Rattle.sbx_domain.specs.Transfer.{exchanged_range, frame_word_of, loaded_range, offset_from_sp, transferred, with_moved, word_at_offset}
+use Rattle.sbx_rules.specs.Entry.{Entry}
+use Rattle.sbx_rules.specs.Fits.{Fits, with_word}
+use Rattle.sbx_rules.specs.Known.{Known, plain_entry, with_entry}
+use Rattle.sbx_rules.specs.Results.{address_of, operand_entry, register_entry}
+use Rattle.sbx_rules.specs.Transfer.{exchanged_range, frame_word_of, loaded_range, offset_from_sp, transferred, with_moved, word_at_offset}
 use Rattle.sbx_fits.specs.Held.{Held, with_pairs}
 use Rattle.sbx_fits.proofs.Entries.{operand_has, operand_multiple, operand_word, register_has, register_multiple}
 use Rattle.sbx_fits.proofs.Memory.{data_keeps_fitting}

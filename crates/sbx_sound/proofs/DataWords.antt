@@ -20,11 +20,11 @@ use Rattle.sbx_flat.specs.Registers.{written}
 use Rattle.sbx_flat.specs.Runs.{AreBytes, reached_by}
 use Rattle.sbx_flat.specs.declared.path.Wrong.TheVariants.{Misaligned, NoService}
 use Rattle.sbx_flat.specs.States.{State, Turn, Goes, Fails, advanced, reg}
-use Rattle.sbx_domain.specs.Fits.{Fits}
+use Rattle.sbx_rules.specs.Fits.{Fits}
 use Rattle.sbx_rules.specs.Places.{function_at}
 use Rattle.sbx_sound.proofs.Running.{tests, window_of}
 use Rattle.sbx_sound.proofs.Shared.{KnownParts, Shared, Shows, Window, with_location}
-use Rattle.sbx_domain.specs.Transfer.{transferred}
+use Rattle.sbx_rules.specs.Transfer.{transferred}
 use Rattle.sbx_sound.proofs.Effects.{IsFewer, Reaches, moved_on, reaches_by, takes_one, with_word_known, writes_reach}
 use Rattle.sbx_sound.proofs.Frames.{IsFree, write_shows}
 use Rattle.sbx_sound.proofs.Safe.{ShowsSpot, Spot}

@@ -14,7 +14,7 @@ use Rattle.sbx_range.specs.Refining.{opposite}
 use Rattle.sbx_sound.proofs.Running.{At, straight_visit}
 use Rattle.sbx_form.specs.Forms.{Cells}
 use Rattle.sbx_sound.proofs.Shared.{Shared}
-use Rattle.sbx_domain.specs.Refining.{refined}
+use Rattle.sbx_rules.specs.Refining.{refined}
 use Rattle.sbx_sound.proofs.Arrivals.{goes_straight}
 use Rattle.sbx_sound.proofs.Safe.{Spot, Steps}
 use Rattle.sbx_sound.proofs.Transfers.{return_visit}

@@ -17,9 +17,9 @@ use Rattle.sbx_image.specs.declared.parts.Function.{Function}
 use Rattle.sbx_image.specs.declared.parts.Parts.{Parts}
 use Rattle.sbx_flat.specs.Effects.{address_in}
 use Rattle.sbx_flat.specs.States.{State, reg}
-use Rattle.sbx_domain.specs.Known.{Known, with_entry}
-use Rattle.sbx_domain.specs.Results.{address_of, operand_entry, register_entry}
-use Rattle.sbx_domain.specs.Transfer.{frame_word_of, offset_from_sp, transferred, with_moved, word_at_offset}
+use Rattle.sbx_rules.specs.Known.{Known, with_entry}
+use Rattle.sbx_rules.specs.Results.{address_of, operand_entry, register_entry}
+use Rattle.sbx_rules.specs.Transfer.{frame_word_of, offset_from_sp, transferred, with_moved, word_at_offset}
 use Rattle.sbx_fits.specs.Held.{Held}
 use Rattle.sbx_fits.proofs.Memory.{frame_words_keep_fitting}
 use Rattle.sbx_rules.specs.Operations.{Access, access_of, address_reads, frame_offset, frame_word_read, is_framed, moved_reads, reads_of, writes_of}

@@ -11,12 +11,12 @@ use Rattle.sbx_flat.specs.Registers.{Frame, Words, ins_of, with_slot}
 use Rattle.sbx_flat.specs.Runs.{reached_by}
 use Rattle.sbx_flat.specs.declared.path.Wrong.TheVariants.{Misaligned}
 use Rattle.sbx_flat.specs.States.{State, Turn, Goes, Fails, advanced, reg}
-use Rattle.sbx_domain.specs.Fits.{Fits}
+use Rattle.sbx_rules.specs.Fits.{Fits}
 use Rattle.sbx_rules.specs.Rules.{is_defined}
 use Rattle.sbx_rules.specs.Places.{function_at}
 use Rattle.sbx_sound.proofs.Running.{tests, window_of}
 use Rattle.sbx_sound.proofs.Shared.{KnownParts, Open, Own, Shared, Shows, ShowsCalls, base_below, slot_word, with_location}
-use Rattle.sbx_domain.specs.Transfer.{transferred}
+use Rattle.sbx_rules.specs.Transfer.{transferred}
 use Rattle.sbx_sound.proofs.Effects.{IsFewer, Reaches, load_reaches, moved_on, reaches_by, with_word_known}
 use Rattle.sbx_sound.proofs.Frames.{IsFree, slot_shows}
 use Rattle.sbx_sound.proofs.Safe.{ShowsSpot, Spot}

@@ -8,8 +8,8 @@ use Rattle.sbx_rules.specs.declared.cause.Cause.TheVariants.{UnkeptCells, OutOfF
 use Rattle.sbx_rules.specs.Rules.{Holds, has_cells, is_past, is_back, leads_to, leaves_to, misses_cells, now}
 use Rattle.sbx_rules.specs.Verdicts.{Checked}
 use Rattle.sbx_rules.specs.Fuel.{IsEnough, IsPaid}
-use Rattle.sbx_domain.specs.Known.{Known}
-use Rattle.sbx_domain.specs.Forms.{Form}
+use Rattle.sbx_rules.specs.Known.{Known}
+use Rattle.sbx_rules.specs.Forms.{Form}
 use Rattle.sbx_rules.specs.Ways.{To, Visit, cells_at, fuel_at, state_at, visits_at, weight_to}
 use Rattle.sbx_rules.specs.Places.{ends_run, function_at, op_at, words_in, address_of}
 use Rattle.sbx_sound.proofs.Running.{IsVisit}

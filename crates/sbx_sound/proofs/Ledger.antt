@@ -14,12 +14,12 @@ use Rattle.sbx_form.specs.declared.terms.FormTerm.{FormTerm}
 use Rattle.sbx_flat.specs.Registers.{Words}
 use Rattle.sbx_form.specs.Forms.{Cells, terms_value}
 use Rattle.sbx_sound.proofs.Shared.{Open}
-use Rattle.sbx_domain.specs.Fits.{Fits, HasAlignment, HasForm, HasInterval, Near, Relates}
+use Rattle.sbx_rules.specs.Fits.{Fits, HasAlignment, HasForm, HasInterval, Near, Relates}
 use Rattle.sbx_range.specs.Ranges.{InInterval, IsAligned}
-use Rattle.sbx_domain.specs.declared.entry.Entry.{Entry}
-use Rattle.sbx_domain.specs.Known.{Known, cell_entry, entry_of_cell, form_at, form_of_entry, is_location, range_at, range_of_entry, started}
-use Rattle.sbx_domain.specs.Forms.{Form, form_of_location, form_value}
-use Rattle.sbx_domain.specs.declared.relation.Relation.{Relation}
+use Rattle.sbx_rules.specs.Entry.{Entry}
+use Rattle.sbx_rules.specs.Known.{Known, cell_entry, entry_of_cell, form_at, form_of_entry, is_location, range_at, range_of_entry, started}
+use Rattle.sbx_rules.specs.Forms.{Form, form_of_location, form_value}
+use Rattle.sbx_rules.specs.Relation.{Relation}
 use Rattle.sbx_rules.specs.Fuel.{InCells, IsPaid, number_now, numbers_now}
 use Rattle.sbx_rules.specs.Rules.{has_cells, has_range}
 use Rattle.sbx_sound.proofs.Running.{AreOpen, left_to, left_to_all}

@@ -22,7 +22,7 @@ use Rattle.sbx_image.proofs.Limits.{block_kept, cell_kept, function_kept, locati
 use Rattle.sbx_image.proofs.Ordered.{in_order}
 use Rattle.sbx_range.proofs.Words.{signed-written, written-below}
 use Rattle.sbx_range.specs.Ranges.{InInterval}
-use Rattle.sbx_domain.specs.Known.{is_location}
+use Rattle.sbx_rules.specs.Known.{is_location}
 use Rattle.sbx_rules.specs.Places.{address_of, block_at, function_at, no_block, no_function, or_block, or_function, words_in}
 use Rattle.sbx_rules.specs.Ways.{cells_at, out_cells}
 use Rattle.sbx_sound.proofs.Order.{IsOrdered}

@@ -29,12 +29,12 @@ use Rattle.sbx_flat.specs.Runs.{reached_by}
 use Rattle.sbx_flat.specs.declared.path.Wrong.TheVariants.{TagOverflow, ZeroDivisor}
 use Rattle.sbx_flat.specs.States.{State, reg}
 use Rattle.sbx_form.specs.Forms.{Cells}
-use Rattle.sbx_domain.specs.declared.entry.Entry.{Entry}
-use Rattle.sbx_domain.specs.declared.relation.Relation.{Relation}
-use Rattle.sbx_domain.specs.Fits.{Fits, HasAlignment}
-use Rattle.sbx_domain.specs.Known.{Known, range_of_entry, with_entry}
-use Rattle.sbx_domain.specs.Results.{constant_entry, entry_of_y, operand_entry, quotient_of, register_entry, tagged_of as tagged_entry}
-use Rattle.sbx_domain.specs.Transfer.{division_sets_codes, transferred, with_codes}
+use Rattle.sbx_rules.specs.Entry.{Entry}
+use Rattle.sbx_rules.specs.Relation.{Relation}
+use Rattle.sbx_rules.specs.Fits.{Fits, HasAlignment}
+use Rattle.sbx_rules.specs.Known.{Known, range_of_entry, with_entry}
+use Rattle.sbx_rules.specs.Results.{constant_entry, entry_of_y, operand_entry, quotient_of, register_entry, tagged_of as tagged_entry}
+use Rattle.sbx_rules.specs.Transfer.{division_sets_codes, transferred, with_codes}
 use Rattle.sbx_fits.specs.Held.{Held, IsOperand, tagged_value}
 use Rattle.sbx_fits.proofs.Entries.{Has, operand_has, operand_multiple, operand_word, register_has, register_multiple}
 use Rattle.sbx_fits.proofs.Others.{moves_keep_fitting, quotients_keep_fitting, tagged_results_keep_fitting}

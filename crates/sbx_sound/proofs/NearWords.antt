@@ -23,9 +23,9 @@ use Rattle.v8_meaning.specs.declared.operation.Transfer.{Transfer as Moving}
 use Rattle.v8_meaning.specs.declared.operation.Transfer.TheVariants.{Exchange, Load, Store}
 use Rattle.sbx_flat.specs.Effects.{high_word, service_of}
 use Rattle.sbx_form.specs.Forms.{Cells}
-use Rattle.sbx_domain.specs.Fits.{Near, Words, with_word}
-use Rattle.sbx_domain.specs.Known.{Known}
-use Rattle.sbx_domain.specs.Transfer.{frame_word_of, is_global, is_in, is_out, is_word_offset, offset_from_sp, transferred, with_moved, word_at_offset}
+use Rattle.sbx_rules.specs.Fits.{Near, Words, with_word}
+use Rattle.sbx_rules.specs.Known.{Known}
+use Rattle.sbx_rules.specs.Transfer.{frame_word_of, is_global, is_in, is_out, is_word_offset, offset_from_sp, transferred, with_moved, word_at_offset}
 use Rattle.sbx_fits.proofs.Branches.{services_keep_fitting}
 use Rattle.sbx_fits.proofs.Frames.{calls_keep_fitting, frames_keep_fitting}
 use Rattle.sbx_fits.proofs.Memory.{data_keeps_fitting, frame_words_keep_fitting}

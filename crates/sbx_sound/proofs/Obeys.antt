@@ -12,8 +12,8 @@ use Rattle.v8_meaning.specs.declared.operation.Transfer.{Transfer as Moving}
 use Rattle.v8_meaning.specs.declared.operation.Transfer.TheVariants.{Load, Store, Exchange}
 use Rattle.sbx_image.specs.declared.parts.Function.{Function}
 use Rattle.sbx_image.specs.declared.parts.Parts.{Parts}
-use Rattle.sbx_domain.specs.Known.{Known}
-use Rattle.sbx_domain.specs.Transfer.{offset_from_sp}
+use Rattle.sbx_rules.specs.Known.{Known}
+use Rattle.sbx_rules.specs.Transfer.{offset_from_sp}
 use Rattle.sbx_rules.specs.Operations.{access_of, frame_offset, is_framed, is_restore, is_save, is_transfer, moves_word}
 use Rattle.sbx_rules.specs.Places.{ends_run, function_at, op_at, service_asked, word_of_place}
 use Rattle.sbx_rules.specs.Rules.{is_aligned_access, is_declared, is_entry, is_frame_size, is_placed_access, is_save_of, may_divide_by_zero, may_overflow, reads_undefined, touches_reserved}

@@ -13,8 +13,8 @@ use Rattle.sbx_image.specs.declared.parts.Range.{Range}
 use Rattle.sbx_range.proofs.Kept.{one_edge_is_left}
 use Rattle.sbx_range.specs.Refining.{opposite}
 use Rattle.sbx_form.specs.Forms.{Cells}
-use Rattle.sbx_domain.specs.Fits.{HasInterval, Near}
-use Rattle.sbx_domain.specs.Known.{Known, range_at, range_of_entry, started}
+use Rattle.sbx_rules.specs.Fits.{HasInterval, Near}
+use Rattle.sbx_rules.specs.Known.{Known, range_at, range_of_entry, started}
 use Rattle.sbx_fits.proofs.Branches.{refinement_keeps_fitting, starts_fit}
 use Rattle.sbx_rules.specs.Operations.{is_call, is_transfer}
 use Rattle.sbx_rules.specs.Places.{IsPlace, address_of, callee_before, ends_run, find_block, function_at, op_at, op_before, word_of_place, words_in}

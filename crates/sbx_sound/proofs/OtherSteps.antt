@@ -23,15 +23,15 @@ use Rattle.sbx_flat.specs.States.{State, Goes, Fails, advanced, reg}
 use Rattle.sbx_rules.specs.Fuel.{IsEnough, IsPaid}
 use Rattle.sbx_rules.specs.Rules.{has_cells, is_defined, is_some}
 use Rattle.sbx_rules.specs.Operations.{is_call, is_framed, is_return}
-use Rattle.sbx_domain.specs.Known.{Known}
-use Rattle.sbx_domain.specs.Forms.{form_value}
+use Rattle.sbx_rules.specs.Known.{Known}
+use Rattle.sbx_rules.specs.Forms.{form_value}
 use Rattle.sbx_rules.specs.Ways.{To, Visit, cells_at, falls, fuel_at, weight_to, state_at}
 use Rattle.sbx_rules.specs.Places.{address_of, function_at, op_at, op_before}
 use Rattle.sbx_range.specs.Refining.{opposite}
 use Rattle.sbx_sound.proofs.Running.{After, AreOpen, At, Follows, IsThere, bytes_of, left_to_all, stack_bottom, straight_visit, tests, window_of}
 use Rattle.sbx_form.specs.Forms.{Cells}
 use Rattle.sbx_sound.proofs.Shared.{Open, Shared, Shows, base_below, stack_start}
-use Rattle.sbx_domain.specs.Transfer.{is_in, saved, transferred}
+use Rattle.sbx_rules.specs.Transfer.{is_in, saved, transferred}
 use Rattle.sbx_sound.proofs.Arrivals.{after_annulled, after_edge, weight_next, after_save, entry_bytes}
 use Rattle.sbx_sound.proofs.Branches.{Refines, branch_taken, branch_untaken, taken, untaken}
 use Rattle.sbx_sound.proofs.CallSteps.{entry_window}

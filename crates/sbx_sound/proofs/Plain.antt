@@ -20,16 +20,16 @@ use Rattle.sbx_flat.specs.Effects.{does, operand_value, writes, writes_result}
 use Rattle.sbx_flat.specs.Runs.{reached_by}
 use Rattle.sbx_flat.specs.States.{State, reg}
 use Rattle.sbx_rules.specs.Operations.{reads_codes, reads_y}
-use Rattle.sbx_domain.specs.declared.entry.Entry.{Entry}
-use Rattle.sbx_domain.specs.Fits.{Fits}
-use Rattle.sbx_domain.specs.Known.{Known, with_entry, with_y}
-use Rattle.sbx_domain.specs.declared.relation.Relation.{Relation}
+use Rattle.sbx_rules.specs.Entry.{Entry}
+use Rattle.sbx_rules.specs.Fits.{Fits}
+use Rattle.sbx_rules.specs.Known.{Known, with_entry, with_y}
+use Rattle.sbx_rules.specs.Relation.{Relation}
 use Rattle.sbx_rules.specs.Rules.{is_defined, is_some}
 use Rattle.sbx_rules.specs.Places.{function_at}
 use Rattle.sbx_sound.proofs.Running.{tests, window_of}
 use Rattle.sbx_sound.proofs.Shared.{KnownParts, Shows, Window, with_location}
-use Rattle.sbx_domain.specs.Results.{register_entry, operand_entry, result_of}
-use Rattle.sbx_domain.specs.Transfer.{relation_of, sets_codes, transferred, with_codes}
+use Rattle.sbx_rules.specs.Results.{register_entry, operand_entry, result_of}
+use Rattle.sbx_rules.specs.Transfer.{relation_of, sets_codes, transferred, with_codes}
 use Rattle.sbx_sound.proofs.Effects.{IsFewer, Reaches, codes_show, moved_on, reaches_by, read_shown, with_codes_known, with_word_known, writes_reach}
 use Rattle.sbx_sound.proofs.Frames.{IsFree}
 use Rattle.sbx_sound.proofs.Safe.{ShowsSpot, Spot}

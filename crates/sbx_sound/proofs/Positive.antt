@@ -1,6 +1,6 @@
 -- Fuel stays positive: wherever words lie in the intervals, whatever their alignment, some fuel is left.
 use Rattle.sbx_sound.proofs.Entries.{result_at}
-use Rattle.sbx_domain.specs.declared.entry.Entry.{Entry}
+use Rattle.sbx_rules.specs.Entry.{Entry}
 use Rattle.std.proofs.Common.{◌≡◌, ℕ, zero, suc, ◌+◌, ◌-◌, ◌^◌, ◌<◌, ◌≤◌, ℤ, Bool, true, false, List, Option, Some, None, refl, sym, ap, ◌∙◌, subst, inl, inr, ⊎_elim, arith}
 use Rattle.std.specs.Prelude.{pos, negsuc, ◌+ℤ◌, ◌-ℤ◌, ◌≤ℤ◌, ◌<ℤ◌, ◌⊎◌, nat_le, if◌then◌else◌, slice_get}
 use Rattle.std.proofs.lemmas.Int.{ints}
@@ -10,15 +10,15 @@ use Rattle.sbx_image.specs.declared.parts.Range.{Range}
 use Rattle.sbx_flat.specs.Registers.{Words}
 use Rattle.sbx_flat.proofs.Turns.{operation_weighs}
 use Rattle.sbx_rules.specs.Fuel.{InCells, IsEnough, IsPaid}
-use Rattle.sbx_domain.specs.Fits.{HasForm, HasInterval, Near}
-use Rattle.sbx_domain.specs.Known.{Known, form_of_entry, plain_entry_of, range_of_entry}
-use Rattle.sbx_domain.specs.Forms.{form_value}
+use Rattle.sbx_rules.specs.Fits.{HasForm, HasInterval, Near}
+use Rattle.sbx_rules.specs.Known.{Known, form_of_entry, plain_entry_of, range_of_entry}
+use Rattle.sbx_rules.specs.Forms.{form_value}
 use Rattle.sbx_rules.specs.Ways.{Visit, fuel_at, state_at, weight_to}
 use Rattle.sbx_rules.specs.Places.{IsPlace, op_at}
 use Rattle.sbx_sound.specs.Positive.{left_at}
 use Rattle.sbx_sound.proofs.Running.{IsVisit}
 use Rattle.sbx_form.specs.Forms.{Cells}
-use Rattle.sbx_domain.specs.Transfer.{called, is_out}
+use Rattle.sbx_rules.specs.Transfer.{called, is_out}
 use Rattle.sbx_sound.proofs.Ledger.{edge_pays, numbers}
 
 -- ---- descent

@@ -11,14 +11,14 @@ use Rattle.sbx_range.specs.declared.refining.Pair.{Pair}
 use Rattle.sbx_range.specs.Refining.{refine, refine_by_value}
 use Rattle.sbx_form.specs.Forms.{Cells}
 use Rattle.sbx_flat.specs.Registers.{Words}
-use Rattle.sbx_domain.specs.declared.entry.Entry.{Entry}
-use Rattle.sbx_domain.specs.declared.relation.Related.{Related}
-use Rattle.sbx_domain.specs.declared.relation.Related.TheVariants.{Location, Word}
-use Rattle.sbx_domain.specs.declared.relation.Relation.{Relation}
-use Rattle.sbx_domain.specs.declared.relation.Relation.TheVariants.{Compared, Signs}
-use Rattle.sbx_domain.specs.Fits.{Fits}
-use Rattle.sbx_domain.specs.Known.{Known, range_at}
-use Rattle.sbx_domain.specs.Refining.{in_both, is_same, narrowed_at, narrowed_related, range_of_related, refined, refined_by, refined_pair, refined_signs, with_narrowed, with_pair, with_range_of}
+use Rattle.sbx_rules.specs.Entry.{Entry}
+use Rattle.sbx_rules.specs.Related.{Related}
+use Rattle.sbx_rules.specs.Related.TheVariants.{Location, Word}
+use Rattle.sbx_rules.specs.Relation.{Relation}
+use Rattle.sbx_rules.specs.Relation.TheVariants.{Compared, Signs}
+use Rattle.sbx_rules.specs.Fits.{Fits}
+use Rattle.sbx_rules.specs.Known.{Known, range_at}
+use Rattle.sbx_rules.specs.Refining.{in_both, is_same, narrowed_at, narrowed_related, range_of_related, refined, refined_by, refined_pair, refined_signs, with_narrowed, with_pair, with_range_of}
 use Rattle.sbx_fits.proofs.Branches.{refinement_keeps_fitting}
 use Rattle.sbx_rules.specs.Rules.{is_defined, is_some}
 use Rattle.sbx_sound.proofs.Branches.{Refines}

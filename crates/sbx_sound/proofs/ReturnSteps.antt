@@ -1,7 +1,7 @@
 -- A return: `ret` or `retl`, its slot, and where the caller goes on.
-use Rattle.sbx_domain.specs.Results.{operand_entry, register_entry, result_of}
+use Rattle.sbx_rules.specs.Results.{operand_entry, register_entry, result_of}
 use Rattle.sbx_sound.proofs.Entries.{called_low, restored_out, result_at, some_of_result, with_entry_other}
-use Rattle.sbx_domain.specs.declared.entry.Entry.{Entry}
+use Rattle.sbx_rules.specs.Entry.{Entry}
 use Rattle.std.proofs.Common.{◌≡◌, ◌≢◌, ℕ, zero, suc, ◌+◌, ◌-◌, ◌%◌, ◌^◌, ◌<◌, ◌≤◌, Bool, true, false, List, [], ◌∷◌, Option, None, refl, sym, ap, ◌∙◌, subst, inl, inr, arith}
 use Rattle.v8_alu.specs.declared.Op.TheVariants as ops
 use Rattle.std.specs.Prelude.{◌⊎◌, ◌==◌, ◌&&◌, ◌||◌, not, nat_lt, nat_le, if◌then◌else◌, slice_get}
@@ -20,14 +20,14 @@ use Rattle.sbx_flat.specs.States.{State, reg}
 use Rattle.sbx_rules.specs.Fuel.{IsPaid}
 use Rattle.sbx_rules.specs.Rules.{has_cells, has_outs, has_range, is_defined, is_some}
 use Rattle.sbx_rules.specs.Operations.{is_call, is_framed}
-use Rattle.sbx_domain.specs.Fits.{Fits, HasAlignment, HasInterval}
-use Rattle.sbx_domain.specs.Known.{Known, range_at}
+use Rattle.sbx_rules.specs.Fits.{Fits, HasAlignment, HasInterval}
+use Rattle.sbx_rules.specs.Known.{Known, range_at}
 use Rattle.sbx_rules.specs.Ways.{Next, To, Way, cells_at, falls, fuel_at, state_at, weight_to}
 use Rattle.sbx_rules.specs.Places.{address_of, function_at, op_at, op_before}
 use Rattle.sbx_sound.proofs.Running.{After, AreOpen, At, Follows, IsOpen, IsThere, known_after, straight_visit, tests, window_of}
 use Rattle.sbx_form.specs.Forms.{Cells}
 use Rattle.sbx_sound.proofs.Shared.{KnownParts, Lent, Open, Own, Shared, Shows, ShowsFile, Window, with_location}
-use Rattle.sbx_domain.specs.Transfer.{is_out, transferred, called, restored}
+use Rattle.sbx_rules.specs.Transfer.{is_out, transferred, called, restored}
 use Rattle.sbx_sound.proofs.Arrivals.{Left, after_edge, after_next, after_no_call, goes_straight, left_by}
 use Rattle.sbx_sound.proofs.CallSteps.{own_window}
 use Rattle.sbx_sound.proofs.Effects.{IsFewer, Reaches, moved_to, reaches_by, restore_reaches, ret_reaches, retl_reaches}

@@ -15,8 +15,8 @@ use Rattle.sbx_image.specs.declared.parts.Kind.TheVariants.{Framed, Leaf}
 use Rattle.sbx_image.specs.declared.parts.Parts.{Parts}
 use Rattle.sbx_flat.specs.States.{State, reg}
 use Rattle.sbx_form.specs.Forms.{Cells}
-use Rattle.sbx_domain.specs.Fits.{Words}
-use Rattle.sbx_domain.specs.Transfer.{is_out, transferred}
+use Rattle.sbx_rules.specs.Fits.{Words}
+use Rattle.sbx_rules.specs.Transfer.{is_out, transferred}
 use Rattle.sbx_fits.proofs.Frames.{frames_keep_fitting}
 use Rattle.sbx_fits.specs.Held.{AreRestored, Held}
 use Rattle.sbx_rules.specs.Operations.{is_call, is_framed, is_framed_return, is_restore, is_return, is_save, is_transfer, is_trap, may_write, reads_of, second_reads, writes_of}

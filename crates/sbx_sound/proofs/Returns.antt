@@ -12,15 +12,15 @@ use Rattle.sbx_flat.specs.Runs.{budget, weight_of}
 use Rattle.sbx_rules.specs.Fuel.{IsEnough}
 use Rattle.sbx_rules.specs.Rules.{has_outs, has_range}
 use Rattle.sbx_rules.specs.Operations.{is_call, is_return}
-use Rattle.sbx_domain.specs.Fits.{Fits, HasAlignment, HasForm, HasInterval, Relates}
-use Rattle.sbx_domain.specs.Known.{Known, range_at, form_at}
-use Rattle.sbx_domain.specs.Forms.{form_value}
+use Rattle.sbx_rules.specs.Fits.{Fits, HasAlignment, HasForm, HasInterval, Relates}
+use Rattle.sbx_rules.specs.Known.{Known, range_at, form_at}
+use Rattle.sbx_rules.specs.Forms.{form_value}
 use Rattle.sbx_rules.specs.Ways.{Visit, Way, after_call, falls, fuel_at, state_at, weight_to}
 use Rattle.sbx_rules.specs.Places.{address_of, callee_at, function_at, op_at}
 use Rattle.sbx_sound.proofs.Running.{After, AreOpen, At, Follows, GoesTo, IsOpen, back_of, known_after, left_to, left_to_all}
 use Rattle.sbx_form.specs.Forms.{Cells}
 use Rattle.sbx_sound.proofs.Shared.{AreStored, Open, Shared}
-use Rattle.sbx_domain.specs.Transfer.{called, transferred, is_out}
+use Rattle.sbx_rules.specs.Transfer.{called, transferred, is_out}
 use Rattle.sbx_sound.proofs.Arrivals.{Left, framed_bytes, left_by, weight_next}
 use Rattle.sbx_sound.proofs.Ledger.{interval_within, multiple_within, one_return, one_word}
 use Rattle.sbx_sound.proofs.Tests.{and_left, and_right}

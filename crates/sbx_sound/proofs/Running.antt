@@ -6,8 +6,8 @@ use Rattle.sbx_image.specs.declared.parts.Parts.{Parts}
 use Rattle.sbx_flat.specs.Runs.{budget}
 use Rattle.sbx_rules.specs.Fuel.{InCells}
 use Rattle.sbx_rules.specs.Operations.{is_call, is_return, is_framed}
-use Rattle.sbx_domain.specs.Fits.{Fits, HasAlignment, HasForm, HasInterval}
-use Rattle.sbx_domain.specs.Known.{Known, form_at, range_at}
+use Rattle.sbx_rules.specs.Fits.{Fits, HasAlignment, HasForm, HasInterval}
+use Rattle.sbx_rules.specs.Known.{Known, form_at, range_at}
 use Rattle.sbx_rules.specs.Rules.{is_defined, is_some}
 use Rattle.sbx_rules.specs.Ways.{Next, To, Visit, Way, falls, state_at, visits_at}
 use Rattle.sbx_rules.specs.Places.{IsPlace, address_of, callee_at, callee_before, function_at, op_before}

@@ -12,10 +12,10 @@ use Rattle.sbx_image.specs.declared.parts.Parts.{Parts}
 use Rattle.sbx_range.specs.Rows.{byte_or_end}
 use Rattle.sbx_flat.specs.Effects.{service_in, service_of}
 use Rattle.sbx_flat.specs.Runs.{AreBytes}
-use Rattle.sbx_domain.specs.declared.entry.Entry.{Entry}
-use Rattle.sbx_domain.specs.Fits.{Fits}
-use Rattle.sbx_domain.specs.Known.{Known, plain_entry, with_entry}
-use Rattle.sbx_domain.specs.Transfer.{served, transferred}
+use Rattle.sbx_rules.specs.Entry.{Entry}
+use Rattle.sbx_rules.specs.Fits.{Fits}
+use Rattle.sbx_rules.specs.Known.{Known, plain_entry, with_entry}
+use Rattle.sbx_rules.specs.Transfer.{served, transferred}
 use Rattle.sbx_fits.specs.Held.{Held, Keeps, with_location}
 use Rattle.sbx_fits.proofs.Branches.{services_keep_fitting}
 use Rattle.sbx_rules.specs.Operations.{is_framed, reads_of, service_reads}

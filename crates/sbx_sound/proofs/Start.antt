@@ -10,11 +10,11 @@ use Rattle.sbx_flat.specs.Registers.{Frame, Words}
 use Rattle.sbx_flat.specs.Runs.{AreBytes, FlatSafe, IsStart, budget, data_at}
 use Rattle.sbx_flat.specs.States.{State}
 use Rattle.sbx_rules.specs.Fuel.{InCells, IsWithinBudget}
-use Rattle.sbx_domain.specs.Fits.{Fits, HasAlignment, HasForm, HasInterval}
-use Rattle.sbx_domain.specs.Known.{Known, cell_entry, form_of_entry, is_location, range_of_entry, started}
-use Rattle.sbx_domain.specs.declared.entry.Entry.{Entry}
+use Rattle.sbx_rules.specs.Fits.{Fits, HasAlignment, HasForm, HasInterval}
+use Rattle.sbx_rules.specs.Known.{Known, cell_entry, form_of_entry, is_location, range_of_entry, started}
+use Rattle.sbx_rules.specs.Entry.{Entry}
 use Rattle.sbx_rules.specs.Rules.{is_defined, is_some}
-use Rattle.sbx_domain.specs.Forms.{form_value}
+use Rattle.sbx_rules.specs.Forms.{form_value}
 use Rattle.sbx_rules.specs.Places.{IsPlace, address_of, function_at}
 use Rattle.sbx_rules.specs.Ways.{cells_at, falls, fuel_at, state_at, weight_to}
 use Rattle.sbx_sound.specs.Positive.{IsPositive, left_at}

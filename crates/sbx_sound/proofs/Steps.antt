@@ -1,5 +1,5 @@
 -- From a place where a run stands to the next one: plain words, edges, calls and returns, with what the states show there.
-use Rattle.sbx_domain.specs.declared.entry.Entry.{Entry}
+use Rattle.sbx_rules.specs.Entry.{Entry}
 use Rattle.std.proofs.Common.{◌≡◌, ◌≢◌, ℕ, suc, ◌+◌, Bool, true, false, List, length, Option, Some, None, refl, sym, ap, ◌∙◌, subst, inl, arith}
 use Rattle.std.specs.Prelude.{◌==◌, ◌&&◌, ◌||◌, not, if◌then◌else◌}
 use Rattle.std.proofs.lemmas.Bool.Decides.{nat_tests}
@@ -18,13 +18,13 @@ use Rattle.sbx_flat.proofs.Turns.{performs_admitted, place_at_word, turn_at}
 use Rattle.sbx_rules.specs.Fuel.{IsPaid}
 use Rattle.sbx_rules.specs.Rules.{has_cells, has_range, is_defined, is_some}
 use Rattle.sbx_rules.specs.Operations.{is_call, is_return}
-use Rattle.sbx_domain.specs.Fits.{Fits}
-use Rattle.sbx_domain.specs.Known.{Known, started, range_of_entry}
+use Rattle.sbx_rules.specs.Fits.{Fits}
+use Rattle.sbx_rules.specs.Known.{Known, started, range_of_entry}
 use Rattle.sbx_rules.specs.Ways.{Next, To, cells_at, fuel_at, state_at, weight_to}
 use Rattle.sbx_rules.specs.Places.{address_of, function_at, op_at, op_before, word_of_place}
 use Rattle.sbx_sound.proofs.Running.{After, IsThere, straight_visit, tests, window_of, bytes_of}
 use Rattle.sbx_sound.proofs.Shared.{AreStored, KnownParts, Shared, Shows, Window}
-use Rattle.sbx_domain.specs.Transfer.{transferred}
+use Rattle.sbx_rules.specs.Transfer.{transferred}
 use Rattle.sbx_sound.proofs.Arrivals.{Left, after_edge, after_next, after_no_call, after_plain, goes_straight, left_by}
 use Rattle.sbx_sound.proofs.Effects.{Reaches}
 use Rattle.sbx_sound.proofs.Ledger.{numbers, starts_have}

@@ -1,5 +1,5 @@
 -- Branches, calls and returns: from the word to its slot.
-use Rattle.sbx_domain.specs.declared.entry.Entry.{Entry}
+use Rattle.sbx_rules.specs.Entry.{Entry}
 use Rattle.std.proofs.Common.{◌≡◌, ℕ, suc, ◌+◌, ◌-◌, ◌%◌, ◌^◌, ◌<◌, ◌≤◌, Bool, true, false, List, [], ◌∷◌, Option, Some, None, refl, sym, ap, ◌∙◌, subst, arith}
 use Rattle.std.specs.Prelude.{pos, ◌+ℤ◌, ◌-ℤ◌, ◌≤ℤ◌, ◌==◌, if◌then◌else◌, slice_get}
 use Rattle.std.proofs.lemmas.Bool.Decides.{nat_tests}
@@ -12,16 +12,16 @@ use Rattle.sbx_image.specs.declared.parts.Function.{Function}
 use Rattle.sbx_flat.specs.Registers.{Words}
 use Rattle.sbx_flat.specs.Runs.{budget, weight_of}
 use Rattle.sbx_rules.specs.Operations.{is_call, is_return}
-use Rattle.sbx_domain.specs.Fits.{Fits, HasAlignment, HasForm, HasInterval}
-use Rattle.sbx_domain.specs.Known.{Known, with_entry, range_of_entry, form_of_entry}
-use Rattle.sbx_domain.specs.Forms.{form_value}
+use Rattle.sbx_rules.specs.Fits.{Fits, HasAlignment, HasForm, HasInterval}
+use Rattle.sbx_rules.specs.Known.{Known, with_entry, range_of_entry, form_of_entry}
+use Rattle.sbx_rules.specs.Forms.{form_value}
 use Rattle.sbx_rules.specs.Ways.{Back, Next, Visit, Way, falls, fuel_at, state_at, visits_after, visits_at, weight_to}
 use Rattle.sbx_rules.specs.Places.{address_of, callee_at, callee_before, callee_of, find_entry, function_at, op_at, op_before, or_function}
 use Rattle.sbx_sound.specs.Positive.{left_at}
 use Rattle.sbx_sound.proofs.Running.{At, Follows, GoesTo, back_of, bytes_of, entry_of, left_to_all, straight_visit}
 use Rattle.sbx_form.specs.Forms.{Cells}
 use Rattle.sbx_sound.proofs.Shared.{Open, Shared, with_location}
-use Rattle.sbx_domain.specs.Transfer.{transferred}
+use Rattle.sbx_rules.specs.Transfer.{transferred}
 use Rattle.sbx_sound.proofs.Arrivals.{after_no_call, follows_plainly, goes_straight, is_straight_visit, next_there, weight_next}
 use Rattle.sbx_sound.proofs.Effects.{linked, moved_to}
 use Rattle.sbx_sound.proofs.Ledger.{one_word}

@@ -7,12 +7,12 @@ use Rattle.v8_meaning.specs.declared.operation.Operation.{Operation}
 use Rattle.v8_meaning.specs.declared.operation.Operation.TheVariants.{BranchOnCondition, JumpAndLink}
 use Rattle.v8_meaning.specs.Operands.{is_always}
 use Rattle.sbx_image.specs.declared.parts.Parts.{Parts}
-use Rattle.sbx_domain.specs.Known.{Known}
+use Rattle.sbx_rules.specs.Known.{Known}
 use Rattle.sbx_rules.specs.Ways.{Way, Visit, branch_way, falls, state_at, visit_if, visits_after, visits_at}
 use Rattle.sbx_rules.specs.Places.{op_at, op_before}
 use Rattle.sbx_range.specs.Refining.{opposite}
 use Rattle.sbx_sound.proofs.Running.{IsVisit, straight_visit}
-use Rattle.sbx_domain.specs.Refining.{refined}
+use Rattle.sbx_rules.specs.Refining.{refined}
 use Rattle.sbx_sound.proofs.Arrivals.{goes_straight}
 use Rattle.sbx_sound.proofs.Transfers.{return_visit}
 

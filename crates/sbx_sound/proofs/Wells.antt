@@ -11,7 +11,7 @@ use Rattle.sbx_image.specs.declared.parts.Function.{Function}
 use Rattle.sbx_image.specs.declared.parts.Parts.{Parts}
 use Rattle.sbx_image.specs.declared.parts.Range.{Range}
 use Rattle.sbx_flat.specs.Runs.{AreBytes, budget_of}
-use Rattle.sbx_domain.specs.Transfer.{saved, transferred}
+use Rattle.sbx_rules.specs.Transfer.{saved, transferred}
 use Rattle.sbx_rules.specs.Fuel.{IsWithinBudget}
 use Rattle.sbx_rules.specs.Operations.{is_call, is_framed, is_transfer}
 use Rattle.sbx_rules.specs.Places.{IsPlace, address_of, callee_at, callee_of, ends_run, find_entry, function_at, op_at, or_function}

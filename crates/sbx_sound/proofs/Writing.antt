@@ -9,10 +9,10 @@ use Rattle.sbx_flat.specs.Memory.{Bytes}
 use Rattle.sbx_flat.specs.Registers.{Fresh}
 use Rattle.sbx_flat.specs.Runs.{reached_by}
 use Rattle.sbx_flat.specs.States.{State}
-use Rattle.sbx_domain.specs.declared.entry.Entry.{Entry}
-use Rattle.sbx_domain.specs.Fits.{Fits}
-use Rattle.sbx_domain.specs.Known.{Known, with_entry}
-use Rattle.sbx_domain.specs.Transfer.{transferred}
+use Rattle.sbx_rules.specs.Entry.{Entry}
+use Rattle.sbx_rules.specs.Fits.{Fits}
+use Rattle.sbx_rules.specs.Known.{Known, with_entry}
+use Rattle.sbx_rules.specs.Transfer.{transferred}
 use Rattle.sbx_rules.specs.Places.{function_at}
 use Rattle.sbx_rules.specs.Rules.{is_defined, is_some}
 use Rattle.sbx_sound.proofs.Running.{tests, window_of}

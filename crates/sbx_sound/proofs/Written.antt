@@ -5,13 +5,13 @@ use Rattle.std.proofs.lemmas.Bool.Decides.{nat_tests}
 use Rattle.v8_word.specs.declared.Icc.{Icc}
 use Rattle.sbx_flat.specs.Registers.{Words}
 use Rattle.sbx_form.specs.Forms.{Cells}
-use Rattle.sbx_domain.specs.declared.entry.Entry.{Entry}
-use Rattle.sbx_domain.specs.declared.relation.Related.{Related}
-use Rattle.sbx_domain.specs.declared.relation.Related.TheVariants.{Location, Word}
-use Rattle.sbx_domain.specs.declared.relation.Relation.{Relation}
-use Rattle.sbx_domain.specs.declared.relation.Relation.TheVariants.{Compared, Signs}
-use Rattle.sbx_domain.specs.Fits.{AreCodesOf, Fits, HasAlignment, HasForm, HasInterval, Near, Relates, with_word, word_of_related}
-use Rattle.sbx_domain.specs.Known.{Known, form_of_entry, is_location, range_of_entry, with_entry, without_location}
+use Rattle.sbx_rules.specs.Entry.{Entry}
+use Rattle.sbx_rules.specs.Related.{Related}
+use Rattle.sbx_rules.specs.Related.TheVariants.{Location, Word}
+use Rattle.sbx_rules.specs.Relation.{Relation}
+use Rattle.sbx_rules.specs.Relation.TheVariants.{Compared, Signs}
+use Rattle.sbx_rules.specs.Fits.{AreCodesOf, Fits, HasAlignment, HasForm, HasInterval, Near, Relates, with_word, word_of_related}
+use Rattle.sbx_rules.specs.Known.{Known, form_of_entry, is_location, range_of_entry, with_entry, without_location}
 use Rattle.sbx_range.specs.Laws.{HasSigns}
 use Rattle.sbx_rules.specs.Rules.{is_defined, is_some}
 use Rattle.sbx_sound.proofs.Shared.{with_location}

@@ -11,3 +11,5 @@
 #![tactic(auto)]
 
 pub mod laws;
+
+pub use sbx_rules::{Cause, Refusal};

@@ -1,1 +1,3 @@
 pub mod Streamed
+pub use Rattle.sbx_run.proofs.Refusals
+pub use Rattle.sbx_run.proofs.Whole

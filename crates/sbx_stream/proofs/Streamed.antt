@@ -9,7 +9,7 @@ use Rattle.v8_core.specs.Accesses.{World}
 use Rattle.v8_loaded.specs.Board.{Device}
 use Rattle.v8_loaded.specs.Layout.{Pages}
 use Rattle.v8_loaded.specs.States.{IsState}
-use Rattle.v8_contained.specs.Contained.{IsContained}
+use Rattle.v8_board.specs.Contained.{IsContained}
 use Rattle.v8_board.specs.declared.outcome.Counts.{Counts}
 use Rattle.v8_board.specs.declared.outcome.Ending.{Ending}
 use Rattle.v8_board.specs.declared.outcome.Ending.TheVariants.{Exit}
@@ -24,7 +24,7 @@ use Rattle.sbx_image.specs.declared.parts.Parts.{Parts}
 use Rattle.sbx_flat.specs.Runs.{AreBytes, Behaves, FlatSafe, budget}
 use Rattle.sbx_flat.specs.declared.path.Place.{Place}
 use Rattle.want.specs.Wants.{refused}
-use Rattle.sbx_windows.specs.Runs.{IsImage}
+use Rattle.sbx_run.specs.Runs.{IsImage}
 use Rattle.sbx_port.specs.Following.{beyond, with_input}
 use Rattle.sbx_port.specs.Streams.{RunsAs, RunsOn, Says as SaysOf, StandsBeside, Streamed}
 use Rattle.sbx_port.specs.declared.carrying.StreamFault.{StreamFault}

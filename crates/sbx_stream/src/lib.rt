@@ -3,5 +3,7 @@
 
 mod streams;
 
-pub use sbx_run::{Accepted, Cause, Finished, Refusal, RunFault, budget, verify};
+pub use sbx_run::{
+    Accepted, Cause, Finished, Outcome, Refusal, RunFault, budget, run_accepted, trace, verify,
+};
 pub use streams::run_stream;

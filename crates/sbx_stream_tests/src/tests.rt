@@ -4,8 +4,7 @@ ghost use Rattle.std.specs.Prelude.{◌≤◌};
 use crate::sources::{ECHO, THREE};
 use crate::streams::{Sink, Source};
 use sbx_asm::assemble;
-use sbx_run::run_accepted;
-use sbx_stream::{Accepted, Finished, RunFault, run_stream, verify};
+use sbx_stream::{Accepted, Finished, RunFault, run_accepted, run_stream, verify};
 use std::alloc::Global;
 use std::test::Fail;
 

@@ -5,7 +5,9 @@ use Rattle.v8_board.specs.Seen.{State}
 use Rattle.v8_board.specs.Runs.{IsRun}
 use Rattle.v8_board.proofs.Running.{no_turns, whole_run}
 use Rattle.v8_board.proofs.Joined.{runs_join}
-use Rattle.sbx_tell.specs.Runs.{IsRun as IsTold}
+use Rattle.v8_board.specs.Contains.{Contains}
+use Rattle.sbx_raw.specs.Runs.{IsBegun}
+use Rattle.sbx_tell.specs.Runs.{IsRun as IsTold, IsRunOf}
 use Rattle.sbx_tell.specs.declared.run.Run.{Run}
 
 -- no slice
@@ -24,6 +26,22 @@ slices_and_rest n k limit s m e all before rest =
     let same : k * 4194304 + limit % 4194304 ≡ limit = omega arith in
     subst (λ (j : ℕ). IsRun n j s e) same (runs_join n (k * 4194304) (limit % 4194304) s m e before rest)
 
--- a run on as many windows as another number says
-pub told_at : (n windows : ℕ) (parts : Parts) (input : List ℕ) (limit : ℕ) (run : Run) → windows ≡ n → IsTold n parts input limit run → IsTold windows parts input limit run
-told_at n windows parts input limit run same told = subst (λ (w : ℕ). IsTold w parts input limit run) (sym same) told
+-- a run of a board that was loaded with an image, on as many windows as another number says
+pub told_on : (n windows : ℕ) (parts : Parts) (input : List ℕ) (limit : ℕ) (start end : State n) (run : Run) → windows ≡ n → IsBegun n parts input start
+    → Contains n parts start → IsRunOf n limit start end run → IsTold windows parts input limit run
+told_on n windows parts input limit start end run same begun contained is =
+    let told : IsTold n parts input limit run = record {
+      raw = record {
+        start = start;
+        end = end;
+        begun = begun;
+        run = is.run;
+        kept = is.kept parts contained;
+        outcome = is.shown.outcome;
+        output = is.shown.output;
+        pages = is.shown.pages;
+        fault_status = is.shown.fault_status;
+      };
+      place = is.shown.place;
+    } in
+    subst (λ (w : ℕ). IsTold w parts input limit run) (sym same) told

@@ -1,4 +1,2 @@
-pub mod Words
-pub mod Faults
 pub mod Reports
 pub mod Runs

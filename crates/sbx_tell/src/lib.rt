@@ -1,16 +1,11 @@
 //! Runs of images told in words: their output, end, turns, window traps, pages and fault status.
 #![tactic(auto)]
 
-mod faults;
-mod output;
 mod pages;
 mod report;
 mod run;
 mod slices;
-mod traps;
 
-pub use faults::FaultStatus;
 pub use report::push_run;
 pub use run::{Run, run_windows};
 pub use slices::Progress;
-pub use traps::{Trap, trap_name};

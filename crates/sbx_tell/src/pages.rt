@@ -1,33 +1,10 @@
 //! The pages that a run used.
-ghost use Rattle.std.specs.Prelude.{◌≡◌, ◌<◌, [], ◌∷◌, ◌++◌, OnOk, string_bytes};
-ghost use Rattle.sbx_tell.specs.Reports.{mark, marks_text, pages_text, table_text};
+ghost use Rattle.std.specs.Prelude.{◌≡◌, ◌++◌, OnOk, string_bytes};
+ghost use Rattle.sbx_tell.specs.Reports.{pages_text, table_text};
 
+use sbx_lines::push_marks;
 use sbx_raw::PageUse;
 use std::alloc::AllocError;
-
-/// The mark of a page.
-fn mark(referenced: u64, modified: u64, page: u32) -> &'static str
-    requires { page < 64 }
-    ensures { result.now ≡ mark referenced modified page ∷ [] }
-{
-    if (modified >> page) & 1 == 1 {
-        "M"
-    } else if (referenced >> page) & 1 == 1 {
-        "R"
-    } else {
-        "."
-    }
-}
-
-/// The marks of the 64 pages of a table.
-fn push_marks(out: &mut String, referenced: u64, modified: u64) -> Result<(), AllocError>
-    ensures { OnOk result (string_bytes out.new ≡ string_bytes out.old ++ marks_text referenced modified 64) }
-{
-    for page in 0..64 {
-        out.push_str(mark(referenced, modified, page))?;
-    }
-    Ok(())
-}
 
 /// A table by its name and its first page's address, and the marks of its pages.
 fn push_table(

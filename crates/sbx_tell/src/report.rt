@@ -1,15 +1,34 @@
 //! The report of a run.
 ghost use Rattle.std.specs.Prelude.{◌≡◌, ◌++◌, OnOk, codes, string_bytes};
-ghost use Rattle.sbx_tell.specs.Reports.{counts_text, ending_text, line_end, run_text};
-ghost use Rattle.sbx_tell.specs.Faults.{status_text};
+ghost use Rattle.sbx_lines.specs.Faults.{status_text};
+ghost use Rattle.sbx_lines.specs.Output.{line_end};
+ghost use Rattle.sbx_tell.specs.Reports.{counts_text, ending_text, error_text, run_text, trapped_text};
 
-use crate::faults::FaultStatus;
-use crate::output::push_output;
 use crate::pages::push_pages;
 use crate::run::Run;
-use crate::traps::Trap;
+use sbx_lines::{FaultStatus, Trap, push_output};
 use sbx_raw::Ending;
 use std::alloc::AllocError;
+use v8_word::TrapType;
+
+/// A trap that stopped the machine, and where its instruction stands.
+fn push_trapped(out: &mut String, trap: TrapType, place: u32) -> Result<(), AllocError>
+    ensures { OnOk result (string_bytes out.new ≡ string_bytes out.old ++ trapped_text trap place) }
+{
+    let trap = Trap(trap);
+    write!(
+        out,
+        "stopped by trap {trap} of the instruction at {place:08X}"
+    )
+}
+
+/// A trap that came while traps were disabled.
+fn push_error(out: &mut String, trap: TrapType) -> Result<(), AllocError>
+    ensures { OnOk result (string_bytes out.new ≡ string_bytes out.old ++ error_text trap) }
+{
+    let trap = Trap(trap);
+    write!(out, "error mode by trap {trap}")
+}
 
 /// How a run ended.
 fn push_ending(out: &mut String, ending: Ending, place: u32) -> Result<(), AllocError>
@@ -17,17 +36,8 @@ fn push_ending(out: &mut String, ending: Ending, place: u32) -> Result<(), Alloc
 {
     match ending {
         Ending::Exit(word) => write!(out, "exit with the word {word:08X}"),
-        Ending::Trapped(trap) => {
-            let trap = Trap(trap);
-            write!(
-                out,
-                "stopped by trap {trap} of the instruction at {place:08X}"
-            )
-        }
-        Ending::ErrorMode(trap) => {
-            let trap = Trap(trap);
-            write!(out, "error mode by trap {trap}")
-        }
+        Ending::Trapped(trap) => push_trapped(out, trap, place),
+        Ending::ErrorMode(trap) => push_error(out, trap),
         Ending::Limit => out.push_str("none: it would go on behind the limit"),
     }
 }

@@ -1,12 +1,13 @@
 //! Runs of any image, on a count of windows that is a number.
 ghost use Rattle.std.specs.Prelude.{◌≡◌, ◌≤◌, IfErr, IfOk};
-ghost use Rattle.sbx_tell.specs.Runs.{IsRun};
+ghost use Rattle.sbx_tell.specs.Runs.{IsRun, IsRunOf, IsToldOf};
 ghost use Rattle.want.specs.Wants.{refused};
 
 use crate::slices::{Progress, run_slices};
 use sbx_image::Image;
-use sbx_raw::{Raw, RunFault, begun};
+use sbx_raw::{Raw, RunFault, SlicePort, begun};
 use std::alloc::Global;
+use v8_board::Board;
 use v8_word::Reg;
 
 /// A run, and %l1 of the window in which it ended: after a trap that no handler serves, the address of the instruction that trapped
@@ -15,6 +16,40 @@ use v8_word::Reg;
 pub struct Run {
     pub raw: Raw,
     pub trapped_at: u32,
+}
+
+/// What a board tells of a run that stopped there.
+fn told_of<const N: usize>(alloc: Global, board: &Board<N, SlicePort<'_>>) -> Result<Run, RunFault>
+    ensures told { IfOk result (IsToldOf N board.now.state) }
+    ensures fault { IfErr result (λ fault. fault ≡ RunFault.Memory refused) }
+{
+    let mut output = Vec::new(alloc);
+    match output.extend_from_slice(board.port().output()) {
+        Ok(()) => Ok(Run {
+            raw: Raw {
+                outcome: board.outcome(),
+                output,
+                pages: board.page_use(),
+                fault_status: board.fault_status(),
+            },
+            trapped_at: board.reg(Reg::L1),
+        }),
+        Err(error) => Err(RunFault::from(error)),
+    }
+}
+
+/// Runs a board to an end, but at most so many turns, and tells its run.
+fn run_board<const N: usize, P: Progress>(
+    alloc: Global,
+    board: &mut Board<N, SlicePort<'_>>,
+    limit: u64,
+    progress: &mut P,
+) -> Result<Run, RunFault>
+    ensures run { IfOk result (IsRunOf N limit board.old.state board.new.state) }
+    ensures fault { IfErr result (λ fault. fault ≡ RunFault.Memory refused) }
+{
+    run_slices(board, limit, progress)?;
+    told_of(alloc, board)
 }
 
 /// The run on `N` windows, which are as many as the number says.
@@ -33,20 +68,7 @@ fn run_on<const N: usize, P: Progress>(
 {
     let _ = windows;
     let mut board = begun::<N>(alloc, image, input)?;
-    let outcome = run_slices(&mut board, limit, progress)?;
-    let mut output = Vec::new(alloc);
-    match output.extend_from_slice(board.port().output()) {
-        Ok(()) => Ok(Run {
-            raw: Raw {
-                outcome,
-                output,
-                pages: board.page_use(),
-                fault_status: board.fault_status(),
-            },
-            trapped_at: board.reg(Reg::L1),
-        }),
-        Err(error) => Err(RunFault::from(error)),
-    }
+    run_board(alloc, &mut board, limit, progress)
 }
 
 /// The run on as many windows as there are, of these numbers, which rise from the least that it can be to the greatest.

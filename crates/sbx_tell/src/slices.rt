@@ -1,10 +1,10 @@
 //! Runs in slices, between which it is told how far they have come.
 ghost use Rattle.std.specs.Prelude.{◌≡◌, IfErr, IfOk};
 ghost use Rattle.v8_board.specs.Contains.{Keeps};
-ghost use Rattle.v8_board.specs.Runs.{IsRun, outcome_of};
+ghost use Rattle.v8_board.specs.Runs.{IsRun};
 ghost use Rattle.want.specs.Wants.{refused};
 
-use sbx_raw::{Ending, Outcome, RunFault, SlicePort, fault_of};
+use sbx_raw::{Ending, RunFault, SlicePort, fault_of};
 use v8_board::Board;
 
 /// Who is told how far a run has come.
@@ -21,10 +21,9 @@ pub fn run_slices<const N: usize, P: Progress>(
     board: &mut Board<N, SlicePort<'_>>,
     limit: u64,
     progress: &mut P,
-) -> Result<Outcome, RunFault>
-    ensures run { IfOk result (λ told. IsRun N limit board.old.state board.new.state) }
-    ensures told { IfOk result (λ told. told ≡ outcome_of N board.new.state) }
-    ensures contained { IfOk result (λ told. Keeps N board.old.state board.new.state) }
+) -> Result<(), RunFault>
+    ensures run { IfOk result (λ _. IsRun N limit board.old.state board.new.state) }
+    ensures contained { IfOk result (λ _. Keeps N board.old.state board.new.state) }
     ensures fault { IfErr result (λ fault. fault ≡ RunFault.Memory refused) }
 {
     for _ in 0..limit / SLICE {
@@ -35,7 +34,7 @@ pub fn run_slices<const N: usize, P: Progress>(
         }
     }
     match board.run(limit % SLICE) {
-        Ok(outcome) => Ok(outcome),
+        Ok(_outcome) => Ok(()),
         Err(fault) => Err(fault_of(board, fault)),
     }
 }

@@ -12,7 +12,7 @@
 ghost use Rattle.std.specs.Io.Buffered.{reader_remaining};
 
 use crate::files::done_on;
-use sbx_command::{Job, Stop};
+use sbx_words::{Job, Stop};
 use std::cell::RefCell;
 use std::io;
 use std::io::{BufReader, LineWriter, Read, Write};
@@ -69,13 +69,11 @@ impl<W: Write + Drop> Write for Speaker<'_, W> {
 pub fn converse(rt: &HostRuntime, job: &Job<'_>, path: &str) -> Result<u8, Stop> {
     let input = match BufReader::new(rt.alloc(), rt.stdin()) {
         Ok(input) => input,
-        Err(error) if error.kind() == io::ErrorKind::OutOfMemory => return Err(Stop::NoRoom),
-        Err(_) => return Err(Stop::Input),
+        Err(error) => return Err(Stop::of(&error, Stop::Input)),
     };
     let out = match LineWriter::new(rt.alloc(), rt.stdout()) {
         Ok(out) => out,
-        Err(error) if error.kind() == io::ErrorKind::OutOfMemory => return Err(Stop::NoRoom),
-        Err(_) => return Err(Stop::Output),
+        Err(error) => return Err(Stop::of(&error, Stop::Output)),
     };
     let out = RefCell::new(out);
     let mut hearer = Hearer { input, out: &out };

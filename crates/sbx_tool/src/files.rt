@@ -1,5 +1,5 @@
 //! Files by their paths.
-use sbx_command::{Job, Stop, command};
+use sbx_words::{Job, Stop, command};
 use std::fs::File;
 use std::io::{Read, Write};
 use std::os::unix::fs::MetadataExt;
@@ -10,8 +10,7 @@ use want::Want;
 fn opened(rt: &HostRuntime, path: &str) -> Result<File, Stop> {
     match fs::open(rt, path) {
         Ok(file) => Ok(file),
-        Err(error) if error.kind() == io::ErrorKind::OutOfMemory => Err(Stop::NoRoom),
-        Err(_) => Err(Stop::File),
+        Err(error) => Err(Stop::of(&error, Stop::File)),
     }
 }
 
@@ -89,7 +88,6 @@ pub fn stored(rt: &HostRuntime, path: &str, bytes: &[u8]) -> Result<(), Stop> {
     };
     match written {
         Ok(()) => Ok(()),
-        Err(error) if error.kind() == io::ErrorKind::OutOfMemory => Err(Stop::NoRoom),
-        Err(_) => Err(Stop::Output),
+        Err(error) => Err(Stop::of(&error, Stop::Output)),
     }
 }

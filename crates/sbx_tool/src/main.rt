@@ -8,8 +8,7 @@ mod files;
 use assembling::assemble_to;
 use conversing::converse;
 use files::done_on;
-use sbx_command::{Job, Stop};
-use sbx_words::{Usage, read_words};
+use sbx_words::{Full, Job, Stop, Usage, read_words};
 use std::alloc::AllocError;
 use std::io::BufWriter;
 use std::process::ExitCode;
@@ -18,12 +17,14 @@ use std::{env, io};
 /// The exit status of words that ask for nothing.
 const USAGE: u8 = 3;
 
+/// The exit status of want of memory that `clap` told: its error is none of a file or a stream, and so no stop.
+const MEMORY: u8 = 5;
+
 /// Does a job on the file at `path`, from standard input to standard output, which is kept until there is much of it.
 fn on_streams(rt: &HostRuntime, job: &Job<'_>, path: &str) -> Result<u8, Stop> {
     let mut out = match BufWriter::new(rt.alloc(), rt.stdout()) {
         Ok(out) => out,
-        Err(error) if error.kind() == io::ErrorKind::OutOfMemory => return Err(Stop::NoRoom),
-        Err(_) => return Err(Stop::Output),
+        Err(error) => return Err(Stop::of(&error, Stop::Output)),
     };
     done_on(rt, job, path, &mut rt.stdin(), &mut out)
 }
@@ -52,18 +53,23 @@ fn perform(rt: &HostRuntime, words: &[String]) -> Result<u8, Stop> {
             Ok(USAGE)
         }
         Err(Usage::Memory(want)) => Err(Stop::Memory(want)),
-        Err(Usage::NoRoom) => Err(Stop::NoRoom),
+        Err(Usage::NoRoom) => {
+            let _ = eprintln!(rt; "memory");
+            Ok(MEMORY)
+        }
     }
 }
 
 fn main(rt: HostRuntime) -> ExitCode {
     let status = match words_of(&rt) {
         Ok(words) => perform(&rt, words.as_slice()),
-        Err(error) if error.kind() == io::ErrorKind::OutOfMemory => Err(Stop::NoRoom),
-        Err(_) => {
-            let _ = eprintln!(rt; "error: the words of a command line are UTF-8");
-            Ok(USAGE)
-        }
+        Err(error) => match Full::of(&error) {
+            Some(full) => Err(Stop::NoRoom(full)),
+            None => {
+                let _ = eprintln!(rt; "error: the words of a command line are UTF-8");
+                Ok(USAGE)
+            }
+        },
     };
     match status {
         Ok(status) => ExitCode::from(status),

@@ -5,7 +5,7 @@ use Rattle.sbx_image.specs.declared.parts.Parts.{Parts}
 use Rattle.sbx_image.specs.Reading.{reading}
 use Rattle.sbx_rules.specs.Causes.{eight_digits, shown_cause}
 use Rattle.sbx_rules.specs.Verdicts.{Checked}
-use Rattle.sbx_verify.specs.Refusals.{IsRefusal}
+use Rattle.sbx_run.specs.Refusals.{IsRefusal}
 use Rattle.sbx_verdicts.specs.declared.verdicts.Verdict.{Verdict}
 use Rattle.sbx_verdicts.specs.declared.verdicts.Verdict.TheVariants.{Accepted, Refused}
 

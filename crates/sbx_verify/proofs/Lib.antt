@@ -1,1 +1,2 @@
 pub mod Refusals
+pub use Rattle.sbx_sound.proofs.Whole

@@ -2,9 +2,9 @@
 use Rattle.std.proofs.Common.{◌≡◌, ap, inl, inr}
 use Rattle.want.specs.Wants.{refused}
 use Rattle.sbx_image.specs.declared.parts.Parts.{Parts}
-use Rattle.sbx_rules.specs.declared.cause.Cause.TheVariants.{NoMemory}
-use Rattle.sbx_rules.specs.declared.cause.Refusal.{Refusal}
-use Rattle.sbx_rules.specs.Verdicts.{IsFirst}
+use Rattle.sbx_sound.specs.Cause.TheVariants.{NoMemory}
+use Rattle.sbx_sound.specs.Refusal.{Refusal}
+use Rattle.sbx_sound.specs.Verdicts.{IsFirst}
 use Rattle.sbx_verify.specs.Refusals.{IsRefusal}
 
 pub broken_rule : (parts : Parts) (refusal : Refusal) → IsRefusal parts refusal → (refusal.cause ≡ NoMemory refused → ⊥) → IsFirst parts refusal

@@ -2,9 +2,9 @@
 use Rattle.std.specs.Prelude.{◌≡◌, ◌⊎◌}
 use Rattle.want.specs.Wants.{refused}
 use Rattle.sbx_image.specs.declared.parts.Parts.{Parts}
-use Rattle.sbx_rules.specs.declared.cause.Cause.TheVariants.{NoMemory}
-use Rattle.sbx_rules.specs.declared.cause.Refusal.{Refusal}
-use Rattle.sbx_rules.specs.Verdicts.{IsFirst}
+use Rattle.sbx_sound.specs.Cause.TheVariants.{NoMemory}
+use Rattle.sbx_sound.specs.Refusal.{Refusal}
+use Rattle.sbx_sound.specs.Verdicts.{IsFirst}
 
 abbrev pub no_memory : Refusal
 no_memory = record { function = 0; address = 0; cause = NoMemory refused }

@@ -8,5 +8,5 @@ mod entry;
 mod verifier;
 
 pub use entry::budget;
-pub use sbx_rules::{Cause, Refusal};
+pub use sbx_sound::{Cause, Refusal};
 pub use verifier::{Accepted, verify};

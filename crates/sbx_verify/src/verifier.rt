@@ -1,13 +1,13 @@
 //! The verdict on an image.
 ghost use Rattle.std.specs.Prelude.{◌≡◌, IfErr, IfOk};
 ghost use Rattle.sbx_flat.specs.Runs.{AreBytes, FlatSafe};
-ghost use Rattle.sbx_rules.specs.Verdicts.{Checked};
+ghost use Rattle.sbx_sound.specs.Verdicts.{Checked};
 ghost use Rattle.sbx_sound.specs.Law.{IsFormed};
 ghost use Rattle.sbx_verify.specs.Refusals.{IsRefusal, no_memory};
 
 use sbx_image::Image;
-use sbx_rules::{Cause, Refusal};
 use sbx_sound::laws::checked_is_safe;
+use sbx_sound::{Cause, Refusal};
 use sbx_walk::first_fault;
 use std::alloc::{AllocError, Global};
 use std::marker::Model;
@@ -21,7 +21,7 @@ pub struct Accepted {
 
 impl Model for Accepted {
     ghost use Rattle.sbx_image.specs.declared.parts.Parts.{Parts};
-    ghost use Rattle.sbx_rules.specs.Verdicts.{Checked};
+    ghost use Rattle.sbx_sound.specs.Verdicts.{Checked};
 
     ghost Value = { Parts };
 

@@ -6,11 +6,11 @@ use Rattle.sbx_image.specs.declared.parts.Parts.{Parts}
 use Rattle.sbx_image.specs.Order.{address_of as image_address, block_end as image_end, words_in as image_words}
 use Rattle.sbx_image.specs.Rules.{parts_keep}
 use Rattle.sbx_image.proofs.Ordered.{in_order}
-use Rattle.sbx_rules.specs.declared.cause.Cause.{Cause}
-use Rattle.sbx_rules.specs.declared.cause.Refusal.{Refusal}
-use Rattle.sbx_rules.specs.Places.{IsPlace, address_of, words_in}
-use Rattle.sbx_rules.specs.Rules.{Holds}
-use Rattle.sbx_rules.specs.Verdicts.{Breaks, Checked, IsFirst}
+use Rattle.sbx_pass.specs.Cause.{Cause}
+use Rattle.sbx_pass.specs.Refusal.{Refusal}
+use Rattle.sbx_pass.specs.Places.{IsPlace, address_of, words_in}
+use Rattle.sbx_pass.specs.Rules.{Holds}
+use Rattle.sbx_pass.specs.Verdicts.{Breaks, Checked, IsFirst}
 use Rattle.sbx_walk.specs.Walks.{IsFirstOfFunction, IsQuietFunction}
 
 module _ (parts : Parts) (keeps : parts_keep parts ≡ Ok tt) where

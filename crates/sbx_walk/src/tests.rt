@@ -1,7 +1,7 @@
 // Verdicts worked out by hand.
 use super::first_fault;
 use sbx_image::{Block, Cell, Function, Image, Items, Kind, Parts, Range, Services, Term};
-use sbx_rules::{Cause, Refusal};
+use sbx_pass::{Cause, Refusal};
 use std::alloc::{AllocError, Global};
 
 /// `save %sp,-96,%sp; mov 1000,%l0; loop: ta 1; cmp %o0,-1; be done; nop; ta 2; deccc %l0; bne loop; nop; done: mov 0,%o0; ta 0`

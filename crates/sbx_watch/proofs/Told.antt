@@ -1,17 +1,17 @@
 -- Turns that are told.
-use Rattle.std.proofs.Common.{◌≡◌, ℕ, zero, suc, ◌+◌, ◌≤◌, List, [], ◌++◌, Option, Result, Ok, Err, OnOk, None, Some, refl, sym, ap, subst, ◌∙◌, append_assoc, add-one, arith}
+use Rattle.std.proofs.Common.{◌≡◌, ℕ, suc, ◌+◌, ◌≤◌, List, [], ◌++◌, Option, Result, Ok, Err, OnOk, None, Some, refl, sym, ap, subst, ◌∙◌, append_assoc, add-one, arith}
 use Rattle.std.specs.Io.KnownBytes.{Appends, Keeps}
 use Rattle.sbx_image.specs.declared.parts.Function.{Function}
 use Rattle.sbx_image.specs.declared.parts.Parts.{Parts}
 use Rattle.v8_core.specs.declared.turn.Turn.{Turn}
 use Rattle.v8_board.specs.Seen.{State, ending_of, turned}
-use Rattle.v8_board.specs.Runs.{IsRun, Turns, after}
+use Rattle.v8_board.specs.Runs.{Turns, after}
 use Rattle.v8_board.proofs.Running.{Counted, no_turns, one_turn_more}
 use Rattle.sbx_raw.specs.Runs.{IsBegun}
 use Rattle.sbx_raw.specs.Traces.{Wrote}
 use Rattle.sbx_raw.proofs.Written.{nothing_written, written_after}
-use Rattle.sbx_watch.specs.Heads.{head_text}
-use Rattle.sbx_watch.specs.Watched.{IsWatched, TellsTurn, TellsTurns, WatchedRun}
+use Rattle.sbx_turns.specs.Heads.{head_text}
+use Rattle.sbx_watch.specs.Watched.{IsWatched, TellsTurn, TellsTurns, WatchedRun, WatchedTurn}
 
 -- some turns, and a text that tells them was written
 abbrev pub Watching : (n : ℕ) → List Function → State n → State n → ℕ → Option (List ℕ) → Option (List ℕ) → Type 0
@@ -22,11 +22,11 @@ pub nothing_told : (n : ℕ) (functions : List Function) (s : State n) (w : Opti
 unfolding TellsTurns
 nothing_told n functions s w = (no_turns n s, ([], refl, nothing_written w))
 
-pub one_told_more : (n : ℕ) (functions : List Function) (old mid new : State n) (k : ℕ) (turn : Turn) (a b c : Option (List ℕ)) (line shown : List ℕ)
+one_told_more : (n : ℕ) (functions : List Function) (old mid new : State n) (k : ℕ) (turn : Turn) (a b c : Option (List ℕ)) (line : List ℕ)
     → Watching n functions old mid k a b → ending_of n mid.world ≡ None → turned n mid ≡ (turn, new) → TellsTurn functions (k + 1) turn line
-    → shown ≡ line → Appends b c shown → Watching n functions old new (k + 1) a c
+    → Appends b c line → Watching n functions old new (k + 1) a c
 unfolding TellsTurns
-one_told_more n functions old mid new k turn a b c line shown (counted, (text, told, so_far)) going is tells same grown =
+one_told_more n functions old mid new k turn a b c line (counted, (text, told, so_far)) going is tells grown =
     let there : mid ≡ after n k old = counted.0.is ∙ ap (λ (j : ℕ). after n j old) counted.1 in
     let made : turn ≡ (turned n (after n k old)).0 = sym (ap (λ (x : Turn × State n). x.0) is) ∙ ap (λ (s : State n). (turned n s).0) there in
     let last : TellsTurn functions (suc k) (turned n (after n k old)).0 line =
@@ -35,9 +35,21 @@ one_told_more n functions old mid new k turn a b c line shown (counted, (text, t
       (
         text ++ line,
         subst (λ (j : ℕ). TellsTurns n functions old j (text ++ line)) (sym (add-one k)) (text, line, told, last, refl),
-        written_after a b c text line so_far (subst (λ (t : List ℕ). Appends b c t) same grown),
+        written_after a b c text line so_far grown,
       ),
     )
+
+-- one turn more, which was watched
+pub one_watched_more : (n : ℕ) (functions : List Function) (old mid new : State n) (k : ℕ) (a b c : Option (List ℕ)) → Watching n functions old mid k a b
+    → ending_of n mid.world ≡ None → WatchedTurn n functions (k + 1) mid new b c → Watching n functions old new (k + 1) a c
+one_watched_more n functions old mid new k a b c watching going turn =
+    one_told_more n functions old mid new k turn.turn a b c turn.text watching going turn.made turn.told turn.written
+
+-- a turn whose text was written
+pub watched_turn : (n : ℕ) (functions : List Function) (number : ℕ) (old new : State n) (turn : Turn) (a b : Option (List ℕ)) (line shown : List ℕ)
+    → turned n old ≡ (turn, new) → TellsTurn functions number turn line → shown ≡ line → Appends a b shown → WatchedTurn n functions number old new a b
+watched_turn n functions number old new turn a b line shown made told same grown =
+    record { turn = turn; text = line; made = made; told = told; written = subst (λ (t : List ℕ). Appends a b t) same grown }
 
 -- the turns made are a run
 watched : (n : ℕ) (functions : List Function) (limit k : ℕ) (old now : State n) (a b : Option (List ℕ)) → Watching n functions old now k a b → k ≤ limit
@@ -65,11 +77,14 @@ kept (Some x) None c bs p q = absurd p
 kept (Some x) (Some y) None bs p q = absurd q
 kept (Some x) (Some y) (Some z) bs p q = q ∙ p
 
--- the turns of an image's run
-pub watch_told : (n windows : ℕ) (p : Parts) (input : List ℕ) (limit : ℕ) (start end : State n) (functions : List Function) (a b c : Option (List ℕ))
-    → windows ≡ n → functions ≡ p.functions → IsBegun n p input start → WatchedRun n functions limit start end a b → Keeps b c
-    → Wrote a c (IsWatched windows p input limit)
-watch_told n windows p input limit start end functions a b c many same begun run flushed =
+pub flushed : (n : ℕ) (functions : List Function) (limit : ℕ) (old new : State n) (a b c : Option (List ℕ)) → WatchedRun n functions limit old new a b → Keeps b c
+    → WatchedRun n functions limit old new a c
+flushed n functions limit old new a b c run keeps =
+    record { text = run.text; run = run.run; told = run.told; written = kept a b c run.text run.written keeps }
+
+watched_on : (n windows : ℕ) (p : Parts) (input : List ℕ) (limit : ℕ) (start end : State n) (functions : List Function) (a b : Option (List ℕ))
+    → windows ≡ n → functions ≡ p.functions → IsBegun n p input start → WatchedRun n functions limit start end a b → Wrote a b (IsWatched windows p input limit)
+watched_on n windows p input limit start end functions a b many same begun run =
     let whole : IsWatched n p input limit run.text = record {
       start = start;
       end = end;
@@ -77,12 +92,19 @@ watch_told n windows p input limit start end functions a b c many same begun run
       run = run.run;
       told = subst (λ (fs : List Function). TellsTurns n fs start run.run.turns.count run.text) same run.told;
     } in
-    (run.text, subst (λ (w : ℕ). IsWatched w p input limit run.text) (sym many) whole, kept a b c run.text run.written flushed)
+    (run.text, subst (λ (w : ℕ). IsWatched w p input limit run.text) (sym many) whole, run.written)
+
+-- the turns of an image's run
+pub watch_told : (n windows : ℕ) (p : Parts) (input : List ℕ) (limit : ℕ) (start end : State n) (functions : List Function) (a b : Option (List ℕ)) {E : Type 0}
+    (r : Result (Unit {0}) E) → windows ≡ n → functions ≡ p.functions → IsBegun n p input start → OnOk r (WatchedRun n functions limit start end a b)
+    → OnOk r (Wrote a b (IsWatched windows p input limit))
+watch_told n windows p input limit start end functions a b (Ok u) many same begun run = watched_on n windows p input limit start end functions a b many same begun run
+watch_told n windows p input limit start end functions a b (Err e) many same begun run = run
 
 -- a line that begins with a turn's head, whatever stands behind it
-pub tells : (functions : List Function) (number : ℕ) (turn : Turn) (line mid end items tail : List ℕ) → line ≡ head_text functions number turn
-    → mid ≡ line ++ items → end ≡ mid ++ tail → TellsTurn functions number turn end
-tells functions number turn line mid end items tail head pushed ended = (
+pub tells : (functions : List Function) (number : ℕ) (turn : Turn) (line same mid end items tail : List ℕ) → line ≡ head_text functions number turn
+    → same ≡ line → mid ≡ same ++ items → end ≡ mid ++ tail → TellsTurn functions number turn end
+tells functions number turn line same mid end items tail head stays pushed ended = (
   items ++ tail,
-  ended ∙ ap (λ (t : List ℕ). t ++ tail) pushed ∙ append_assoc line items tail ∙ ap (λ (t : List ℕ). t ++ (items ++ tail)) head,
+  ended ∙ ap (λ (t : List ℕ). t ++ tail) pushed ∙ append_assoc same items tail ∙ ap (λ (t : List ℕ). t ++ (items ++ tail)) (stays ∙ head),
 )

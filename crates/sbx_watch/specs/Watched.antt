@@ -7,7 +7,7 @@ use Rattle.v8_board.specs.Seen.{State, turned}
 use Rattle.v8_board.specs.Runs.{IsRun, after}
 use Rattle.std.specs.Io.KnownBytes.{Appends}
 use Rattle.sbx_raw.specs.Runs.{IsBegun}
-use Rattle.sbx_watch.specs.Heads.{head_text}
+use Rattle.sbx_turns.specs.Heads.{head_text}
 
 -- a text that tells a turn: it begins with its head
 abbrev pub TellsTurn : List Function → ℕ → Turn → List ℕ → Type 0
@@ -26,6 +26,14 @@ pub record IsWatched (n : ℕ) (p : Parts) (input : List ℕ) (limit : ℕ) (tex
   pub begun : IsBegun n p input start
   pub run : IsRun n limit start end
   pub told : TellsTurns n p.functions start run.turns.count text
+
+-- The board made a turn from one state to the other, and a text that tells it was written.
+pub record WatchedTurn (n : ℕ) (functions : List Function) (number : ℕ) (old new : State n) (before now : Option (List ℕ)) : Type 0 where
+  pub turn : Turn
+  pub text : List ℕ
+  pub made : turned n old ≡ (turn, new)
+  pub told : TellsTurn functions number turn text
+  pub written : Appends before now text
 
 -- The board ran from one state to the other, and a text that tells its turns was written.
 pub record WatchedRun (n : ℕ) (functions : List Function) (limit : ℕ) (old new : State n) (before now : Option (List ℕ)) : Type 0 where

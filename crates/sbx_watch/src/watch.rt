@@ -1,19 +1,57 @@
 //! The turns of a run, one after the other.
 ghost use Rattle.std.specs.Prelude.{◌≡◌, ◌≤◌, OnOk};
 ghost use Rattle.sbx_raw.specs.Traces.{Wrote};
-ghost use Rattle.sbx_watch.specs.Watched.{IsWatched, WatchedRun};
+ghost use Rattle.sbx_watch.specs.Watched.{IsWatched, WatchedRun, WatchedTurn};
 
-use crate::changes::Seen;
-use crate::sheet::Sheet;
-use crate::turns::make_turn;
+use crate::teller::Teller;
 use sbx_image::{Function, Image};
 use sbx_raw::{RunFault, SlicePort, begun, fault_of};
 use std::alloc::Global;
 use std::io::Write;
 use v8_board::Board;
 
+/// Makes a turn, and writes its text.
+fn watch_turn<const N: usize, W: Write>(
+    board: &mut Board<N, SlicePort<'_>>,
+    functions: &[Function],
+    number: u64,
+    teller: &mut Teller<N>,
+    out: &mut W,
+) -> Result<(), RunFault>
+    ensures { OnOk result (WatchedTurn N functions.now number board.old.state board.new.state (W.contents out.old) (W.contents out.new)) }
+{
+    let turn = match board.step() {
+        Ok(turn) => turn,
+        Err(fault) => return Err(fault_of(board, fault)),
+    };
+    teller.make_turn(functions, number, &turn, board)?;
+    match out.write_all(teller.line.as_bytes()) {
+        Ok(()) => Ok(()),
+        Err(_) => Err(RunFault::Writer),
+    }
+}
+
 /// Runs a board to an end, but at most so many turns, and writes the text of each.
 fn watch_turns<const N: usize, W: Write>(
+    board: &mut Board<N, SlicePort<'_>>,
+    functions: &[Function],
+    limit: u64,
+    teller: &mut Teller<N>,
+    out: &mut W,
+) -> Result<(), RunFault>
+    ensures { OnOk result (WatchedRun N functions.now limit board.old.state board.new.state (W.contents out.old) (W.contents out.new)) }
+{
+    for done in 0..limit {
+        let None = board.ending() else {
+            return Ok(());
+        };
+        watch_turn(board, functions, done + 1, teller, out)?;
+    }
+    Ok(())
+}
+
+/// Runs a board that was loaded with an image, and writes the text of each turn, through to the end.
+fn watch_board<const N: usize, W: Write>(
     alloc: Global,
     board: &mut Board<N, SlicePort<'_>>,
     functions: &[Function],
@@ -23,35 +61,12 @@ fn watch_turns<const N: usize, W: Write>(
     requires { (4 ≤ N) × (N ≤ 32) }
     ensures { OnOk result (WatchedRun N functions.now limit board.old.state board.new.state (W.contents out.old) (W.contents out.new)) }
 {
-    let mut seen = Seen::new(board);
-    let mut sheet = Sheet::new(alloc);
-    let mut line = String::new(alloc);
-    for done in 0..limit {
-        let None = board.ending() else {
-            return Ok(());
-        };
-        let turn = match board.step() {
-            Ok(turn) => turn,
-            Err(fault) => return Err(fault_of(board, fault)),
-        };
-        match make_turn(
-            &mut line,
-            &mut sheet,
-            functions,
-            done + 1,
-            &turn,
-            &mut seen,
-            board,
-        ) {
-            Ok(()) => {}
-            Err(error) => return Err(RunFault::from(error)),
-        }
-        match out.write_all(line.as_bytes()) {
-            Ok(()) => {}
-            Err(_) => return Err(RunFault::Writer),
-        }
+    let mut teller = Teller::new(alloc, board);
+    watch_turns(board, functions, limit, &mut teller, out)?;
+    match out.flush() {
+        Ok(()) => Ok(()),
+        Err(_) => Err(RunFault::Writer),
     }
-    Ok(())
 }
 
 /// The turns on `N` windows, which are as many as the number says.
@@ -69,11 +84,7 @@ fn watch_on<const N: usize, W: Write>(
 {
     let _ = windows;
     let mut board = begun::<N>(alloc, image, input)?;
-    watch_turns(alloc, &mut board, image.functions(), limit, out)?;
-    match out.flush() {
-        Ok(()) => Ok(()),
-        Err(_) => Err(RunFault::Writer),
-    }
+    watch_board(alloc, &mut board, image.functions(), limit, out)
 }
 
 /// The turns on as many windows as there are, of these numbers, which rise from the least that it can be to the greatest.

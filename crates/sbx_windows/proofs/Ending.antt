@@ -10,7 +10,7 @@ use Rattle.v8_core.specs.Walked.{root_of}
 use Rattle.v8_core.specs.Accesses.{World}
 use Rattle.v8_loaded.specs.Board.{Device}
 use Rattle.v8_loaded.specs.Users.{AsksFor}
-use Rattle.v8_board.specs.Seen.{State as BoardState}
+use Rattle.sbx_shows.specs.Seen.{State as BoardState}
 use Rattle.sbx_flat.specs.Rules.{code_start}
 use Rattle.sbx_flat.specs.Parts.{Parts}
 use Rattle.sbx_flat.specs.Registers.{still}

@@ -9,11 +9,11 @@ use Rattle.v8_core.specs.Accesses.{World}
 use Rattle.v8_core.specs.Steps.{next}
 use Rattle.v8_loaded.specs.Board.{Device, board}
 use Rattle.v8_loaded.specs.Turns.{after, turn_at}
-use Rattle.v8_board.specs.declared.outcome.Counts.{Counts}
-use Rattle.v8_board.specs.declared.outcome.Ending.{Ending}
-use Rattle.v8_board.specs.Counting.{counts_after}
-use Rattle.v8_board.specs.Runs.{after as board_after}
-use Rattle.v8_board.specs.Seen.{State as BoardState, counts_unless, ending_of, turned}
+use Rattle.sbx_shows.specs.Counts.{Counts}
+use Rattle.sbx_shows.specs.Ending.{Ending}
+use Rattle.sbx_shows.specs.Counting.{counts_after}
+use Rattle.sbx_shows.specs.Runs.{after as board_after}
+use Rattle.sbx_shows.specs.Seen.{State as BoardState, counts_unless, ending_of, turned}
 use Rattle.sbx_flat.specs.Parts.{Parts}
 use Rattle.sbx_flat.specs.Runs.{AreBytes, FlatRun, FlatSafe, Run, budget, place_of, weight, weight_at, weight_of, weight_of_word}
 use Rattle.sbx_flat.specs.States.{State}

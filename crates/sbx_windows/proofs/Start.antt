@@ -16,10 +16,10 @@ use Rattle.v8_core.specs.Cpu.{Cpu}
 use Rattle.v8_core.specs.Accesses.{world}
 use Rattle.v8_loaded.specs.Board.{Device}
 use Rattle.v8_loaded.proofs.Frames.{word_fits}
-use Rattle.v8_board.specs.Seen.{State as BoardState}
-use Rattle.v8_board.specs.Start.{IsPlaced, IsStart, at_most, pages_of}
-use Rattle.v8_board.proofs.Placed.{placed_loaded}
-use Rattle.v8_contained.proofs.Stays.{word_kept}
+use Rattle.sbx_shows.specs.Seen.{State as BoardState}
+use Rattle.sbx_shows.specs.Start.{IsPlaced, IsStart, at_most, pages_of}
+use Rattle.sbx_shows.proofs.Placed.{placed_loaded}
+use Rattle.sbx_shows.proofs.Stays.{word_kept}
 use Rattle.sbx_flat.specs.Rules.{code_start}
 use Rattle.sbx_flat.specs.Parts.{Parts}
 use Rattle.sbx_flat.specs.Registers.{Registers}

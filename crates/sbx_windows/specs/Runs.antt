@@ -4,10 +4,10 @@ use Rattle.v8_core.specs.MmuRegs.{MmuRegs}
 use Rattle.v8_core.specs.Accesses.{World}
 use Rattle.v8_loaded.specs.Board.{Device}
 use Rattle.v8_loaded.specs.States.{IsState}
-use Rattle.v8_board.specs.declared.outcome.Counts.{Counts}
-use Rattle.v8_board.specs.Runs.{after as board_after}
-use Rattle.v8_board.specs.Seen.{State as BoardState, ending_of, turned}
-use Rattle.v8_board.specs.Start.{IsStart}
+use Rattle.sbx_shows.specs.Counts.{Counts}
+use Rattle.sbx_shows.specs.Runs.{after as board_after}
+use Rattle.sbx_shows.specs.Seen.{State as BoardState, ending_of, turned}
+use Rattle.sbx_shows.specs.Start.{IsStart}
 use Rattle.sbx_flat.specs.Parts.{Parts}
 use Rattle.sbx_flat.specs.Runs.{AreBytes, FlatRun, FlatSafe, budget, weight}
 use Rattle.sbx_flat.specs.States.{State}

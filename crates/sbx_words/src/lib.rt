@@ -6,7 +6,8 @@ ghost use Rattle.sbx_command.specs.Jobs.{IsInRange};
 
 use clap::error::ErrorKind;
 use clap::{Arg, ArgAction, ArgMatches, Command, Error};
-use sbx_command::{Job, turns, window_count};
+pub use sbx_command::{Full, Job, Stop, Windows, command};
+use sbx_command::{turns, window_count};
 use std::alloc::{AllocError, Global};
 use std::convert::AsStr;
 use want::Want;

@@ -1,6 +1,5 @@
 // Command lines and what they ask for.
-use sbx_command::{Job, Windows};
-use sbx_words::{Usage, read_words};
+use sbx_words::{Job, Usage, Windows, read_words};
 use std::alloc::Global;
 
 const ASM: Job<'static> = Job::Asm {

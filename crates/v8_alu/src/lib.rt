@@ -15,7 +15,7 @@ use products::{
 };
 use quotients::{signed_quotient, unsigned_quotient};
 use sums::{add, codes, subtract, tagged_codes};
-use v8_word::Icc;
+pub use v8_word::{Cond, Icc};
 
 /// An operation that has a result for all operands, by the names of appendix B. `Cc` sets the condition codes.
 #[derive(Clone, Copy)]

@@ -11,9 +11,9 @@ use Rattle.v8_core.specs.Cpu.{Cpu}
 use Rattle.v8_core.specs.Registers.{booted, started_with}
 use Rattle.v8_core.specs.Accesses.{world}
 use Rattle.v8_core.specs.declared.turn.Turn.{Turn}
-use Rattle.v8_loaded.specs.Layout.{IsLoaded}
-use Rattle.v8_loaded.specs.Board.{Device, IsBlank}
-use Rattle.v8_loaded.specs.States.{IsState}
+use Rattle.v8_contained.specs.Layout.{IsLoaded}
+use Rattle.v8_contained.specs.Board.{Device, IsBlank}
+use Rattle.v8_contained.specs.States.{IsState}
 use Rattle.v8_contained.specs.Contained.{IsShaped, IsUser, IsContained, TurnIs}
 use Rattle.v8_contained.proofs.Law.{turns_contained}
 use Rattle.v8_board.specs.Contains.{Contains, Keeps, KeepsBy, StaysContained}

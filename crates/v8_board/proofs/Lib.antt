@@ -3,3 +3,5 @@ pub mod Running
 pub mod MarkSums
 pub mod Joined
 pub mod Contained
+pub use Rattle.v8_contained.proofs.Stays
+pub use Rattle.v8_contained.proofs.States

@@ -4,13 +4,13 @@ use Rattle.std.specs.Prelude.{nat_le}
 use Rattle.std.proofs.lemmas.Bool.Decides.{nat_tests}
 use Rattle.sbx_image.specs.declared.parts.Parts.{Parts}
 use Rattle.v8_core.specs.Ram.{AreBytes, entry_of}
-use Rattle.v8_loaded.specs.Handlers.{trap_word, handler_word}
-use Rattle.v8_loaded.specs.Layout.{AreFew, HasTables, IsLoaded}
+use Rattle.v8_contained.specs.Handlers.{trap_word, handler_word}
+use Rattle.v8_contained.specs.Layout.{AreFew, HasTables, IsLoaded}
 use Rattle.v8_layout.specs.Laws.{IsMapped}
 use Rattle.v8_layout.specs.Tables.{table_word}
 use Rattle.v8_layout.proofs.Map.{tables_map}
 use Rattle.v8_layout.proofs.Words.{words_make_tables}
-use Rattle.v8_memory.specs.Placing.{HasWords, HasBytesOf}
+use Rattle.v8_contained.specs.Placing.{HasWords, HasBytesOf}
 use Rattle.v8_contained.proofs.Stays.{word_kept}
 use Rattle.v8_board.specs.Start.{IsPlaced, at_most, pages_of}
 

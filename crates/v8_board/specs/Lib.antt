@@ -5,3 +5,6 @@ pub mod Start
 pub mod Marks
 pub mod Laws
 pub mod Contains
+pub use Rattle.v8_contained.specs.Board
+pub use Rattle.v8_contained.specs.States
+pub use Rattle.v8_contained.specs.Contained

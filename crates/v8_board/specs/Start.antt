@@ -4,11 +4,11 @@ use Rattle.sbx_image.specs.declared.parts.Parts.{Parts}
 use Rattle.v8_core.specs.Ram.{AreBytes, entry_of}
 use Rattle.v8_core.specs.Walked.{root_of}
 use Rattle.v8_core.specs.Registers.{booted, cleared, started_with}
-use Rattle.v8_loaded.specs.Handlers.{trap_word, handler_word}
+use Rattle.v8_contained.specs.Handlers.{trap_word, handler_word}
 use Rattle.v8_map.specs.declared.TheConstants.{CODE_PLACE, DATA_PLACE, STACK_PLACE, HANDLERS_PLACE, RAM, CONTEXT_TABLE}
-use Rattle.v8_loaded.specs.Layout.{Pages}
+use Rattle.v8_contained.specs.Layout.{Pages}
 use Rattle.v8_layout.specs.Tables.{table_word}
-use Rattle.v8_loaded.specs.Board.{IsBlank, seen}
+use Rattle.v8_contained.specs.Board.{IsBlank, seen}
 use Rattle.v8_board.specs.declared.outcome.Counts.{Counts}
 use Rattle.v8_board.specs.Seen.{State}
 

@@ -3,13 +3,13 @@ ghost use Rattle.std.specs.Prelude.{◌≡◌, ℕ, ◌+◌, ◌-◌, ◌*◌, �
 ghost use Rattle.std.specs.Borrow.{Lends, sem};
 ghost use Rattle.v8_core.specs.Answers.{Grows, Rose};
 ghost use Rattle.v8_core.specs.Calls.{calls_by, most_calls};
-ghost use Rattle.v8_loaded.specs.Board.{board};
+ghost use Rattle.v8_contained.specs.Board.{board};
 ghost use Rattle.v8_core.specs.Ram.{entry_of};
 ghost use Rattle.v8_core.specs.Walked.{root_of};
 ghost use Rattle.v8_core.specs.Registers.{psr_of};
 ghost use Rattle.v8_core.specs.Windows.{reg_of};
 ghost use Rattle.v8_layout.specs.Laws.{IsMapped};
-ghost use Rattle.v8_loaded.specs.Layout.{IsLoaded};
+ghost use Rattle.v8_contained.specs.Layout.{IsLoaded};
 
 use crate::outcome::{Counts, Ending, Outcome};
 use crate::page_use::{PageUse, page_use_of};
@@ -17,9 +17,9 @@ use crate::placing::place;
 use sbx_image::Image;
 use std::alloc::{AllocError, Global};
 use std::marker::Model;
+use v8_contained::{Memory, Port};
 use v8_core::{Machine, Turn};
 use v8_map::CONTEXT_TABLE;
-use v8_memory::{Memory, Port};
 use v8_mmu::{Bus, MmuRegs, PortFault, Stop};
 use v8_word::Reg;
 
@@ -35,7 +35,7 @@ impl<const N: usize, P: Port> Model for Board<N, P> {
     ghost use Rattle.v8_core.specs.Accesses.{world};
     ghost use Rattle.v8_core.specs.Walked.{root_of};
     ghost use Rattle.v8_map.specs.declared.TheConstants.{CONTEXT_TABLE};
-    ghost use Rattle.v8_loaded.specs.Board.{seen};
+    ghost use Rattle.v8_contained.specs.Board.{seen};
     ghost use Rattle.v8_board.specs.Seen.{Seen};
 
     ghost Value = { Seen N };
@@ -57,7 +57,7 @@ impl<const N: usize, P: Port> Model for Board<N, P> {
 impl<const N: usize, P: Port> Board<N, P> {
     ghost use Rattle.v8_board.specs.Seen.{ending_of, turned, with_port};
     ghost use Rattle.v8_board.specs.contracts.board.Board.{the_row};
-    ghost use Rattle.v8_loaded.specs.States.{IsState};
+    ghost use Rattle.v8_contained.specs.States.{IsState};
     ghost use Rattle.v8_board.specs.Contains.{Contains, Keeps, KeepsBy};
     ghost use Rattle.v8_board.specs.Runs.{GoesOn, IsCutShort, IsRun, ending_or_limit, outcome_of};
     ghost use Rattle.v8_board.specs.Start.{IsNew, IsStart, pages_of};

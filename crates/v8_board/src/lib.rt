@@ -10,4 +10,4 @@ mod placing;
 pub use board::Board;
 pub use outcome::{Counts, Ending, Outcome};
 pub use page_use::PageUse;
-pub use v8_memory::Port;
+pub use v8_contained::Port;

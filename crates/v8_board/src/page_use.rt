@@ -3,8 +3,8 @@ ghost use Rattle.std.specs.Prelude.{◌≡◌, ℕ, ◌+◌, ◌*◌, ◌/◌, �
 ghost use Rattle.v8_core.specs.Ram.{entry_of};
 ghost use Rattle.v8_board.specs.Marks.{bit_of, marks, page_use_of};
 
+use v8_contained::{Memory, Port};
 use v8_map::{CODE_TABLE, DATA_TABLE, STACK_TABLE};
-use v8_memory::{Memory, Port};
 
 /// Which pages of code, data and stack were referenced and modified: bit i of each word is R or M of the entry i of that table
 /// (appendix H).

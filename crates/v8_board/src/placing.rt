@@ -4,10 +4,10 @@ ghost use Rattle.v8_mmu.specs.Ram.{AreBytes};
 ghost use Rattle.v8_board.specs.Start.{IsPlaced, at_most, pages_of};
 
 use sbx_image::Image;
+use v8_contained::{Memory, Port};
 use v8_handlers::{handler_page, trap_table};
 use v8_layout::{PageCounts, page_tables};
 use v8_map::{CODE_PLACE, CONTEXT_TABLE, DATA_PLACE, HANDLERS_PLACE};
-use v8_memory::{Memory, Port};
 
 /// How many pages of so many items hold a number of items, at most `most`.
 fn pages(count: u64, items: u64, most: u64) -> u64

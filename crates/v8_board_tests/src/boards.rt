@@ -55,13 +55,18 @@ pub(crate) fn outcome(ending: Ending, turns: u64, overflows: u64) -> Outcome {
     }
 }
 
+/// Whether these pages of code, data and stack were referenced, and these modified.
+pub(crate) fn used(board: &Tested, referenced: [u64; 3], modified: [u64; 3]) -> bool {
+    board.page_use()
+        == (PageUse {
+            referenced,
+            modified,
+        })
+}
+
 /// Whether the first code page was referenced, and no other page, and none modified.
 pub(crate) fn used_code_alone(board: &Tested) -> bool {
-    let used = PageUse {
-        referenced: [1, 0, 0],
-        modified: [0, 0, 0],
-    };
-    board.page_use() == used
+    used(board, [1, 0, 0], [0, 0, 0])
 }
 
 /// Whether the port has kept these bytes.

@@ -11,22 +11,30 @@ const AFTER_CODE: [u8; 42] = [
     0, 0, 0, 0, 0, 0, 0, 0, 0, 0,
 ];
 
-fn image_bytes(alloc: Global, words: &[u32]) -> Result<Vec<u8>, AllocError> {
+fn image_bytes(alloc: Global, words: &[u32], data: &[u8]) -> Result<Vec<u8>, AllocError> {
     let mut bytes = Vec::new(alloc);
     // all services and one page of stack
     bytes.extend_from_slice(b"SBX8\x00\x01\x00\x07")?;
     bytes.extend_from_slice(&((words.len() % 0x1_0000) as u32).to_be_bytes())?;
-    bytes.extend_from_slice(&[0, 0, 0, 0, 0, 1, 0, 1])?;
+    bytes.extend_from_slice(&((data.len() % 0x1_0000) as u32).to_be_bytes())?;
+    bytes.extend_from_slice(&[0, 1, 0, 1])?;
     for word in words {
         bytes.extend_from_slice(&word.to_be_bytes())?;
     }
+    bytes.extend_from_slice(data)?;
     bytes.extend_from_slice(&AFTER_CODE)?;
     Ok(bytes)
 }
 
 /// An image of raw words: one leaf function of one block, all services, and one page of stack.
 pub(crate) fn raw_image(alloc: Global, words: &[u32]) -> Result<Image, Fail> {
-    let bytes = image_bytes(alloc, words)?;
+    let bytes = image_bytes(alloc, words, &[])?;
+    Ok(parse(alloc, &bytes)?)
+}
+
+/// The same with eight bytes of data, all 0.
+pub(crate) fn data_image(alloc: Global, words: &[u32]) -> Result<Image, Fail> {
+    let bytes = image_bytes(alloc, words, &[0; 8])?;
     Ok(parse(alloc, &bytes)?)
 }
 
@@ -46,6 +54,18 @@ pub(crate) const EXIT: u32 = 0x91D0_2000; // ta 0
 
 /// `mov 72,%o0; ta 2; mov 105,%o0; ta 2; mov 0,%o0; ta 0`
 pub(crate) const GREETING: [u32; 6] = [0x9010_2048, PUT, 0x9010_2069, PUT, 0x9010_2000, EXIT];
+
+/// `sethi 512,%g1; ld [%g1],%g2; st %g0,[%g1]; mov 0,%o0; ta 0`
+pub(crate) const STORES_AFTER_A_LOAD: [u32; 5] = [
+    0x0300_0200,
+    0xC400_4000,
+    0xC020_4000,
+    0x9010_2000,
+    EXIT,
+];
+
+/// The same without the store.
+pub(crate) const LOADS: [u32; 4] = [0x0300_0200, 0xC400_4000, 0x9010_2000, EXIT];
 
 /// An ending, with the number of its trap.
 #[derive(Clone, Copy)]

@@ -1,7 +1,10 @@
 //! Raw runs, with their ends.
 ghost use Rattle.std.specs.Prelude.{◌≤◌, ℕ};
 
-use crate::images::{EXIT, End, GET, GREETING, NOP, PUT, RESTORE, RET, SAVE, raw_image};
+use crate::images::{
+    EXIT, End, GET, GREETING, LOADS, NOP, PUT, RESTORE, RET, SAVE, STORES_AFTER_A_LOAD, data_image,
+    raw_image,
+};
 use sbx_image::Image;
 use sbx_raw::{Ending, Outcome, PageUse, Raw, run_raw};
 use std::alloc::{AllocError, Global};
@@ -242,5 +245,35 @@ fn chains_of_calls_return(rt: HostRuntime) -> Result<(), Fail> {
     assert!(rt; chain_ends::<6>(alloc, &PLAIN, 0, (1910, 36, 35))?);
     assert!(rt; chain_ends::<32>(alloc, &PLAIN, 0, (662, 10, 9))?);
     assert!(rt; chain_ends::<4>(alloc, &WITH_RESULT, 42, (2006, 38, 37))?);
+    Ok(())
+}
+
+/// Whether a raw run over eight bytes of data exits with 0 after so many turns, references a page of code and one of data, and
+/// modifies these.
+fn marks<const N: usize>(
+    alloc: Global,
+    words: &[u32],
+    turns: u64,
+    modified: [u64; 3],
+) -> Result<bool, Fail>
+    requires { (4 ≤ N) × (N ≤ 32) }
+{
+    let image = data_image(alloc, words)?;
+    let raw = run_raw::<N>(alloc, &image, b"", 100)?;
+    let used = PageUse {
+        referenced: [1, 1, 0],
+        modified,
+    };
+    Ok(exits(&raw, 0, (turns, 0, 0)) && raw.pages == used)
+}
+
+/// A store after a load of its page marks that as modified, whatever the machine keeps of it.
+#[test]
+fn stores_mark_pages_that_were_loaded_from(rt: HostRuntime) -> Result<(), Fail> {
+    let alloc = rt.alloc();
+    assert!(rt; marks::<4>(alloc, &STORES_AFTER_A_LOAD, 7, [0, 1, 0])?);
+    assert!(rt; marks::<8>(alloc, &STORES_AFTER_A_LOAD, 7, [0, 1, 0])?);
+    assert!(rt; marks::<32>(alloc, &STORES_AFTER_A_LOAD, 7, [0, 1, 0])?);
+    assert!(rt; marks::<4>(alloc, &LOADS, 6, [0, 0, 0])?);
     Ok(())
 }

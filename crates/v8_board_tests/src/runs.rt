@@ -1,9 +1,11 @@
 //! Runs of raw words on a board.
 use crate::boards::{
-    Tested, are_alike_below_the_stack, board, ends, have, kept, load, loaded_with, outcome,
+    Tested, are_alike_below_the_stack, board, ends, have, kept, load, loaded_with, outcome, used,
     used_code_alone,
 };
-use crate::images::{EXIT, End, GET, GREETING, NOP, PUT, SAVE};
+use crate::images::{
+    EXIT, End, GET, GREETING, LOADS, NOP, PUT, SAVE, STORES_AFTER_A_LOAD, data_image,
+};
 use crate::ports::Probe;
 use std::alloc::{AllocError, Global};
 use std::test::Fail;
@@ -253,5 +255,26 @@ fn a_refused_spill_changes_nothing(rt: HostRuntime) -> Result<(), Fail> {
     let loaded = loaded_with(alloc, &words)?;
     let mut ran = loaded_with(alloc, &words)?;
     assert!(rt; is_refused_its_spill(&loaded, &mut ran));
+    Ok(())
+}
+
+/// Whether a run exits after so many turns.
+fn exits_after(board: &mut Tested, turns: u64) -> bool {
+    ends(board, &Ok(outcome(Ending::Exit(0), turns, 0)), 0)
+}
+
+/// A board that has run an image with a page of data is loaded with one without, whose load finds no page there, and with the first
+/// again, whose pages have no marks but its own.
+#[test]
+fn another_image_runs_on_its_own_pages(rt: HostRuntime) -> Result<(), Fail> {
+    let alloc = rt.alloc();
+    let mut board = board(alloc, 0)?;
+    board.load(&data_image(alloc, &STORES_AFTER_A_LOAD)?);
+    assert!(rt; exits_after(&mut board, 7) && used(&board, [1, 1, 0], [0, 1, 0]));
+    load(&mut board, alloc, &LOADS)?;
+    let refused = Ok(outcome(Ending::Trapped(TrapType::new(0x09)), 4, 0));
+    assert!(rt; ends(&mut board, &refused, 0x306) && used_code_alone(&board));
+    board.load(&data_image(alloc, &LOADS)?);
+    assert!(rt; exits_after(&mut board, 6) && used(&board, [1, 1, 0], [0, 0, 0]));
     Ok(())
 }

@@ -23,7 +23,7 @@ use Rattle.v8_core.specs.Memory.{Memory, loaded_from, answers, moves, move_throu
 use Rattle.v8_core.specs.Accesses.{data_kind}
 use Rattle.v8_loaded.specs.Layout.{Pages, AreFew, IsLoaded}
 use Rattle.v8_loaded.specs.AddressMap.{mapped}
-use Rattle.v8_layout.proofs.Marks.{mark_keeps}
+use Rattle.v8_loaded.proofs.Marks.{mark_keeps}
 use Rattle.v8_loaded.specs.Board.{Device, board, board_load, board_store, device_load, device_store, device_base, is_word, beside, overwritten, with_ram}
 use Rattle.v8_contained.specs.Contained.{IsData}
 use Rattle.v8_contained.proofs.Reaches.{Reached, Kind, IsWritable, Code, Writable, System, Registers, reaches}

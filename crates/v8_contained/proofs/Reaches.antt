@@ -9,8 +9,8 @@ use Rattle.v8_core.specs.MmuRegs.{MmuRegs}
 use Rattle.v8_core.specs.MmuFault.{MmuFault}
 use Rattle.v8_loaded.specs.Layout.{Pages, AreFew, IsLoaded}
 use Rattle.v8_loaded.specs.AddressMap.{Mapped, mapped, within, page_at, reached, translated}
-use Rattle.v8_layout.proofs.Map.{tables_map}
-use Rattle.v8_layout.proofs.Marks.{Markable, mapped_markable}
+use Rattle.v8_loaded.proofs.Map.{tables_map}
+use Rattle.v8_loaded.proofs.Marks.{Markable, mapped_markable}
 
 -- ---- the kinds of pages
 

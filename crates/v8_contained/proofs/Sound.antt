@@ -35,7 +35,7 @@ use Rattle.v8_core.specs.Accesses.{faulted}
 use Rattle.v8_core.specs.Steps.{skipped}
 use Rattle.v8_loaded.specs.States.{IsSound}
 use Rattle.v8_contained.proofs.Shapes.{below_less}
-use Rattle.v8_meaning.proofs.Fields.{SmallOperand, SmallSecond}
+use Rattle.v8_core.proofs.Fields.{SmallOperand, SmallSecond}
 use Rattle.v8_contained.proofs.Files.{AreWords, file_mask, file_moved, file_reg, file_regs, file_trapped, reads_word}
 use Rattle.v8_alu.proofs.Outcomes.{AreResults, division_words, outcome_words, tagged_words}
 

@@ -38,7 +38,7 @@ use Rattle.v8_loaded.specs.Input.{next_byte}
 use Rattle.v8_loaded.specs.States.{IsSound}
 use Rattle.v8_contained.specs.Laws.{StatesStay}
 use Rattle.v8_contained.proofs.Bytes.{mark_bytes, number_bytes, number_fits}
-use Rattle.v8_meaning.proofs.Fields.{SmallSecond, small_second}
+use Rattle.v8_core.proofs.Fields.{SmallSecond, small_second}
 use Rattle.v8_contained.proofs.Files.{reads_word}
 use Rattle.v8_contained.proofs.Sound.{sound_effect, sound_entered, sound_faulted, sound_skipped, sound_taken}
 use Rattle.v8_contained.proofs.Stays.{number_is, with_number_kept}

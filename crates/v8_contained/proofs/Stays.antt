@@ -12,7 +12,7 @@ use Rattle.v8_mmu.proofs.RamLemmas.{entry_is, length-with_entry}
 use Rattle.v8_mmu.proofs.RamNumbers.{half_is, length-with_half, byte_beside_half, byte_is, length-with_byte, byte_beside_byte, double_is, length-with_double, byte_beside_double}
 use Rattle.v8_mmu.proofs.RamMore.{byte_beside_entry}
 use Rattle.v8_loaded.specs.Layout.{Pages, AreFew, IsLoaded}
-use Rattle.v8_layout.proofs.Marks.{loaded_by}
+use Rattle.v8_loaded.proofs.Marks.{loaded_by}
 
 four_same : (old new : List ℕ) (p : ℕ) → length new ≡ length old → ((j : ℕ) → p ≤ j → j < p + 4 → slice_index new j ≡ slice_index old j) → take 4 (drop p new) ≡ take 4 (drop p old)
 four_same old new p size same =

@@ -26,7 +26,7 @@ use Rattle.v8_core.specs.Accesses.{World, world, is_user, faulted}
 use Rattle.v8_core.specs.Steps.{executes, executes_or, proceeds, attempts, turn_of, ends, tries, skipped, goes_on, next}
 use Rattle.v8_loaded.specs.Layout.{Pages, AreFew, IsLoaded}
 use Rattle.v8_loaded.specs.AddressMap.{mapped}
-use Rattle.v8_layout.proofs.Marks.{mark_keeps}
+use Rattle.v8_loaded.proofs.Marks.{mark_keeps}
 use Rattle.v8_loaded.specs.Board.{Device, board}
 use Rattle.v8_contained.specs.Contained.{IsUser, IsSupervisor, IsContained, Enters, IsOwn, IsOwnFetch, IsOwnAccess, TurnIs}
 use Rattle.v8_contained.proofs.Shapes.{shaped_trapped}

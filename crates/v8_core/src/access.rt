@@ -17,4 +17,4 @@ pub enum Fetched {
 
 mod moves;
 
-pub use moves::{fetch, move_bytes};
+pub use moves::{fetch, fetch_again, move_bytes};

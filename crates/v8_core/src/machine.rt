@@ -1,8 +1,10 @@
 //! The machine: a processor and an MMU on a bus.
-ghost use Rattle.std.specs.Prelude.{◌≡◌, ℕ, ◌+◌, ◌*◌, ◌/◌, ◌%◌, ◌^◌, ◌<◌, ◌≤◌, ◌↔◌, IsTrue, IfErr, IfOk, OnErr, if◌then◌else◌};
+ghost use Rattle.std.specs.Prelude.{◌≡◌, ℕ, ◌+◌, ◌*◌, ◌/◌, ◌%◌, ◌^◌, ◌<◌, ◌≤◌, ◌↔◌, IsTrue, IfErr, IfOk, IfSome, OnErr, if◌then◌else◌};
 ghost use Rattle.std.specs.Borrow.{Lends, sem};
 ghost use Rattle.v8_mmu.specs.Answers.{Grows, Rose};
-ghost use Rattle.v8_windows.specs.Windows.{IsFile, reg_of, with_reg};
+ghost use Rattle.v8_mmu.specs.Paths.{LeadsTo};
+ghost use Rattle.v8_mmu.specs.Walked.{root_of};
+ghost use Rattle.v8_state.specs.Windows.{IsFile, reg_of, with_reg};
 ghost use Rattle.v8_state.specs.Registers.{booted, cleared, psr_of, psr_window, started_with, tbr_of, trap_base, with_psr, with_wim};
 ghost use Rattle.v8_core.specs.Accesses.{world};
 ghost use Rattle.v8_core.specs.Calls.{calls_by, most_calls};
@@ -11,9 +13,10 @@ ghost use Rattle.v8_core.specs.Steps.{next};
 use crate::step::{try_one, turn_by};
 use crate::turn::{Event, Turn};
 use std::marker::Model;
-use v8_mmu::{Bus, MmuRegs, PortFault};
+use v8_cache::Cache;
+use v8_formats::{Reg, TrapType};
+use v8_mmu::{Bus, Found, MmuRegs, PortFault};
 use v8_state::Cpu;
-use v8_word::{Reg, TrapType};
 
 /// A processor of `N` register windows, 4 to 32, on a bus.
 #[derive(Drop)]
@@ -21,6 +24,7 @@ pub struct Machine<const N: usize, B: Bus> {
     cpu: Cpu<N>,
     mmu: MmuRegs,
     bus: B,
+    cache: Cache,
 }
 
 impl<const N: usize, B: Bus> Model for Machine<N, B> {
@@ -29,6 +33,11 @@ impl<const N: usize, B: Bus> Model for Machine<N, B> {
     ghost Value = { Parts N B };
 
     ghost view = { λ m. record { cpu = m.cpu; mmu = m.mmu; bus = m.bus } };
+
+    ghost use Rattle.v8_mmu.specs.Walked.{root_of};
+    ghost use Rattle.v8_cache.specs.Holds.{Holds};
+
+    ghost invariant = { λ m. Holds (B.ram m.bus) (root_of m.mmu) m.cache };
 }
 
 impl<const N: usize, B: Bus> Machine<N, B> {
@@ -47,6 +56,7 @@ impl<const N: usize, B: Bus> Machine<N, B> {
             cpu: Cpu::new(),
             mmu,
             bus,
+            cache: Cache::new(),
         }
     }
 
@@ -93,7 +103,7 @@ impl<const N: usize, B: Bus> Machine<N, B> {
             self.cpu.control.annul = false;
             return Ok(turn);
         }
-        try_one(&mut self.cpu, &mut self.bus, &self.mmu)
+        try_one(&mut self.cpu, &mut self.cache, &mut self.bus, &self.mmu)
     }
 
     /// A register of the current window.
@@ -245,6 +255,14 @@ impl<const N: usize, B: Bus> Machine<N, B> {
         ensures* writes_back { sem 𝓛 (Lends (the_row N.row B.row B.Bus) B.row self.entry result (λ w. record self.old { bus = w })) }
         ensures value { result.now ≡ self.old.bus }
     {
+        self.cache.clear();
         &mut self.bus
+    }
+
+    /// What an address leads to, if the machine keeps it: the page's path, as a walk of the tables finds it now.
+    pub fn cached(&self, va: u32) -> Option<Found>
+        ensures { IfSome result (λ f. LeadsTo (B.ram self.now.bus) (root_of self.now.mmu) va f) }
+    {
+        self.cache.found(va)
     }
 }

@@ -1,6 +1,6 @@
 //! What is told of a turn.
+use v8_formats::{Size, TrapType};
 use v8_mmu::Stop;
-use v8_word::{Size, TrapType};
 
 /// What happened in a turn.
 #[derive(Clone, Copy, PartialEq, Eq, Debug)]

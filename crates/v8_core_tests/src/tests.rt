@@ -944,3 +944,39 @@ fn state_registers_are_set_and_read(rt: HostRuntime) {
     machine.boot();
     assert!(rt; has_booted(&machine));
 }
+
+/// The level of the page's entry that the machine keeps for an address.
+fn kept_level(machine: &Tested, va: u32) -> Option<usize> {
+    machine.cached(va).map(|found| found.level)
+}
+
+/// Whether the next fetch is refused with this fault status.
+fn is_refused(machine: &mut Tested, status: u32) -> bool {
+    first_end(machine) == Some(Event::Trapped(TrapType::new(0x01)))
+        && machine.fault_status() == status
+}
+
+/// A store to a table's word is seen by the next fetch, and takes with it what was kept by that word.
+#[test]
+fn a_stored_table_word_is_what_is_found(rt: HostRuntime) {
+    // ld [%g0+0x7F8],%g2; st %g0,[%g0+0xFFC]
+    let mut machine = machine(3, 0xA0, &[0xC40027F8, 0xC0202FFC]);
+    assert!(rt; kept_level(&machine, 0x7F8).is_none() && runs(&mut machine));
+    assert!(rt; kept_level(&machine, 0x7F8) == Some(0) && runs(&mut machine));
+    // An invalid entry at level 0: from supervisor instructions, of fault type 1.
+    assert!(rt; kept_level(&machine, 0x7F8).is_none() && is_refused(&mut machine, 0x66));
+}
+
+/// A page that a supervisor's fetches find again and again is refused to the user who comes next.
+#[test]
+fn a_mode_that_ends_takes_its_page_with_it(rt: HostRuntime) {
+    // nop; wr %g0,0x20,%psr; nop
+    let words = [0x01000000, 0x81882020, 0x01000000];
+    let mut refused = machine(7, 0xA0, &words);
+    assert!(rt; runs(&mut refused) && runs(&mut refused));
+    // At level 0: from user instructions, of fault type 3.
+    assert!(rt; is_refused(&mut refused, 0x4E));
+    let mut allowed = machine(3, 0xA0, &words);
+    assert!(rt; runs(&mut allowed) && runs(&mut allowed) && runs(&mut allowed));
+    assert!(rt; root_entry(&allowed) == Some(0x2E));
+}

@@ -15,6 +15,7 @@ use fields::{
     alternate_of, branch_of, displacement30, shift_of, three_of, trap_of, two_of, upper_of,
 };
 pub use instr::{Alternate, Branch, Instr, Operand, Place, Three, Trap, Two, Upper};
+pub use v8_word::{Cond, Icc, Reg, Size, TrapType};
 use v8_word::{bits_of, reg_at};
 
 /// The instruction of a minor opcode, else an undefined word.

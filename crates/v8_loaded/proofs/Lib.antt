@@ -28,3 +28,5 @@ pub mod Turns
 pub mod Stack
 pub mod Handled
 pub mod Frames
+pub use Rattle.v8_layout.proofs.Marks
+pub use Rattle.v8_layout.proofs.Map

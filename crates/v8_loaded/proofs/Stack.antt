@@ -24,8 +24,8 @@ use Rattle.v8_core.specs.Access.{Access}
 use Rattle.v8_core.specs.AccessKind.TheVariants.{Fetch, Load as LoadKind, Store as StoreKind}
 use Rattle.v8_core.specs.MmuRegs.{MmuRegs}
 use Rattle.v8_core.specs.Permissions.{permits, rights_of}
-use Rattle.v8_mmu.proofs.RamLemmas.{length-with_entry, within_entry}
-use Rattle.v8_mmu.proofs.RamNumbers.{has_double}
+use Rattle.v8_core.proofs.RamLemmas.{length-with_entry, within_entry}
+use Rattle.v8_core.proofs.RamNumbers.{has_double}
 use Rattle.v8_core.specs.Control.{Control}
 use Rattle.v8_core.specs.Cpu.{Cpu}
 use Rattle.v8_core.specs.Effects.{address_of, advanced, reg, taken}

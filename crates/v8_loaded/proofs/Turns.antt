@@ -15,8 +15,8 @@ use Rattle.v8_core.specs.Paths.{marked, marked_ram}
 use Rattle.v8_core.specs.Walked.{root_of}
 use Rattle.v8_core.specs.AccessKind.TheVariants.{Fetch}
 use Rattle.v8_core.specs.MmuRegs.{MmuRegs}
-use Rattle.v8_mmu.proofs.RamLemmas.{Within, entry_is, entry_of-with_entry}
-use Rattle.v8_mmu.proofs.RamMore.{byte_beside_entry, entry_elsewhere, marked_is}
+use Rattle.v8_core.proofs.RamLemmas.{Within, entry_is, entry_of-with_entry}
+use Rattle.v8_core.proofs.RamMore.{byte_beside_entry, entry_elsewhere, marked_is}
 use Rattle.v8_core.specs.Cpu.{Cpu}
 use Rattle.v8_core.specs.declared.turn.DataAccess.{DataAccess}
 use Rattle.v8_core.specs.declared.turn.Event.TheVariants.{Ran}

@@ -9,7 +9,7 @@ use Rattle.v8_core.specs.Word.{bits_of}
 use Rattle.v8_core.specs.Cond.TheVariants.{Always}
 use Rattle.v8_core.specs.Table.{meaning}
 use Rattle.v8_core.specs.Fields.{shift, short_operand}
-use Rattle.v8_formats.proofs.Keys.{by_opcodes}
+use Rattle.v8_core.proofs.Keys.{by_opcodes}
 use Rattle.v8_core.specs.Operand.{Operand}
 use Rattle.v8_core.specs.Operand.TheVariants.{Register, Immediate}
 use Rattle.v8_core.specs.Three.{Three}

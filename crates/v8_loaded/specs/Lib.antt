@@ -10,3 +10,4 @@ pub use Rattle.v8_layout.specs.Layout
 pub use Rattle.v8_layout.specs.AddressMap
 pub use Rattle.v8_memory.specs.Board
 pub use Rattle.v8_memory.specs.Input
+pub use Rattle.v8_memory.specs.Placing

@@ -3,3 +3,13 @@ pub mod Operands
 pub mod Spaces
 pub mod Transfers
 pub mod Admitted
+pub use Rattle.v8_formats.specs.declared.instr.Branch
+pub use Rattle.v8_formats.specs.declared.instr.Operand
+pub use Rattle.v8_formats.specs.declared.instr.Three
+pub use Rattle.v8_formats.specs.declared.instr.Two
+pub use Rattle.v8_alu.specs.declared.AluOut
+pub use Rattle.v8_alu.specs.declared.Division
+pub use Rattle.v8_alu.specs.declared.TaggedOp
+pub use Rattle.v8_alu.specs.Outcomes
+pub use Rattle.v8_alu.specs.Results
+pub use Rattle.v8_alu.specs.declared.Op

@@ -6,8 +6,7 @@ use crate::operation::{
     Exchange, Loading, MemoryOperand, Operation, Space, StateRegister, Transfer,
 };
 use v8_alu::{Division, Op, TaggedOp};
-use v8_formats::{Alternate, Instr, Operand, Place, Three};
-use v8_word::Size;
+use v8_formats::{Alternate, Instr, Operand, Place, Size, Three};
 
 fn normal(fields: Three) -> MemoryOperand
     ensures { result ≡ normal fields }

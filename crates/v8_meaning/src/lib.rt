@@ -16,3 +16,5 @@ pub use spaces::{is_code_space, is_missing, is_normal, is_unknown, is_user_space
 pub use transfer::{
     address, annuls, following, is_always, is_never, is_taken, software_trap, target,
 };
+pub use v8_alu::{AluOut, Division, Op, TaggedOp, alu, divide, tagged_tv};
+pub use v8_formats::{Branch, Operand, Three, Trap, Two, Upper};

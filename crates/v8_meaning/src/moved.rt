@@ -2,7 +2,7 @@
 ghost use Rattle.std.specs.Prelude.{◌≡◌, ◌<◌};
 ghost use Rattle.v8_meaning.specs.Transfers.{bytes_in, odd_of, splits_pair};
 
-use v8_word::{Reg, Size};
+use v8_formats::{Reg, Size};
 
 /// How many bytes a number of this size has.
 pub fn bytes_in(size: Size) -> u32

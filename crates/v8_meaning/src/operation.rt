@@ -1,7 +1,6 @@
 //! The operations that instructions ask for.
 use v8_alu::{Division, Op, TaggedOp};
-use v8_formats::{Branch, Operand, Three, Trap, Two, Upper};
-use v8_word::{Reg, Size};
+use v8_formats::{Branch, Operand, Reg, Size, Three, Trap, Two, Upper};
 
 /// The address space of a load or a store (appendix B, "Load Integer Instructions").
 #[derive(Clone, Copy)]

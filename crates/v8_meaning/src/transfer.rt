@@ -1,10 +1,9 @@
 // Addresses, targets and the decisions of control transfer, over the words that registers hold.
 ghost use Rattle.std.specs.Prelude.{◌≡◌, ℕ, ◌+◌, ◌*◌, ◌%◌, ◌^◌};
-ghost use Rattle.v8_word.specs.Conditions.{holds};
+ghost use Rattle.v8_formats.specs.Conditions.{holds};
 ghost use Rattle.v8_meaning.specs.Operands.{annuls, following, is_always, is_never, sum_address, software_trap_of, target};
 
-use v8_formats::Branch;
-use v8_word::{Cond, Icc, TrapType};
+use v8_formats::{Branch, Cond, Icc, TrapType};
 
 /// The address of a load, a store or a jump: the sum of its two operands' words, modulo 2^32 (appendix B, "Load Integer Instructions").
 pub fn address(first: u32, second: u32) -> u32

@@ -11,4 +11,4 @@ pub use access::{Access, AccessKind};
 pub use bus::{Bus, BusFault, PortFault, Stop};
 pub use translation::{Found, MmuFault, MmuRegs, PageEntry};
 pub use v8_word::Size;
-pub use walks::{find_page, mark, mark_page, walk};
+pub use walks::{DeadEnd, Path, allow, find_page, follow, mark, mark_page, walk};

@@ -9,3 +9,6 @@ mod transfers;
 mod traps;
 
 pub use state::{Control, Cpu};
+pub use v8_meaning::{
+    MemoryOperand, Operation, Space, Transfer, bytes_in, is_code_space, is_user_space, operation_of,
+};

@@ -5,3 +5,4 @@ mod file;
 pub mod laws;
 
 pub use file::RegFile;
+pub use v8_word::{Icc, Reg, Size, TrapType, bits_of};

@@ -1,5 +1,5 @@
 use Rattle.std.proofs.Common.{◌≡◌, ◌∙◌, ap, sym, arith, true}
-use Rattle.sbx_domain.specs.Known.{known, range_at}
+use Rattle.sbx_rules.specs.Known.{known, range_at}
 use Rattle.sbx_fuel.specs.Least.{is_empty_range}
 use Rattle.sbx_fuel.proofs.KeptBlocks.{none_empty, one_empty}
 use Rattle.sbx_fuel.proofs.edges.has_empty_range.Goals as goal

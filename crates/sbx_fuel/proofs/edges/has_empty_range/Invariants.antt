@@ -1,5 +1,5 @@
 use Rattle.std.proofs.Common.{◌≡◌, ℕ, ◌<◌, ◌≤◌, false}
-use Rattle.sbx_domain.specs.Known.{known, range_at}
+use Rattle.sbx_rules.specs.Known.{known, range_at}
 use Rattle.sbx_fuel.specs.Least.{is_empty_range}
 use Rattle.sbx_fuel.proofs.edges.has_empty_range.Given as goal
 

@@ -1,5 +1,5 @@
-use Rattle.sbx_domain.specs.Forms.{Form}
-use Rattle.sbx_domain.specs.Known.{Known}
+use Rattle.sbx_rules.specs.Forms.{Form}
+use Rattle.sbx_rules.specs.Known.{Known}
 use Rattle.sbx_rules.specs.Fuel.{IsEnough}
 use Rattle.sbx_fuel.proofs.KeptBlocks.{of_block, of_image, stands, stands_kept}
 use Rattle.sbx_fuel.proofs.edges.is_enough.Goals as goal

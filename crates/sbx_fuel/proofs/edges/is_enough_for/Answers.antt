@@ -6,7 +6,7 @@ use mir.Val.{SFits}
 use Rattle.sbx_form.specs.declared.terms.FormTerm.{FormTerm}
 use Rattle.sbx_form.specs.Forms.{AreWithin}
 use Rattle.sbx_form.proofs.Bounds.{wider_bound}
-use Rattle.sbx_domain.specs.Known.{range_at}
+use Rattle.sbx_rules.specs.Known.{range_at}
 use Rattle.sbx_fuel.specs.Blocks.{first_of, fuel_of}
 use Rattle.sbx_fuel.specs.Least.{is_natural_sum, least_over}
 use Rattle.sbx_fuel.proofs.Exact as exact

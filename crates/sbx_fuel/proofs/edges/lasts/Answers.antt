@@ -1,6 +1,6 @@
 use Rattle.std.proofs.Common.{sym, subst}
-use Rattle.sbx_domain.specs.Forms.{Form}
-use Rattle.sbx_domain.specs.Known.{Known, known}
+use Rattle.sbx_rules.specs.Forms.{Form}
+use Rattle.sbx_rules.specs.Known.{Known, known}
 use Rattle.sbx_rules.specs.Fuel.{IsPaid}
 use Rattle.sbx_rules.specs.Ways.{fuel_at, state_at}
 use Rattle.sbx_fuel.specs.Blocks.{first_of, fuel_of}

@@ -4,7 +4,7 @@ use Rattle.std.specs.Int.{w128}
 use Rattle.std.proofs.lemmas.Int.{ints, to_z-of_z}
 use mir.Val.{SFits}
 use Rattle.sbx_form.specs.declared.terms.FormTerm.{FormTerm}
-use Rattle.sbx_domain.specs.Known.{known, range_at}
+use Rattle.sbx_rules.specs.Known.{known, range_at}
 use Rattle.sbx_fuel.specs.Blocks.{first_of, fuel_of}
 use Rattle.sbx_fuel.specs.Least.{is_natural_sum, least_over, taken_by}
 use Rattle.sbx_fuel.specs.Margins.{start_terms}

@@ -1,5 +1,5 @@
 use Rattle.std.proofs.Common.{◌≡◌, drop}
-use Rattle.sbx_domain.specs.Known.{cell_entry}
+use Rattle.sbx_rules.specs.Known.{cell_entry}
 use Rattle.sbx_fuel.proofs.starts.cell_range.Given as goal
 
 abbrev pub invariant-loop-cell : goal.invariant-loop-cell

@@ -1,7 +1,7 @@
 use Rattle.std.proofs.Common.{◌+◌, ◌*◌, ◌^◌, List, drop, arith, ap, ◌∙◌, pos}
 use Rattle.sbx_form.specs.declared.terms.FormTerm.{FormTerm}
 use Rattle.sbx_form.proofs.Bounds.{wider_bound, within_at}
-use Rattle.sbx_domain.specs.Known.{known}
+use Rattle.sbx_rules.specs.Known.{known}
 use Rattle.sbx_fuel.specs.Margins.{start_terms}
 use Rattle.sbx_fuel.proofs.Counting.{start_all, start_more}
 use Rattle.sbx_fuel.proofs.sums.less_forms.Goals as goal

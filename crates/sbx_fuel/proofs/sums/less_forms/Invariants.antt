@@ -1,6 +1,6 @@
 use Rattle.std.proofs.Common.{◌≡◌, ◌+◌, ◌*◌, ◌^◌, ◌≤◌, drop}
 use Rattle.sbx_form.specs.Forms.{AreWithin}
-use Rattle.sbx_domain.specs.Known.{known}
+use Rattle.sbx_rules.specs.Known.{known}
 use Rattle.arrayvec.specs.ArrayVec.{array_vec_len}
 use Rattle.sbx_fuel.specs.Margins.{start_terms}
 use Rattle.sbx_fuel.proofs.sums.less_forms.Given as goal

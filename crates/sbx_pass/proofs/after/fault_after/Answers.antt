@@ -1,7 +1,7 @@
 use Rattle.std.proofs.Common.{◌≡◌, Bool, true, false, refl, sym, ap, ◌∙◌, arith, inl, inr}
 use Rattle.std.specs.Prelude.{◌&&◌, ◌||◌, ◌==◌, ◌⊎◌, IsTrue}
 use Rattle.std.specs.List.{list_any}
-use Rattle.sbx_domain.specs.Known.{known}
+use Rattle.sbx_rules.specs.Known.{known}
 use Rattle.sbx_rules.specs.declared.cause.Cause.{Cause}
 use Rattle.sbx_rules.specs.declared.cause.Cause.TheVariants.{UnkeptCells, OutOfFuel}
 use Rattle.sbx_rules.specs.Places.{block_at, function_at}

@@ -2,7 +2,7 @@ use Rattle.std.proofs.Common.{◌≡◌, ℕ, suc, sym, ap, ◌∙◌, subst}
 use Rattle.std.specs.Prelude.{◌&&◌, ◌||◌, ◌==◌, ◌↔◌, IsTrue}
 use Rattle.std.specs.List.{list_any}
 use Rattle.v8_meaning.specs.declared.operation.Operation.{Operation}
-use Rattle.sbx_domain.specs.Known.{known}
+use Rattle.sbx_rules.specs.Known.{known}
 use Rattle.sbx_rules.specs.Fuel.{IsEnough, IsWithinBudget}
 use Rattle.sbx_rules.specs.Places.{ends_run, function_at}
 use Rattle.sbx_rules.specs.Rules.{HasUnpaidEdge, ends_here, is_back, is_entry, names_strange}

@@ -1,6 +1,6 @@
 use Rattle.std.proofs.Common.{◌≡◌, ℕ, Bool, true, false, refl, sym, ap, ◌∙◌, subst}
 use Rattle.std.specs.Prelude.{◌↔◌, IsTrue, not}
-use Rattle.sbx_domain.specs.Known.{known}
+use Rattle.sbx_rules.specs.Known.{known}
 use Rattle.sbx_pass.specs.Paying.{IsPaidOn}
 use Rattle.sbx_pass.proofs.Locating.{located}
 use Rattle.sbx_pass.proofs.Paid.{unpaid_told}

@@ -2,7 +2,7 @@ use Rattle.std.proofs.Common.{Bool, List, arith}
 use Rattle.std.specs.Prelude.{not}
 use Rattle.v8_meaning.specs.declared.operation.Operation.{Operation}
 use Rattle.sbx_image.specs.declared.parts.Function.{Function}
-use Rattle.sbx_domain.specs.Known.{known}
+use Rattle.sbx_rules.specs.Known.{known}
 use Rattle.sbx_rules.specs.declared.cause.Cause.{Cause}
 use Rattle.sbx_rules.specs.declared.cause.Cause.TheVariants.{UndefinedRead, ReservedRegister, Misaligned, OutOfBounds, ZeroDivisor, TagOverflow}
 use Rattle.sbx_rules.specs.Operations.{access_of}

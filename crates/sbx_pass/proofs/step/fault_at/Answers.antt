@@ -1,6 +1,6 @@
 use Rattle.std.proofs.Common.{◌≡◌, suc, Bool, true, false, refl, sym, ap, ◌∙◌, subst}
 use Rattle.v8_meaning.specs.declared.operation.Operation.{Operation}
-use Rattle.sbx_domain.specs.Known.{known}
+use Rattle.sbx_rules.specs.Known.{known}
 use Rattle.sbx_rules.specs.Rules.{Holds}
 use Rattle.sbx_rules.specs.Ways.{after_word, state_at}
 use Rattle.sbx_known.specs.Courses.{is_branch}

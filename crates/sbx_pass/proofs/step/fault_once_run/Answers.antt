@@ -1,7 +1,7 @@
 use Rattle.std.proofs.Common.{◌≡◌, ℕ, false, Option, sym, ap, ◌∙◌, arith, inl, inr}
 use Rattle.std.specs.Prelude.{not}
 use Rattle.std.specs.List.{list_any}
-use Rattle.sbx_domain.specs.Known.{known}
+use Rattle.sbx_rules.specs.Known.{known}
 use Rattle.sbx_rules.specs.Places.{function_at, op_at, op_before}
 use Rattle.sbx_rules.specs.Rules.{has_cells, misses_params, params_of}
 use Rattle.sbx_rules.specs.Ways.{after_call, visits_at}

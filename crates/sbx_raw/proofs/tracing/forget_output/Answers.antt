@@ -1,5 +1,8 @@
 use Rattle.std.proofs.Common.{rules}
 use Rattle.sbx_raw.proofs.tracing.forget_output.Goals as goal
 
-pub returns : goal.returns
-returns g c = search rules
+pub returns-then-not-is_empty : goal.returns-then-not-is_empty
+returns-then-not-is_empty g c = search rules
+
+pub returns-else-not-is_empty : goal.returns-else-not-is_empty
+returns-else-not-is_empty g c = search rules

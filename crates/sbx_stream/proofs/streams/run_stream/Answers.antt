@@ -3,7 +3,7 @@ use Rattle.v8_board.specs.declared.outcome.Outcome.{Outcome}
 use Rattle.sbx_flat.specs.Runs.{budget}
 use Rattle.sbx_image.specs.declared.parts.Parts.{Parts}
 use Rattle.sbx_port.specs.Streams.{RunsAs, RunsOn, Streamed}
-use Rattle.sbx_windows.specs.Runs.{IsImage}
+use Rattle.sbx_run.specs.Runs.{IsImage}
 use Rattle.sbx_stream.specs.Streams.{IsReady}
 use Rattle.sbx_stream.proofs.Streamed.{front, has_exited, no_memory, streamed}
 use Rattle.sbx_stream.proofs.streams.run_stream.Goals as goal

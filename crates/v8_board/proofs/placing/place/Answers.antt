@@ -1,7 +1,7 @@
 use Rattle.std.proofs.Common.{ℕ, ◌*◌, List, ap, sym, subst, ◌∙◌}
-use Rattle.v8_loaded.specs.Layout.{Pages}
+use Rattle.v8_contained.specs.Layout.{Pages}
 use Rattle.v8_layout.specs.Tables.{table_word}
-use Rattle.v8_memory.specs.Placing.{HasWords, HasBytesOf}
+use Rattle.v8_contained.specs.Placing.{HasWords, HasBytesOf}
 use Rattle.v8_board.specs.Start.{IsPlaced}
 use Rattle.v8_board.proofs.Placed.{placed}
 use Rattle.v8_board.proofs.placing.place.Goals as goal

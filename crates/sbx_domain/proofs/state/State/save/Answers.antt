@@ -3,7 +3,7 @@ use Rattle.std.proofs.Math.Seq.{take-append_seam}
 use Rattle.sbx_domain.proofs.Tables.{known_saved}
 use Rattle.sbx_domain.proofs.state.State.save.Goals as goal
 use Rattle.sbx_domain.specs.declared.entry.Entry.{Entry}
-use Rattle.v8_meaning.specs.declared.operation.Operation.TheVariants.{Save}
+use Rattle.sbx_flat.specs.Operation.TheVariants.{Save}
 use Rattle.sbx_domain.specs.Known.{Known, Table, known}
 use Rattle.sbx_domain.specs.Transfer.{is_in, transferred}
 

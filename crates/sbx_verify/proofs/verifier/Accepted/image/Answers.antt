@@ -1,6 +1,6 @@
 use Rattle.std.proofs.Common.{subst, rules}
 use Rattle.sbx_flat.specs.Runs.{FlatSafe}
-use Rattle.sbx_rules.specs.Verdicts.{Checked}
+use Rattle.sbx_sound.specs.Verdicts.{Checked}
 use Rattle.sbx_verify.proofs.verifier.Accepted.image.Goals as goal
 
 pub returns-clause-image : goal.returns-clause-image

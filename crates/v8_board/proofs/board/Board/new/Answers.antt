@@ -1,14 +1,20 @@
-use Rattle.std.proofs.Common.{◌≡◌, length, lit<, refl, rules, arith}
+use Rattle.std.proofs.Common.{◌≡◌, length, lit<, refl, rules}
 use Rattle.v8_core.specs.Ram.{AreBytes}
 use Rattle.v8_board.proofs.Contained.{blank_bytes, boots_state}
-use Rattle.std.proofs.lemmas.Grind.{common_steps}
 use Rattle.v8_board.proofs.board.Board.new.Goals as goal
 
 pub invariant_of-result : goal.invariant_of-result
 invariant_of-result g c = search rules
 
 pub returns-in-Ok-clause-made : goal.returns-in-Ok-clause-made
-returns-in-Ok-clause-made g c = grind (arith, common_steps)
+returns-in-Ok-clause-made g c =
+    record {
+      cpu = c.new-in-Ok.ensures.cpu;
+      ram = rw c.new-in-Ok.ensures.bus c.in-Ok.ensures.ram;
+      device = search rules;
+      mmu = rw c.new-in-Ok.ensures.mmu refl;
+      counts = refl;
+    }
 
 pub returns-in-Ok-clause-state : goal.returns-in-Ok-clause-state
 returns-in-Ok-clause-state g c =

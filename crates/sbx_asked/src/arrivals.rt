@@ -1,0 +1,172 @@
+//! What a block, a function or a caller begins with, beside what is known after the word that leads there.
+ghost use Rattle.std.specs.Prelude.{◌<◌, IfSome, length};
+ghost use Rattle.sbx_inspect.specs.Sights.{IsSeen};
+ghost use Rattle.sbx_known.specs.Courses.{AreWell, IsWell};
+ghost use Rattle.sbx_known.specs.Spots.{IsSpot};
+
+use sbx_declare::{Bounds, Location};
+use sbx_domain::State;
+use sbx_image::{Cell, Image, Range};
+use sbx_inspect::Sight;
+use sbx_known::{Course, Courses, Going, Spot, block_at, function_at, perform_on, return_to};
+use sbx_range::is_within;
+use sbx_sights::Known;
+use std::alloc::AllocError;
+
+/// Whether a location is known to hold what a declaration says.
+fn mark(known: Option<Range>, declared: Range) -> &'static str {
+    match known {
+        Some(range) if is_within(range, declared) => "",
+        _ => "   <-",
+    }
+}
+
+/// A location that a declaration names, beside what is known of it; an arrow marks one that isn't within.
+fn push_declared(
+    out: &mut String,
+    location: u16,
+    declared: Range,
+    known: Option<Range>,
+) -> Result<(), AllocError> {
+    let mark = mark(known, declared);
+    let (location, bounds, known) = (Location(location), Bounds(declared), Known(known));
+    writeln!(
+        out,
+        "  {location} is declared as {bounds}, and is {known}{mark}"
+    )
+}
+
+fn push_cells(out: &mut String, cells: &[Cell], state: &State) -> Result<(), AllocError> {
+    for cell in cells {
+        push_declared(out, cell.location, cell.range, state.range(cell.location))?;
+    }
+    Ok(())
+}
+
+/// Parameters or results, which stand in %o0 and on.
+fn push_outs(out: &mut String, ranges: &[Range], state: &State) -> Result<(), AllocError> {
+    let mut location = 8u16;
+    for range in ranges {
+        push_declared(out, location, *range, state.range(location))?;
+        location = location.wrapping_add(1);
+    }
+    Ok(())
+}
+
+/// What a block begins with, beside what is known: its cells, or the parameters of the function that it is the first block of.
+fn push_begins(
+    out: &mut String,
+    image: &Image,
+    function: usize,
+    block: usize,
+    after: &State,
+) -> Result<(), AllocError>
+    requires function { function < length image.now.functions }
+    requires well { IsWell image.now function (Going.To block) }
+{
+    let declared = block_at(image, function, block);
+    let address = declared.address;
+    writeln!(out, "\nafter it, where the block at {address:08X} begins:")?;
+    if block == 0 {
+        push_outs(out, function_at(image, function).params.as_slice(), after)
+    } else {
+        push_cells(out, declared.cells.as_slice(), after)
+    }
+}
+
+/// Where a way leads to another block, what that begins with, beside what is known after the word.
+fn push_edge(
+    out: &mut String,
+    image: &Image,
+    spot: &Spot,
+    course: Option<Course>,
+    after: &State,
+) -> Result<(), AllocError>
+    requires spot { IsSpot image.now spot.now }
+    requires well { IfSome course (λ c. IsWell image.now spot.now.function c.going) }
+{
+    match course {
+        Some(
+            Course {
+                going: Going::To(block),
+                ..
+            },
+        ) => push_begins(out, image, spot.function, block, after),
+        _ => Ok(()),
+    }
+}
+
+/// Where a way leads back to the caller, the function's results beside what is known after the word.
+fn push_return(
+    out: &mut String,
+    image: &Image,
+    spot: &Spot,
+    course: Option<Course>,
+    after: &State,
+) -> Result<(), AllocError>
+    requires { IsSpot image.now spot.now }
+{
+    match course {
+        Some(
+            Course {
+                going: Going::Back,
+                ..
+            },
+        ) => {
+            out.push_str("\nafter it, back in the caller:\n")?;
+            push_outs(
+                out,
+                function_at(image, spot.function).results.as_slice(),
+                after,
+            )
+        }
+        _ => Ok(()),
+    }
+}
+
+/// The parameters of the function that was called before a slot, beside what is known after the slot.
+fn push_call(out: &mut String, image: &Image, spot: &Spot, state: &State) -> Result<(), AllocError>
+    requires { IsSpot image.now spot.now }
+{
+    match spot.called {
+        Some(callee) => {
+            out.push_str("\nafter it, where the function that is called begins:\n")?;
+            push_outs(out, function_at(image, callee).params.as_slice(), state)
+        }
+        None => Ok(()),
+    }
+}
+
+/// What each way leads to, beside what is known after the word there.
+fn push_ways(
+    out: &mut String,
+    image: &Image,
+    spot: &Spot,
+    courses: Courses,
+    first: &State,
+    second: &State,
+) -> Result<(), AllocError>
+    requires spot { IsSpot image.now spot.now }
+    requires well { AreWell image.now spot.now.function courses }
+{
+    push_edge(out, image, spot, courses.first, first)?;
+    push_edge(out, image, spot, courses.second, second)?;
+    push_return(out, image, spot, courses.first, first)
+}
+
+/// The parameters, cells or results that the word's ways lead to, beside what is known after the word there.
+pub fn push_arrivals(out: &mut String, image: &Image, sight: Sight) -> Result<(), AllocError>
+    requires { IsSeen image.now sight }
+{
+    let Sight {
+        spot,
+        weight: _,
+        courses,
+        mut first,
+        mut second,
+    } = sight;
+    perform_on(image, &spot, &courses, &mut first, &mut second);
+    push_call(out, image, &spot, &first)?;
+    return_to(image, &spot, &mut first);
+    push_ways(out, image, &spot, courses, &first, &second)
+}

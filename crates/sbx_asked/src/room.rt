@@ -1,0 +1,26 @@
+//! The two sides of the rule of stack room.
+ghost use Rattle.sbx_inspect.specs.Sights.{IsSeen};
+
+use sbx_image::Image;
+use sbx_inspect::{RoomSides, Sight, call_room, entry_room, stack_room};
+use std::alloc::AllocError;
+
+fn push_sides(out: &mut String, sides: RoomSides, asker: &str) -> Result<(), AllocError> {
+    let RoomSides { room, needed } = sides;
+    writeln!(out, "  {room} bytes, and {needed} are asked for {asker}")
+}
+
+/// The two sides of the rule of stack room: at the function's entry, at that of function 0, and at a call.
+pub fn push_room(out: &mut String, image: &Image, sight: &Sight) -> Result<(), AllocError>
+    requires { IsSeen image.now sight.now }
+{
+    out.push_str("\nthere are\n")?;
+    push_sides(out, entry_room(image, sight), "by the frame")?;
+    if sight.spot.function == 0 {
+        push_sides(out, stack_room(image, sight), "of the stack by function 0")?;
+    }
+    if sight.spot.callee.is_some() {
+        push_sides(out, call_room(image, sight), "by the frame and the callee")?;
+    }
+    Ok(())
+}

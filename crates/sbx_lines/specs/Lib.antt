@@ -1,0 +1,4 @@
+pub mod Words
+pub mod Faults
+pub mod Output
+pub mod Marks

@@ -1,0 +1,222 @@
+//! Runs of an image that is accepted. At a want of memory each call is asked once more, and then has to give what it gives with ample
+//! memory; any other fault fails the test.
+
+use sbx_image::{Image, ImageFault, parse, write};
+use sbx_run::{
+    Accepted, Cause, Ending, Finished, Raw, RunFault, run_accepted, run_raw, run_windows, trace,
+    verify,
+};
+use std::alloc::{AllocError, Global};
+use std::io::{self, Write};
+
+/// Puts `H` and `i` and exits with 0 (docs/image.md).
+const HELLO: [u8; 86] = [
+    0x53, 0x42, 0x58, 0x38, 0x00, 0x01, 0x00, 0x05, 0x00, 0x00, 0x00, 0x06, 0x00, 0x00, 0x00, 0x00,
+    0x00, 0x01, 0x00, 0x01, 0x90, 0x10, 0x20, 0x48, 0x91, 0xD0, 0x20, 0x02, 0x90, 0x10, 0x20, 0x69,
+    0x91, 0xD0, 0x20, 0x02, 0x90, 0x10, 0x20, 0x00, 0x91, 0xD0, 0x20, 0x00, 0x00, 0x00, 0x00, 0x00,
+    0x00, 0x04, 0x00, 0x00, 0x00, 0x00, 0x00, 0x00, 0x00, 0x00, 0x00, 0x00, 0x00, 0x00, 0x00, 0x00,
+    0x00, 0x00, 0x00, 0x10, 0x00, 0x01, 0x00, 0x04, 0x00, 0x00, 0x00, 0x00, 0x00, 0x00, 0x00, 0x00,
+    0x00, 0x00, 0x00, 0x00, 0x00, 0x10,
+];
+
+/// The image; none where a fault is told that isn't want of memory.
+fn image(alloc: Global) -> Option<Image> {
+    match parse(alloc, &HELLO) {
+        Ok(image) => Some(image),
+        Err(ImageFault::Memory(_)) => parse(alloc, &HELLO).ok(),
+        Err(_) => None,
+    }
+}
+
+/// The image as an accepted one. Where memory is refused it comes back, and is verified again.
+fn accepted(alloc: Global) -> Option<Accepted> {
+    match verify(alloc, image(alloc)?) {
+        Ok(accepted) => Some(accepted),
+        Err((image, refusal)) => match refusal.cause {
+            Cause::NoMemory(_) => verify(alloc, image).ok(),
+            _ => None,
+        },
+    }
+}
+
+/// Whether the accepted image is spelled as its bytes.
+fn is_spelled(alloc: Global) -> bool {
+    let Some(accepted) = accepted(alloc) else {
+        return false;
+    };
+    match write(accepted.image(), alloc) {
+        Ok(bytes) => bytes.as_slice() == HELLO.as_slice(),
+        Err(AllocError) => match write(accepted.image(), alloc) {
+            Ok(bytes) => bytes.as_slice() == HELLO.as_slice(),
+            Err(AllocError) => false,
+        },
+    }
+}
+
+#[test]
+fn an_image_is_read_verified_and_written(rt: HostRuntime) {
+    assert!(rt; is_spelled(rt.alloc()));
+}
+
+/// Whether it exits after 16 turns and has put out `Hi`.
+fn greets(raw: &Raw) -> bool {
+    raw.outcome.ending == Ending::Exit(0)
+        && raw.outcome.turns == 16
+        && raw.output.as_slice() == b"Hi".as_slice()
+}
+
+/// The raw run of an image on 8 windows; none where a fault is told that isn't want of memory.
+fn raw_of(alloc: Global, image: &Image) -> Option<Raw> {
+    match run_raw::<8>(alloc, image, b"", 100) {
+        Ok(raw) => Some(raw),
+        Err(RunFault::Memory(_)) => run_raw::<8>(alloc, image, b"", 100).ok(),
+        Err(_) => None,
+    }
+}
+
+/// Whether the raw run is as it has to be.
+fn runs_raw(alloc: Global) -> bool {
+    let Some(image) = image(alloc) else {
+        return false;
+    };
+    match raw_of(alloc, &image) {
+        Some(raw) => greets(&raw),
+        None => false,
+    }
+}
+
+#[test]
+fn a_raw_run_ends(rt: HostRuntime) {
+    assert!(rt; runs_raw(rt.alloc()));
+}
+
+/// Whether it exits with 0 after 16 turns and has put out `Hi`.
+fn is_finished(finished: &Finished) -> bool {
+    finished.status == 0 && finished.turns == 16 && finished.output.as_slice() == b"Hi".as_slice()
+}
+
+/// The run of an accepted image on 32 windows; none where a fault is told that isn't want of memory.
+fn finished_of(alloc: Global, accepted: &Accepted) -> Option<Finished> {
+    match run_accepted::<32>(alloc, accepted, b"") {
+        Ok(finished) => Some(finished),
+        Err(RunFault::Memory(_)) => run_accepted::<32>(alloc, accepted, b"").ok(),
+        Err(_) => None,
+    }
+}
+
+/// The same on as many windows as a number says.
+fn finished_on(alloc: Global, windows: u32, accepted: &Accepted) -> Option<Finished> {
+    match run_windows(alloc, windows, accepted, b"")? {
+        Ok(finished) => Some(finished),
+        Err(RunFault::Memory(_)) => run_windows(alloc, windows, accepted, b"")?.ok(),
+        Err(_) => None,
+    }
+}
+
+/// Whether the run on 32 windows is as it has to be.
+fn runs(alloc: Global) -> bool {
+    let Some(accepted) = accepted(alloc) else {
+        return false;
+    };
+    match finished_of(alloc, &accepted) {
+        Some(finished) => is_finished(&finished),
+        None => false,
+    }
+}
+
+#[test]
+fn a_run_ends(rt: HostRuntime) {
+    assert!(rt; runs(rt.alloc()));
+}
+
+/// Whether the run on 4 windows is as it has to be.
+fn runs_on_four(alloc: Global) -> bool {
+    let Some(accepted) = accepted(alloc) else {
+        return false;
+    };
+    match finished_on(alloc, 4, &accepted) {
+        Some(finished) => is_finished(&finished),
+        None => false,
+    }
+}
+
+#[test]
+fn a_run_on_a_count_of_windows_ends(rt: HostRuntime) {
+    assert!(rt; runs_on_four(rt.alloc()));
+}
+
+/// Takes so many bytes, one a call, and then fails. Its room is its own, so that no refused growth is its.
+#[derive(Drop)]
+struct Paper {
+    kept: [u8; 1024],
+    count: usize,
+    most: usize,
+}
+
+impl Paper {
+    /// One with nothing on it.
+    fn new(most: usize) -> Paper {
+        Paper {
+            kept: [0; 1024],
+            count: 0,
+            most,
+        }
+    }
+
+    /// What was written.
+    fn text(&self) -> &[u8] {
+        self.kept.get(..self.count).unwrap_or(&[])
+    }
+}
+
+impl Write for Paper {
+    fn write(&mut self, buf: &[u8]) -> io::Result<usize> {
+        if self.count >= self.most.min(1024) {
+            return Err(io::Error::from(io::ErrorKind::Other));
+        }
+        match buf.first() {
+            Some(byte) => {
+                self.kept[self.count] = *byte;
+                self.count += 1;
+                Ok(1)
+            }
+            None => Ok(0),
+        }
+    }
+
+    fn flush(&mut self) -> io::Result<()> {
+        Ok(())
+    }
+}
+
+/// What 8 windows' trace of the first two turns has to be.
+const TWO_TURNS: &[u8] = b"0000000001 00 u 00040000 90102048 ran
+0000000002 00 u 00040004 91D02002 trap 82
+";
+
+/// What a trace to a writer of so many bytes has left there, and whether it was told as a failed writer. Where memory is refused, it is
+/// asked for once more.
+fn traced(alloc: Global, image: &Image, limit: u64, most: usize) -> (Paper, bool) {
+    let mut paper = Paper::new(most);
+    let mut done = trace::<8, Paper>(alloc, image, b"", limit, &mut paper);
+    if matches!(done, Err(RunFault::Memory(_))) {
+        paper = Paper::new(most);
+        done = trace::<8, Paper>(alloc, image, b"", limit, &mut paper);
+    }
+    (paper, matches!(done, Err(RunFault::Writer)))
+}
+
+/// Whether a trace of two turns is written whole, and one to a writer that takes 60 bytes leaves the first 60.
+fn traces(alloc: Global) -> bool {
+    let Some(image) = image(alloc) else {
+        return false;
+    };
+    let (whole, failed) = traced(alloc, &image, 2, 1024);
+    let (front, full) = traced(alloc, &image, 100, 60);
+    !failed && full && whole.text() == TWO_TURNS && Some(front.text()) == TWO_TURNS.get(..60)
+}
+
+#[test]
+fn a_trace_is_written(rt: HostRuntime) {
+    assert!(rt; traces(rt.alloc()));
+}

@@ -1,0 +1,7 @@
+use Rattle.std.proofs.lemmas.Result.{IfOk-weaker}
+use Rattle.sbx_tell.proofs.run.run_board.Goals as goal
+
+pub returns-clause-run : goal.returns-clause-run
+returns-clause-run g c =
+    IfOk-weaker c.told_of.result _ _ (λ run told. record { run = c.in_ok-run_slices.ensures.run; kept = c.in_ok-run_slices.ensures.contained; shown = told })
+    c.told_of.ensures.told

@@ -1,0 +1,179 @@
+//! Reports and traces.
+ghost use Rattle.std.specs.Prelude.{◌≤◌};
+
+use crate::images::{FOREVER, HELLO};
+use crate::sink::Sink;
+use sbx_image::{Image, parse};
+use sbx_raw::RunFault;
+use sbx_tell::{Progress, push_run, run_windows};
+use sbx_watch::watch_windows;
+use std::alloc::Global;
+
+/// How often a run said how far it had come.
+#[derive(Drop)]
+struct Count(u32);
+
+impl Progress for Count {
+    fn made(&mut self, _turns: u64) {
+        self.0 = self.0.wrapping_add(1);
+    }
+}
+
+/// The image of these bytes; where memory was refused, it is read once more.
+fn image_of(alloc: Global, bytes: &[u8]) -> Option<Image> {
+    match parse(alloc, bytes) {
+        Ok(image) => Some(image),
+        Err(_refused) => parse(alloc, bytes).ok(),
+    }
+}
+
+/// The report of an image's run on no input; nothing where memory was refused.
+fn told_once(
+    alloc: Global,
+    windows: u32,
+    image: &Image,
+    limit: u64,
+    count: &mut Count,
+) -> Option<String>
+    requires { (4 ≤ windows) × (windows ≤ 32) }
+{
+    let run = run_windows(alloc, windows, image, b"", limit, count).ok()?;
+    let mut text = String::new(alloc);
+    push_run(&mut text, windows, limit, &run).ok()?;
+    Some(text)
+}
+
+/// The same; where memory was refused, it is asked for once more, and counted anew.
+fn told(alloc: Global, windows: u32, image: &Image, limit: u64, count: &mut Count) -> Option<String>
+    requires { (4 ≤ windows) × (windows ≤ 32) }
+{
+    match told_once(alloc, windows, image, limit, count) {
+        Some(text) => Some(text),
+        None => {
+            count.0 = 0;
+            told_once(alloc, windows, image, limit, count)
+        }
+    }
+}
+
+/// What a run of HELLO tells on 8 windows.
+const REPORT: &str = "output: 2 bytes
+  Hi
+end: exit with the word 00000000
+turns: 16 of at most 100000, on 8 windows
+window traps: 0 overflows, 0 underflows
+pages, each a mark: R referenced, M modified
+  code  00040000 R...............................................................
+  data  00080000 ................................................................
+  stack 000C0000 ................................................................
+fault status: none
+";
+
+/// What its turns are told as.
+const TURNS: &str =
+    "     1 00 u 00040000 f0+0         or %g0,72,%o0             %o0=00000048  page 00040000: R
+     2 00 u 00040004 f0+4         ta 2                      trap 82 trap_instruction  %l1=00040004
+       %l2=00040008  PSR=00000087
+     3 07 s F0000820 vector 82+0  sethi 3932224,%l3         %l3=F0010000
+     4 07 s F0000824 vector 82+4  st %i0,[%l3+4]            puts out 48
+     5 07 s F0000828 vector 82+8  jmpl %l2+%g0,%g0
+     6 07 s F000082C vector 82+C  rett %l2+4                PSR=00000020
+     7 00 u 00040008 f0+8         or %g0,105,%o0            %o0=00000069
+     8 00 u 0004000C f0+C         ta 2                      trap 82 trap_instruction  %l1=0004000C
+       %l2=00040010  PSR=00000087
+     9 07 s F0000820 vector 82+0  sethi 3932224,%l3
+    10 07 s F0000824 vector 82+4  st %i0,[%l3+4]            puts out 69
+    11 07 s F0000828 vector 82+8  jmpl %l2+%g0,%g0
+    12 07 s F000082C vector 82+C  rett %l2+4                PSR=00000020
+    13 00 u 00040010 f0+10        or %g0,0,%o0              %o0=00000000
+    14 00 u 00040014 f0+14        ta 0                      trap 80 trap_instruction  %l1=00040014
+       %l2=00040018  PSR=00000087
+    15 07 s F0000800 vector 80+0  sethi 3932224,%l3
+    16 07 s F0000804 vector 80+4  st %i0,[%l3+8]            exit 00000000
+";
+
+/// Whether the run of HELLO is told as it has to be, which is too short to say how far it has come.
+fn is_told(alloc: Global) -> bool {
+    let mut count = Count(0);
+    let Some(image) = image_of(alloc, HELLO) else {
+        return false;
+    };
+    match told(alloc, 8, &image, 100_000, &mut count) {
+        Some(text) => text.as_str() == REPORT && count.0 == 0,
+        None => false,
+    }
+}
+
+#[test]
+fn a_run_is_told(rt: HostRuntime) {
+    assert!(rt; is_told(rt.alloc()));
+}
+
+/// How the report of 3 MiB of output begins.
+const LONG_REPORT: &str = "output: 3145728 bytes\n  AAAAAAAAAAAAAAAAAAAAAAAA\n  AAAA";
+
+/// Whether a run that puts out 3 MiB is told, and says how far it has come.
+fn is_told_at_length(alloc: Global) -> bool {
+    let mut count = Count(0);
+    let Some(image) = image_of(alloc, FOREVER) else {
+        return false;
+    };
+    match told(alloc, 32, &image, 22_020_096, &mut count) {
+        Some(text) => { text.len() == 3_539_410 && text.starts_with(LONG_REPORT) && count.0 == 5 }
+        None => false,
+    }
+}
+
+#[test]
+fn three_mebibytes_are_told(rt: HostRuntime) {
+    assert!(rt; is_told_at_length(rt.alloc()));
+}
+
+/// Whether the turns of an image's run on no input are told. Where memory was refused, they are asked for once more; the sink takes all,
+/// so there is no other fault.
+fn is_watched(alloc: Global, windows: u32, image: &Image, limit: u64, sink: &mut Sink) -> bool
+    requires { (4 ≤ windows) × (windows ≤ 32) }
+{
+    match watch_windows(alloc, windows, image, b"", limit, sink) {
+        Ok(()) => true,
+        Err(RunFault::Memory(_)) => {
+            *sink = Sink::new();
+            watch_windows(alloc, windows, image, b"", limit, sink).is_ok()
+        }
+        Err(_) => false,
+    }
+}
+
+/// Whether the turns of HELLO are told as they have to be.
+fn are_turns_told(alloc: Global) -> bool {
+    let mut sink = Sink::new();
+    match image_of(alloc, HELLO) {
+        Some(image) => {
+            is_watched(alloc, 8, &image, 100_000, &mut sink) && sink.front() == TURNS.as_bytes()
+        }
+        None => false,
+    }
+}
+
+#[test]
+fn turns_are_told(rt: HostRuntime) {
+    assert!(rt; are_turns_told(rt.alloc()));
+}
+
+/// Whether 200,000 turns have as many lines or more, none longer than 100 columns.
+fn has_lines_that_fit(alloc: Global) -> bool {
+    let mut sink = Sink::new();
+    match image_of(alloc, FOREVER) {
+        Some(image) => {
+            is_watched(alloc, 32, &image, 200_000, &mut sink)
+                && sink.longest <= 100
+                && sink.lines >= 200_000
+        }
+        None => false,
+    }
+}
+
+#[test]
+fn a_long_trace_has_lines_that_fit(rt: HostRuntime) {
+    assert!(rt; has_lines_that_fit(rt.alloc()));
+}

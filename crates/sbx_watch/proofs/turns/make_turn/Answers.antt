@@ -1,8 +1,0 @@
-use Rattle.std.proofs.Common.{string_bytes}
-use Rattle.sbx_watch.proofs.Told.{tells}
-use Rattle.sbx_watch.proofs.turns.make_turn.Goals as goal
-
-pub returns : goal.returns
-returns g c =
-    tells c.args.functions.now c.args.number c.args.turn.now (string_bytes c.make_head.new.line) (string_bytes c.push_str.new.self) (string_bytes c.push_str-2.new.self) _ _
-    c.in_ok-make_head.ensures c.in_ok-push_str.ensures.bytes c.in_ok-push_str-2.ensures.bytes

@@ -1,0 +1,4 @@
+use Rattle.v8_core.proofs.machine.Machine.bus_mut.Goals as goal
+
+pub invariant_of-self-lent : goal.invariant_of-self-lent
+invariant_of-self-lent g c = λ w. c.clear.ensures _ _
