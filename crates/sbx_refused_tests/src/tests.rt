@@ -147,16 +147,16 @@ fn a_run_on_a_count_of_windows_ends(rt: HostRuntime) {
 
 /// Takes so many bytes, one a call, and then fails. Its room is its own, so that no refused growth is its.
 #[derive(Drop)]
-struct Paper {
+struct Sheet {
     kept: [u8; 1024],
     count: usize,
     most: usize,
 }
 
-impl Paper {
+impl Sheet {
     /// One with nothing on it.
-    fn new(most: usize) -> Paper {
-        Paper {
+    fn new(most: usize) -> Sheet {
+        Sheet {
             kept: [0; 1024],
             count: 0,
             most,
@@ -169,7 +169,7 @@ impl Paper {
     }
 }
 
-impl Write for Paper {
+impl Write for Sheet {
     fn write(&mut self, buf: &[u8]) -> io::Result<usize> {
         if self.count >= self.most.min(1024) {
             return Err(io::Error::from(io::ErrorKind::Other));
@@ -196,14 +196,14 @@ const TWO_TURNS: &[u8] = b"0000000001 00 u 00040000 90102048 ran
 
 /// What a trace to a writer of so many bytes has left there, and whether it was told as a failed writer. Where memory is refused, it is
 /// asked for once more.
-fn traced(alloc: Global, image: &Image, limit: u64, most: usize) -> (Paper, bool) {
-    let mut paper = Paper::new(most);
-    let mut done = trace::<8, Paper>(alloc, image, b"", limit, &mut paper);
+fn traced(alloc: Global, image: &Image, limit: u64, most: usize) -> (Sheet, bool) {
+    let mut sheet = Sheet::new(most);
+    let mut done = trace::<8, Sheet>(alloc, image, b"", limit, &mut sheet);
     if matches!(done, Err(RunFault::Memory(_))) {
-        paper = Paper::new(most);
-        done = trace::<8, Paper>(alloc, image, b"", limit, &mut paper);
+        sheet = Sheet::new(most);
+        done = trace::<8, Sheet>(alloc, image, b"", limit, &mut sheet);
     }
-    (paper, matches!(done, Err(RunFault::Writer)))
+    (sheet, matches!(done, Err(RunFault::Writer)))
 }
 
 /// Whether a trace of two turns is written whole, and one to a writer that takes 60 bytes leaves the first 60.

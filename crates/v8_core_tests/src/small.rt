@@ -30,7 +30,7 @@ pub struct Small<const M: usize> {
 
 impl<const M: usize> Small<M> {
     /// RAM whose bytes are all 0, a device that has not stopped, and a port that works.
-    pub fn new() -> Self
+    pub(crate) fn new() -> Self
         ensures bytes { result.bytes ≡ replicate M 0 }
         ensures stop { result.stop ≡ None }
         ensures broken { result.broken ≡ false }
@@ -46,7 +46,7 @@ impl<const M: usize> Small<M> {
     }
 
     /// Writes a word of RAM, where there is one.
-    pub fn put(&mut self, pa: u64, word: u32)
+    pub(crate) fn put(&mut self, pa: u64, word: u32)
         ensures ram { self.new.bytes ≡ unwrap_or (ram_store self.old.bytes pa Size.Word word) self.old.bytes }
         ensures stop { self.new.stop ≡ self.old.stop }
         ensures broken { self.new.broken ≡ self.old.broken }
@@ -58,7 +58,7 @@ impl<const M: usize> Small<M> {
     }
 
     /// The word of RAM at a place.
-    pub fn word_at(&self, place: u64) -> Option<u32>
+    pub(crate) fn word_at(&self, place: u64) -> Option<u32>
         ensures { result ≡ entry_of self.now.bytes place }
     {
         self.word(place)
