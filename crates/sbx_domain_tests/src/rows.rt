@@ -6,7 +6,7 @@ use v8_word::Cond;
 /// A range: its ends, and its alignment.
 pub type Ends = (i32, i32, u8);
 
-pub fn range(ends: Ends) -> Range {
+pub(crate) fn range(ends: Ends) -> Range {
     Range {
         lo: ends.0,
         hi: ends.1,
@@ -59,7 +59,7 @@ fn has_form(state: &State, location: u16, constant: i64, want: &[(u16, i128)]) -
 }
 
 /// Whether the least value of a location's form is this, over the ranges of another state.
-pub fn has_least(state: &State, location: u16, start: &State, want: i128) -> bool {
+pub(crate) fn has_least(state: &State, location: u16, start: &State, want: i128) -> bool {
     match state.form(location) {
         Some(form) => least(&form, start) == want,
         None => false,
@@ -96,7 +96,7 @@ fn change(state: &mut State, row: &Row) -> bool {
 }
 
 /// The number of the first row, from 0, that isn't as it is wanted.
-pub fn first_wrong(state: &mut State, rows: &[Row]) -> Option<usize> {
+pub(crate) fn first_wrong(state: &mut State, rows: &[Row]) -> Option<usize> {
     for (number, row) in rows.iter().enumerate() {
         if !change(state, row) || !is_known(state, row) {
             return Some(number);

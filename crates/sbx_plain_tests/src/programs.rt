@@ -261,7 +261,7 @@ const ROUNDS: [u32; 19] = [
 ];
 
 /// The words of a chain.
-pub fn chain(alloc: Global, shape: Shape) -> Result<Vec<u32>, AllocError> {
+pub(crate) fn chain(alloc: Global, shape: Shape) -> Result<Vec<u32>, AllocError> {
     let mut words = Vec::new(alloc);
     match shape {
         // call .+16; nop; mov 0,%o0; ta 0

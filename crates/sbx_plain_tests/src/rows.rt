@@ -170,7 +170,7 @@ pub static LOOPS: [Row; 2] = [
 impl Row {
     /// The overflows, underflows and turns on so many windows. The first function's SAVE is never undone, so there is an underflow
     /// less; and each of them takes 24 turns, its trap and the handler's 23.
-    pub fn counts_on(&self, windows: u32) -> (u64, u64, u64) {
+    pub(crate) fn counts_on(&self, windows: u32) -> (u64, u64, u64) {
         let more = u64::from(windows.saturating_sub(4));
         let overflows = self
             .overflows
@@ -190,7 +190,7 @@ impl Row {
     }
 
     /// An image of the row's words: one leaf function of one block, all services, one page of stack, and 1,024 bytes of data.
-    pub fn image(&self, alloc: Global) -> Result<Image, Fail> {
+    pub(crate) fn image(&self, alloc: Global) -> Result<Image, Fail> {
         let mut bytes = Vec::new(alloc);
         bytes.extend_from_slice(b"SBX8\x00\x01\x00\x07")?;
         self.spell_words(alloc, &mut bytes)?;

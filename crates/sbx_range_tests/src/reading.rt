@@ -77,7 +77,7 @@ fn holds(table: Table, line: &str) -> bool {
 }
 
 /// The first row that isn't so; empty where there is none.
-pub fn wrong_row<'a>(table: Table, rows: &'a str) -> &'a str {
+pub(crate) fn wrong_row<'a>(table: Table, rows: &'a str) -> &'a str {
     for line in rows.lines() {
         if !holds(table, line) {
             return line;

@@ -2,6 +2,6 @@
 use std::process::Abort;
 
 /// A text is the one that is wanted; `row` names the case.
-pub fn same<R: Abort>(rt: &R, row: &str, found: &str, wanted: &str) {
+pub(crate) fn same<R: Abort>(rt: &R, row: &str, found: &str, wanted: &str) {
     assert!(rt; found == wanted, "{row}: {found}");
 }

@@ -48,7 +48,7 @@ fn words_of(alloc: Global, parsed: &Parsed) -> Result<String, AllocError> {
 }
 
 /// A statement gives these words, or this fault.
-pub fn gives<R: Abort>(
+pub(crate) fn gives<R: Abort>(
     rt: &R,
     alloc: Global,
     statement: &str,
@@ -62,7 +62,7 @@ pub fn gives<R: Abort>(
 }
 
 /// The text of a word.
-pub fn prints<R: Abort>(rt: &R, word: u32, wanted: &str) {
+pub(crate) fn prints<R: Abort>(rt: &R, word: u32, wanted: &str) {
     let mut text = ArrayString::<64>::new();
     print_instr(&decode(word), &mut text);
     same(rt, wanted, text.as_str(), wanted);

@@ -256,7 +256,7 @@ fn shown(alloc: Global, source: &[u8]) -> Result<String, AllocError> {
 }
 
 /// A source gives this image, or this fault.
-pub fn gives<R: Abort>(
+pub(crate) fn gives<R: Abort>(
     rt: &R,
     alloc: Global,
     source: &[u8],
