@@ -1,7 +1,7 @@
 -- What a host admits, and what is so of an image that it denies.
 use Rattle.std.specs.Prelude.{◌≡◌, ℕ, ◌≤◌, ◌<◌, ◌==◌, Bool, true, false, List, Ok, Err}
 use Rattle.std.specs.Int.RustNames.{bit_and}
-use Rattle.sbx_image.specs.declared.parts.Parts.{Parts}
+use Rattle.sbx_image.specs.Parts.{Parts}
 use Rattle.sbx_image.specs.Reading.{reading}
 use Rattle.sbx_flat.specs.Runs.{FlatSafe, budget}
 use Rattle.sbx_rules.specs.Verdicts.{IsFirst}

@@ -1,7 +1,7 @@
 -- What is told of known bytes.
 use Rattle.std.proofs.Common.{◌≡◌, refl, subst, ap, ℕ, List, [], ◌++◌, Option, None, Some, IfSome, Result, Ok, Err, OnOk, ◌∙◌}
 use Rattle.std.specs.Io.KnownBytes.{Appends, Keeps}
-use Rattle.sbx_image.specs.declared.parts.Parts.{Parts}
+use Rattle.sbx_image.specs.Parts.{Parts}
 use Rattle.sbx_image.specs.Reading.{reading}
 use Rattle.sbx_rules.specs.declared.cause.Refusal.{Refusal}
 use Rattle.sbx_rules.specs.Verdicts.{Checked, IsFirst}

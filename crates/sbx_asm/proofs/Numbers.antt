@@ -8,7 +8,7 @@ use Rattle.std.proofs.lemmas.Int.{ints}
 use Rattle.sbx_text.specs.declared.Token.{Token}
 use Rattle.sbx_text.specs.declared.Kind.{Kind}
 use Rattle.sbx_text.specs.declared.Kind.TheVariants as kinds
-use Rattle.sbx_image.specs.declared.services.Services.{Services}
+use Rattle.sbx_image.specs.Services.{Services}
 use Rattle.sbx_image.specs.Rules.{is_coefficient}
 use Rattle.sbx_image.specs.Spelling.{IsTypedRange, IsTypedCell, IsTypedTerm}
 use Rattle.sbx_directives.specs.declared.directive.Keyword.{Keyword}

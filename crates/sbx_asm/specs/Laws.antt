@@ -1,6 +1,6 @@
 -- What holds of each image that a source means.
 use Rattle.std.specs.Prelude.{◌≡◌, List, ℕ, Ok}
-use Rattle.sbx_image.specs.declared.parts.Parts.{Parts}
+use Rattle.sbx_image.specs.Parts.{Parts}
 use Rattle.sbx_image.specs.Spelling.{IsTyped, IsBytes}
 use Rattle.sbx_asm.specs.Meaning.{source_image}
 

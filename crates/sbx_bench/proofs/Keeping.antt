@@ -1,9 +1,9 @@
 -- Which of these images keep the rules, and what is told of the others.
 use Rattle.std.proofs.Common.{◌≡◌, ℕ, Bool, true, false, ◌&&◌, leb, List, length, Result, Ok, Err, refl, sym, ◌∙◌, ap}
 use Rattle.std.proofs.lemmas.Bool.{leb-true, le-leb}
-use Rattle.sbx_image.specs.declared.fault.ImageFault.{ImageFault}
-use Rattle.sbx_image.specs.declared.fault.ImageFault.TheVariants.{Limit}
-use Rattle.sbx_image.specs.declared.parts.Parts.{Parts}
+use Rattle.sbx_image.specs.ImageFault.{ImageFault}
+use Rattle.sbx_image.specs.ImageFault.TheVariants.{Limit}
+use Rattle.sbx_image.specs.Parts.{Parts}
 use Rattle.sbx_image.specs.Rules.{◌>>=◌, wants, each, block_keeps, function_keeps, parts_keep}
 use Rattle.sbx_bench.specs.Images.{image_of, zeros, IsCodeLength}
 

@@ -1,7 +1,7 @@
 -- The image that a loop is measured in.
 use Rattle.std.specs.Prelude.{◌≤◌, ℕ, pos, List, [], ◌∷◌, replicate}
-use Rattle.sbx_image.specs.declared.parts.Kind.TheVariants.{Leaf}
-use Rattle.sbx_image.specs.declared.parts.Parts.{Parts}
+use Rattle.sbx_image.specs.Kind.TheVariants.{Leaf}
+use Rattle.sbx_image.specs.Parts.{Parts}
 use Rattle.sbx_image.specs.Rules.{code_start}
 
 -- so many zeros

@@ -1,7 +1,7 @@
 -- What the ways to drive a board of eight windows tell.
 use Rattle.std.specs.Prelude.{◌≡◌, ℕ, [], vec_len}
 use Rattle.v8_windows.specs.Windows.{reg_of}
-use Rattle.sbx_image.specs.declared.parts.Parts.{Parts}
+use Rattle.sbx_image.specs.Parts.{Parts}
 use Rattle.v8_board.specs.Seen.{State}
 use Rattle.v8_board.specs.Runs.{IsRun, after}
 use Rattle.sbx_raw.specs.Runs.{IsBegun, IsRaw}

@@ -1,6 +1,6 @@
 //! The loops that are measured, and the image of one.
 ghost use Rattle.std.specs.Prelude.{◌≡◌, ◌⊎◌, length, IfErr, IfOk};
-ghost use Rattle.sbx_image.specs.declared.fault.ImageFault.TheVariants as fault_of;
+ghost use Rattle.sbx_image.specs.ImageFault.TheVariants as fault_of;
 ghost use Rattle.sbx_bench.specs.Images.{image_of, zeros, IsCodeLength};
 ghost use Rattle.want.specs.Wants.{refused};
 

@@ -1,7 +1,7 @@
 -- The image that a source means, from its meaning to what it does.
 use Rattle.std.proofs.Common.{◌≡◌, ℕ, List, Option, None, Some, Result, Ok, Err, refl, rules}
-use Rattle.sbx_image.specs.declared.fault.ImageFault.{ImageFault}
-use Rattle.sbx_image.specs.declared.parts.Parts.{Parts}
+use Rattle.sbx_image.specs.ImageFault.{ImageFault}
+use Rattle.sbx_image.specs.Parts.{Parts}
 use Rattle.sbx_image.specs.Rules.{parts_keep}
 use Rattle.sbx_image.proofs.AgainLaws.{reading_again}
 use Rattle.sbx_asm.specs.declared.fault.AsmFault.{AsmFault}

@@ -1,7 +1,7 @@
 -- A source that is refused means no image; and what an assembly put out.
 use Rattle.std.proofs.Common.{◌≡◌, subst, ℕ, List, Option, None, Some, IfSome, Ok, Err, rules}
 use Rattle.std.specs.Io.KnownBytes.{Appends}
-use Rattle.sbx_image.specs.declared.parts.Parts.{Parts}
+use Rattle.sbx_image.specs.Parts.{Parts}
 use Rattle.sbx_image.specs.Spelling.{spelling}
 use Rattle.sbx_asm.specs.declared.fault.AsmFault.{AsmFault}
 use Rattle.sbx_asm.specs.Meaning.{source_image}

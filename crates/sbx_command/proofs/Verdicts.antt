@@ -1,8 +1,8 @@
 -- A job that is refused did not deserve to be done.
 use Rattle.std.proofs.Common.{◌≡◌, subst, sym, ℕ, List, Option, None, Some, IfSome, Ok, Err, ◌∙◌, rules}
 use Rattle.std.specs.Io.KnownBytes.{Appends, Keeps}
-use Rattle.sbx_image.specs.declared.fault.ImageFault.{ImageFault}
-use Rattle.sbx_image.specs.declared.parts.Parts.{Parts}
+use Rattle.sbx_image.specs.ImageFault.{ImageFault}
+use Rattle.sbx_image.specs.Parts.{Parts}
 use Rattle.sbx_image.specs.Reading.{reading}
 use Rattle.want.specs.Wants.{refused}
 use Rattle.sbx_rules.specs.declared.cause.Cause.TheVariants.{NoMemory}

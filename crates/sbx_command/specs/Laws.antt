@@ -1,6 +1,6 @@
 -- From a source to an image that is safe, and from an input that is known whole to its answer.
 use Rattle.std.specs.Prelude.{◌≡◌, List, ℕ, Ok, Option, Some}
-use Rattle.sbx_image.specs.declared.parts.Parts.{Parts}
+use Rattle.sbx_image.specs.Parts.{Parts}
 use Rattle.sbx_image.specs.Reading.{reading}
 use Rattle.sbx_image.specs.Spelling.{spelling}
 use Rattle.sbx_asm.specs.Meaning.{source_image}

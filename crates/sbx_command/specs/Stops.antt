@@ -3,8 +3,8 @@ use Rattle.std.specs.Prelude.{◌≡◌, ℕ, List, ◌++◌, codes, Ok, Err}
 use Rattle.sbx_image.specs.Faults as images
 use Rattle.sbx_asm.specs.Faults as sources
 use Rattle.sbx_rules.specs.Causes as rules
-use Rattle.sbx_image.specs.declared.fault.ImageFault.{ImageFault}
-use Rattle.sbx_image.specs.declared.fault.ImageFault.TheVariants as fault
+use Rattle.sbx_image.specs.ImageFault.{ImageFault}
+use Rattle.sbx_image.specs.ImageFault.TheVariants as fault
 use Rattle.sbx_image.specs.Reading.{reading}
 use Rattle.sbx_asm.specs.declared.fault.Cause.{Cause}
 use Rattle.sbx_asm.specs.declared.fault.Cause.TheVariants as causes
@@ -13,7 +13,7 @@ use Rattle.sbx_asm.specs.Meaning.{source_image}
 use Rattle.sbx_stream.specs.RunFault.{RunFault}
 use Rattle.sbx_stream.specs.RunFault.TheVariants as runs
 use Rattle.sbx_rules.specs.Verdicts.{IsFirst}
-use Rattle.sbx_image.specs.declared.parts.Parts.{Parts}
+use Rattle.sbx_image.specs.Parts.{Parts}
 use Rattle.sbx_command.specs.declared.stops.Full.{Full}
 use Rattle.sbx_command.specs.declared.stops.Stop.{Stop}
 use Rattle.sbx_command.specs.declared.stops.Stop.TheVariants.{Source, Image, Refused, File, Input, Output, Memory, NoRoom}

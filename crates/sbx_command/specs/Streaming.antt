@@ -1,7 +1,7 @@
 -- What a run over a reader and a writer gives, and what it leaves where it stops.
 use Rattle.std.specs.Prelude.{◌≡◌, ℕ, List, [], ◌++◌, Bool, false, Result, Ok, Err, Option, IfSome, ◌==◌, if◌then◌else◌}
 use Rattle.std.specs.Io.KnownBytes.{Appends}
-use Rattle.sbx_image.specs.declared.parts.Parts.{Parts}
+use Rattle.sbx_image.specs.Parts.{Parts}
 use Rattle.sbx_image.specs.Reading.{reading}
 use Rattle.sbx_flat.specs.Runs.{AreBytes, Behaves}
 use Rattle.sbx_flat.specs.declared.path.Place.{Place}

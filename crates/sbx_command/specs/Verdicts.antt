@@ -4,7 +4,7 @@ use Rattle.std.specs.Io.KnownBytes.{Appends}
 use Rattle.sbx_stream.specs.Outcome.{Outcome}
 use Rattle.sbx_stream.specs.RunFault.{RunFault}
 use Rattle.sbx_stream.specs.Traces.{BeginsTrace, IsTrace, Leaves, Wrote}
-use Rattle.sbx_image.specs.declared.parts.Parts.{Parts}
+use Rattle.sbx_image.specs.Parts.{Parts}
 use Rattle.sbx_image.specs.Reading.{reading}
 use Rattle.sbx_image.specs.Spelling.{IsTyped, spelling}
 use Rattle.sbx_asm.specs.Meaning.{source_image}

@@ -1,8 +1,8 @@
 -- Texts of numbered items.
 use Rattle.std.proofs.Common.{◌≡◌, refl, ℕ, suc, ◌+◌, ◌<◌, List, ◌∷◌, ◌++◌, length, get_or, drop, sym, ap, ◌∙◌, add-one, append_assoc, drop-cons}
-use Rattle.sbx_image.specs.declared.parts.Parts.{Parts}
-use Rattle.sbx_image.specs.declared.parts.Function.{Function}
-use Rattle.sbx_image.specs.declared.services.Services.{Services}
+use Rattle.sbx_image.specs.Parts.{Parts}
+use Rattle.sbx_image.specs.Function.{Function}
+use Rattle.sbx_image.specs.Services.{Services}
 use Rattle.sbx_declare.specs.Images.{functions_text, image_text, numbered, services_line, sizes_lines}
 
 -- one item more of a numbered list

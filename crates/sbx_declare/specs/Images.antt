@@ -2,14 +2,14 @@
 use Rattle.std.specs.Prelude.{ℕ, ◌+◌, ◌==◌, if◌then◌else◌, List, [], ◌∷◌, ◌++◌, codes, length}
 use Rattle.std.specs.List.{flat_map}
 use Rattle.std.specs.Fmt.{decimal, signed_decimal}
-use Rattle.sbx_image.specs.declared.parts.Block.{Block}
-use Rattle.sbx_image.specs.declared.parts.Cell.{Cell}
-use Rattle.sbx_image.specs.declared.parts.Function.{Function}
-use Rattle.sbx_image.specs.declared.parts.Kind.{Kind}
-use Rattle.sbx_image.specs.declared.parts.Kind.TheVariants.{Leaf, Framed}
-use Rattle.sbx_image.specs.declared.parts.Parts.{Parts}
-use Rattle.sbx_image.specs.declared.parts.Range.{Range}
-use Rattle.sbx_image.specs.declared.parts.Term.{Term}
+use Rattle.sbx_image.specs.Block.{Block}
+use Rattle.sbx_image.specs.Cell.{Cell}
+use Rattle.sbx_image.specs.Function.{Function}
+use Rattle.sbx_image.specs.Kind.{Kind}
+use Rattle.sbx_image.specs.Kind.TheVariants.{Leaf, Framed}
+use Rattle.sbx_image.specs.Parts.{Parts}
+use Rattle.sbx_image.specs.Range.{Range}
+use Rattle.sbx_image.specs.Term.{Term}
 use Rattle.sbx_lines.specs.Words.{word_text}
 use Rattle.sbx_declare.specs.Names.{bounds_text, location_text}
 

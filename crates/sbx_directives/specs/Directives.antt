@@ -6,10 +6,10 @@ use Rattle.sbx_text.specs.declared.Token.{Token}
 use Rattle.sbx_text.specs.declared.Kind.{Kind}
 use Rattle.sbx_text.specs.declared.Kind.TheVariants as kinds
 use Rattle.v8_syntax.specs.Words.{bytes_between}
-use Rattle.sbx_image.specs.declared.parts.Kind.{Kind as Frames}
-use Rattle.sbx_image.specs.declared.parts.Kind.TheVariants.{Leaf, Framed}
-use Rattle.sbx_image.specs.declared.parts.Range.{Range}
-use Rattle.sbx_image.specs.declared.services.Services.{Services}
+use Rattle.sbx_image.specs.Kind.{Kind as Frames}
+use Rattle.sbx_image.specs.Kind.TheVariants.{Leaf, Framed}
+use Rattle.sbx_image.specs.Range.{Range}
+use Rattle.sbx_image.specs.Services.{Services}
 use Rattle.sbx_directives.specs.declared.directive.Name.{Name}
 use Rattle.sbx_directives.specs.declared.directive.Width.TheVariants as widths
 use Rattle.sbx_directives.specs.declared.directive.Keyword.{Keyword}

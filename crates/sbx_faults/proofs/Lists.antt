@@ -2,9 +2,9 @@
 use Rattle.std.specs.Prelude.{◌≡◌, ◌==◌, ℕ, zero, suc, Bool, true, false, ◌&&◌, not, List, [], ◌∷◌}
 use Rattle.std.proofs.Common.{refl, ap}
 use Rattle.std.specs.List.{list_all, list_any}
-use Rattle.sbx_image.specs.declared.parts.Block.{Block}
-use Rattle.sbx_image.specs.declared.parts.Function.{Function}
-use Rattle.sbx_image.specs.declared.parts.Cell.{Cell}
+use Rattle.sbx_image.specs.Block.{Block}
+use Rattle.sbx_image.specs.Function.{Function}
+use Rattle.sbx_image.specs.Cell.{Cell}
 use Rattle.sbx_rules.specs.Known.{Known, range_at}
 use Rattle.sbx_rules.specs.Rules.{has_cells, has_range, is_writable, lists_badly}
 

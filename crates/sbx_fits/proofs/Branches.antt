@@ -12,8 +12,8 @@ use Rattle.v8_formats.specs.declared.instr.Trap.{Trap}
 use Rattle.v8_alu.specs.Results.{difference_codes, signed}
 use Rattle.v8_meaning.specs.declared.operation.Operation.TheVariants.{BranchOnCondition, JumpAndLink, TrapOnCondition}
 use Rattle.sbx_flat.specs.Effects.{service_of}
-use Rattle.sbx_image.specs.declared.parts.Cell.{Cell}
-use Rattle.sbx_image.specs.declared.parts.Range.{Range}
+use Rattle.sbx_image.specs.Cell.{Cell}
+use Rattle.sbx_image.specs.Range.{Range}
 use Rattle.sbx_form.specs.Forms.{Cells}
 use Rattle.sbx_range.specs.declared.refining.Pair.{Pair}
 use Rattle.sbx_range.specs.Laws.{AreIn, HasSigns, KeepsBoth}

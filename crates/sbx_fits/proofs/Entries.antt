@@ -12,7 +12,7 @@ use Rattle.v8_alu.specs.Results.{signed}
 use Rattle.v8_alu.specs.declared.Op.{Op}
 use Rattle.v8_alu.specs.declared.Op.TheVariants.{Add, AddCc, Sub, SubCc, Or, OrCc}
 use Rattle.v8_meaning.specs.Operands.{second}
-use Rattle.sbx_image.specs.declared.parts.Range.{Range}
+use Rattle.sbx_image.specs.Range.{Range}
 use Rattle.sbx_form.specs.Forms.{Cells, terms_value}
 use Rattle.sbx_form.proofs.Values.{value-add_terms}
 use Rattle.sbx_range.specs.Ranges.{InInterval, IsAligned, is_single, is_zero, known}

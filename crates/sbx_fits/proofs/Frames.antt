@@ -10,7 +10,7 @@ use Rattle.v8_alu.specs.Results.{sum}
 use Rattle.v8_alu.specs.declared.Op.TheVariants as ops
 use Rattle.v8_meaning.specs.Operands.{address, second, sum_address}
 use Rattle.v8_meaning.specs.declared.operation.Operation.TheVariants.{Call, Restore, Save}
-use Rattle.sbx_image.specs.declared.parts.Range.{Range}
+use Rattle.sbx_image.specs.Range.{Range}
 use Rattle.sbx_form.specs.Forms.{Cells}
 use Rattle.sbx_domain.specs.declared.entry.Entry.{Entry}
 use Rattle.sbx_domain.specs.Fits.{Fits, HasAlignment, HasForm, HasInterval, Near, Words, with_word}

@@ -1,7 +1,7 @@
 -- What is known after a write, after codes are set and after Y is.
 use Rattle.std.proofs.Common.{◌≡◌, ℕ, ◌^◌, ◌<◌, Bool, true, false, Option, refl, sym, subst}
 use Rattle.v8_word.specs.declared.Icc.{Icc}
-use Rattle.sbx_image.specs.declared.parts.Range.{Range}
+use Rattle.sbx_image.specs.Range.{Range}
 use Rattle.sbx_form.specs.Forms.{Cells}
 use Rattle.sbx_domain.specs.declared.entry.Entry.{Entry}
 use Rattle.sbx_domain.specs.declared.relation.Relation.{Relation}

@@ -14,7 +14,7 @@ use Rattle.v8_meaning.specs.declared.operation.MemoryOperand.{MemoryOperand}
 use Rattle.v8_meaning.specs.declared.operation.Operation.TheVariants.{Transfer}
 use Rattle.v8_meaning.specs.declared.operation.Transfer.{Transfer as Moving}
 use Rattle.v8_meaning.specs.declared.operation.Transfer.TheVariants.{Exchange, Load, Store}
-use Rattle.sbx_image.specs.declared.parts.Range.{Range}
+use Rattle.sbx_image.specs.Range.{Range}
 use Rattle.sbx_form.specs.Forms.{Cells}
 use Rattle.sbx_range.specs.Ranges.{InRange, all}
 use Rattle.sbx_range.proofs.Alignments.{any-word, loads_stay_in}

@@ -16,7 +16,7 @@ use Rattle.v8_alu.specs.declared.TaggedOp.TheVariants.{TaggedAdd, TaggedSub}
 use Rattle.v8_meaning.specs.Operands.{second}
 use Rattle.v8_meaning.specs.declared.operation.Operation.TheVariants.{Divide, ReadY, SetHigh, TaggedTrap, WriteY}
 use Rattle.sbx_flat.specs.Effects.{high_word}
-use Rattle.sbx_image.specs.declared.parts.Range.{Range}
+use Rattle.sbx_image.specs.Range.{Range}
 use Rattle.sbx_form.specs.Forms.{Cells}
 use Rattle.sbx_range.specs.Laws.{AreIn}
 use Rattle.sbx_range.specs.Ranges.{InInterval, InRange}

@@ -24,8 +24,8 @@ use Rattle.v8_meaning.specs.declared.operation.MemoryOperand.{MemoryOperand}
 use Rattle.v8_meaning.specs.declared.operation.Operation.TheVariants.{BranchOnCondition, Call, Compute, Divide, JumpAndLink, ReadY, Restore, Save, SetHigh, TaggedTrap, Transfer, TrapOnCondition, WriteY}
 use Rattle.v8_meaning.specs.declared.operation.Transfer.TheVariants.{Exchange, Load, Store}
 use Rattle.sbx_flat.specs.Effects.{high_word, service_of}
-use Rattle.sbx_image.specs.declared.parts.Cell.{Cell}
-use Rattle.sbx_image.specs.declared.parts.Range.{Range}
+use Rattle.sbx_image.specs.Cell.{Cell}
+use Rattle.sbx_image.specs.Range.{Range}
 use Rattle.sbx_form.specs.Forms.{Cells}
 use Rattle.sbx_domain.specs.Fits.{Fits, HasAlignment, HasInterval, Near, Words, with_word}
 use Rattle.sbx_domain.specs.Known.{Known, range_at, range_of_entry, started}

@@ -3,7 +3,7 @@ use Rattle.std.proofs.Common.{◌≡◌, [], ◌∷◌, refl}
 use Rattle.v8_formats.specs.Table.{meaning}
 use Rattle.v8_meaning.specs.Admitted.{is_admitted}
 use Rattle.v8_meaning.specs.Operations.{operation_of}
-use Rattle.sbx_image.specs.declared.parts.Parts.{Parts}
+use Rattle.sbx_image.specs.Parts.{Parts}
 use Rattle.sbx_flat.proofs.Law.{still_is_fresh}
 use Rattle.sbx_flat.specs.Examples.{at_first, at_restore, at_save, at_second, at_third, based, save_and_restore}
 use Rattle.sbx_flat.specs.Registers.{pushed, still, written}

@@ -3,7 +3,7 @@ use Rattle.std.proofs.Common.{◌≡◌, ◌≢◌, ℕ, zero, suc, ◌+◌, ◌
 use Rattle.std.specs.Prelude.{◌==◌, ◌&&◌, nat_le, nat_lt, if◌then◌else◌}
 use Rattle.std.specs.List.{AllByRecursion}
 use Rattle.std.proofs.lemmas.Bool.Decides.{nat_tests}
-use Rattle.sbx_image.specs.declared.parts.Parts.{Parts}
+use Rattle.sbx_image.specs.Parts.{Parts}
 use Rattle.sbx_flat.specs.Calls.{base, cell, depth, slot}
 use Rattle.sbx_flat.specs.Effects.{is_base}
 use Rattle.sbx_flat.specs.Registers.{AreWords, Frame, Fresh, IsFresh, Registers, Words, ins_of, is_slot, popped, pushed, with_in, with_slot, with_word, word_in, written}

@@ -1,7 +1,7 @@
 -- An invariant of pairs of states makes an image safe.
 use Rattle.std.proofs.Common.{◌≡◌, ℕ, zero, suc, ◌+◌, ◌<◌, ◌≤◌, List, [], ◌∷◌, Option, Some, None, refl, sym, ap, ◌∙◌, subst, arith}
 use Rattle.std.specs.Prelude.{unwrap_or}
-use Rattle.sbx_image.specs.declared.parts.Parts.{Parts}
+use Rattle.sbx_image.specs.Parts.{Parts}
 use Rattle.sbx_flat.specs.Registers.{Fresh, IsFresh, still}
 use Rattle.sbx_flat.specs.Runs.{Place, place_of, weight_at, weight, Run, IsStart, budget, AreBytes, Behaves, FlatSafe}
 use Rattle.sbx_flat.specs.States.{State, Turn, Goes, Fails, Over, Wrong}

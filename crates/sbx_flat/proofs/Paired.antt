@@ -3,7 +3,7 @@ use Rattle.std.proofs.Common.{◌≡◌, ℕ, ◌+◌, ◌<◌, ◌^◌, List, [
 use Rattle.std.specs.Prelude.{◌==◌, if◌then◌else◌}
 use Rattle.std.proofs.lemmas.Bool.Decides.{nat_tests}
 use Rattle.sbx_image.specs.Rules.{code_start}
-use Rattle.sbx_image.specs.declared.parts.Parts.{Parts}
+use Rattle.sbx_image.specs.Parts.{Parts}
 use Rattle.sbx_flat.specs.Invariants.{IsInvariant}
 use Rattle.sbx_flat.specs.Registers.{still}
 use Rattle.sbx_flat.specs.Runs.{AreBytes, FlatRun, FlatSafe, IsStart, Place, Run, data_at, place_of, weight, weight_at}

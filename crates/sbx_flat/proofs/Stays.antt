@@ -27,8 +27,8 @@ use Rattle.v8_meaning.specs.declared.operation.Operation.TheVariants.{Compute, D
 use Rattle.v8_meaning.specs.declared.operation.Operation.TheVariants as operation
 use Rattle.v8_meaning.specs.declared.operation.Transfer.{Transfer}
 use Rattle.v8_meaning.specs.declared.operation.Transfer.TheVariants as transfers
-use Rattle.sbx_image.specs.declared.parts.Parts.{Parts}
-use Rattle.sbx_image.specs.declared.services.Services.{Services}
+use Rattle.sbx_image.specs.Parts.{Parts}
+use Rattle.sbx_image.specs.Services.{Services}
 use Rattle.sbx_flat.specs.Effects.{address_in, branched, declares, does, gets, high_word, is_base, is_stack_pointer, leaves_in_data, leaves_in_slot, operand_value, restores, served, serves, service_of, slot_of, takes, transfers_data, transfers_in, with_regs, writes, writes_some}
 use Rattle.sbx_flat.specs.Memory.{Bytes, byte_of, followed_by, number_at, with_number}
 use Rattle.sbx_flat.specs.Registers.{Frame, Fresh, IsFresh, Registers, popped, pushed, with_slot, written}

@@ -1,7 +1,7 @@
 -- Codes of one or two words, and what a step of them comes to, for examples.
 use Rattle.std.specs.Prelude.{ℕ, ◌+◌, ◌%◌, ◌^◌, false, List, [], ◌∷◌, Option, None, Some}
 use Rattle.v8_map.specs.declared.TheConstants.{CODE_START}
-use Rattle.sbx_image.specs.declared.parts.Parts.{Parts}
+use Rattle.sbx_image.specs.Parts.{Parts}
 use Rattle.sbx_flat.specs.Registers.{Frame, Fresh}
 use Rattle.sbx_flat.specs.Runs.{Place}
 use Rattle.sbx_flat.specs.States.{State, Turn}

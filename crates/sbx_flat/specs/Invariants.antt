@@ -1,6 +1,6 @@
 -- What an invariant of two runs owes, so that an image is safe.
 use Rattle.std.specs.Prelude.{◌≡◌, ℕ, ◌+◌, ◌≤◌, List, None}
-use Rattle.sbx_image.specs.declared.parts.Parts.{Parts}
+use Rattle.sbx_image.specs.Parts.{Parts}
 use Rattle.sbx_flat.specs.Runs.{AreBytes, IsStart, budget, place_of, weight_at}
 use Rattle.sbx_flat.specs.States.{State}
 use Rattle.sbx_flat.specs.Turns.{IsWrong, Step}

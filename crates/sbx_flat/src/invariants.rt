@@ -1,6 +1,6 @@
 //! Relations between the states of two runs, for the law that makes an image safe by one.
 ghost use Rattle.std.specs.Prelude.{◌≡◌, ℕ};
-ghost use Rattle.sbx_image.specs.declared.parts.Parts.{Parts};
+ghost use Rattle.sbx_image.specs.Parts.{Parts};
 ghost use Rattle.sbx_flat.specs.States.{State};
 
 use std::marker::Brand;

@@ -1,6 +1,6 @@
 //! Laws of the flat machine's definitions. Each is the contract of a function that does nothing.
 ghost use Rattle.std.specs.Prelude.{◌≡◌, ◌≢◌, ℕ, ◌+◌, ◌-◌, ◌<◌, ◌≤◌, ◌%◌, ◌*◌, ◌^◌, ◌==◌, if◌then◌else◌, List, [], ◌∷◌, ◌++◌, length, Option, None, Some, false, true};
-ghost use Rattle.sbx_image.specs.declared.parts.Parts.{Parts};
+ghost use Rattle.sbx_image.specs.Parts.{Parts};
 ghost use Rattle.sbx_flat.specs.Alike.{Alike, AlikeRegisters, Known, PopsAlike, known_popped, known_pushed, known_slot, known_written, knows};
 ghost use Rattle.sbx_flat.specs.Examples.{at_first, at_restore, at_save, at_second, at_third, based, called_by, save_and_restore, step_of, with_addresses, with_slots};
 ghost use Rattle.sbx_flat.specs.Invariants.{IsInvariant};

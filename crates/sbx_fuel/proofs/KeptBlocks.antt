@@ -5,14 +5,14 @@ use Rattle.std.specs.List.{AllByRecursion}
 use Rattle.std.proofs.lemmas.Bool.{ltb-true}
 use Rattle.std.proofs.lemmas.Bool.Decides.{nat_tests}
 use Rattle.std.proofs.lemmas.Int.{ints}
-use Rattle.sbx_image.specs.declared.parts.Block.{Block}
-use Rattle.sbx_image.specs.declared.parts.Cell.{Cell}
-use Rattle.sbx_image.specs.declared.parts.Function.{Function}
-use Rattle.sbx_image.specs.declared.parts.Parts.{Parts}
-use Rattle.sbx_image.specs.declared.parts.Range.{Range}
-use Rattle.sbx_image.specs.declared.parts.Term.{Term}
-use Rattle.sbx_image.specs.declared.order.Next.{Next}
-use Rattle.sbx_image.specs.declared.order.Next.TheVariants.{Exactly}
+use Rattle.sbx_image.specs.Block.{Block}
+use Rattle.sbx_image.specs.Cell.{Cell}
+use Rattle.sbx_image.specs.Function.{Function}
+use Rattle.sbx_image.specs.Parts.{Parts}
+use Rattle.sbx_image.specs.Range.{Range}
+use Rattle.sbx_image.specs.Term.{Term}
+use Rattle.sbx_image.specs.Next.{Next}
+use Rattle.sbx_image.specs.Next.TheVariants.{Exactly}
 use Rattle.sbx_image.specs.Rules.{Place, block_keeps, cell_keeps, code_start, each, function_keeps, in_order, is_coefficient, parts_keep, range_keeps, term_keeps}
 use Rattle.sbx_image.proofs.Fields.{bind_ok, is_between}
 use Rattle.sbx_image.proofs.Limits.{block_kept, cell_kept, each_all, function_kept, location_kept, parts_kept, range_kept, term_kept}

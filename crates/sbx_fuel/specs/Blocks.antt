@@ -1,7 +1,7 @@
 -- What a block of an image keeps, as far as its fuel is concerned.
 use Rattle.std.specs.Prelude.{ℕ, ◌≤◌, length}
-use Rattle.sbx_image.specs.declared.parts.Block.{Block}
-use Rattle.sbx_image.specs.declared.parts.Function.{Function}
+use Rattle.sbx_image.specs.Block.{Block}
+use Rattle.sbx_image.specs.Function.{Function}
 use Rattle.sbx_form.specs.Forms.{AscendFrom}
 use Rattle.sbx_rules.specs.Forms.{Form}
 use Rattle.sbx_rules.specs.Known.{Known, started}

@@ -3,7 +3,7 @@
 -- block starts with; one without a form speaks of any number of its range. The two kinds are never mixed: a location's number
 -- now and the number that it started with are two numbers.
 use Rattle.std.specs.Prelude.{◌≡◌, ℕ, ◌+ℤ◌, ◌*ℤ◌, ◌≤ℤ◌, ℤ, neg_ℤ, List, [], ◌∷◌, Option, Some, None}
-use Rattle.sbx_image.specs.declared.parts.Range.{Range}
+use Rattle.sbx_image.specs.Range.{Range}
 use Rattle.sbx_form.specs.declared.terms.FormTerm.{FormTerm}
 use Rattle.sbx_form.specs.Forms.{add_terms}
 use Rattle.sbx_rules.specs.Forms.{Form}

@@ -5,29 +5,29 @@ use Rattle.std.specs.List.{flat_map, AllByRecursion}
 use Rattle.std.proofs.lemmas.Bool.{leb-true}
 use Rattle.std.proofs.lemmas.List.{append-nil}
 use Rattle.std.proofs.lemmas.List.Concat.{flat_map-cons}
-use Rattle.sbx_image.specs.declared.fault.ImageFault.{ImageFault}
-use Rattle.sbx_image.specs.declared.fault.ImageFault.TheVariants as fault
-use Rattle.sbx_image.specs.declared.order.Next.{Next}
-use Rattle.sbx_image.specs.declared.order.Next.TheVariants.{Exactly}
+use Rattle.sbx_parts.specs.declared.fault.ImageFault.{ImageFault}
+use Rattle.sbx_parts.specs.declared.fault.ImageFault.TheVariants as fault
+use Rattle.sbx_parts.specs.declared.order.Next.{Next}
+use Rattle.sbx_parts.specs.declared.order.Next.TheVariants.{Exactly}
 use Rattle.sbx_image.specs.declared.heads.Header.{Header}
 use Rattle.sbx_image.specs.declared.heads.Counts.{Counts}
 use Rattle.sbx_image.specs.declared.heads.Bounds.{Bounds}
 use Rattle.sbx_image.specs.declared.heads.FunctionHead.{FunctionHead}
-use Rattle.sbx_image.specs.declared.parts.Kind.{Kind}
-use Rattle.sbx_image.specs.declared.parts.Kind.TheVariants.{Leaf, Framed}
-use Rattle.sbx_image.specs.declared.parts.Range.{Range}
-use Rattle.sbx_image.specs.declared.parts.Cell.{Cell}
-use Rattle.sbx_image.specs.declared.parts.Term.{Term}
-use Rattle.sbx_image.specs.declared.parts.Block.{Block}
-use Rattle.sbx_image.specs.declared.parts.Function.{Function}
-use Rattle.sbx_image.specs.declared.parts.Parts.{Parts}
-use Rattle.sbx_image.specs.declared.services.Services.{Services}
-use Rattle.sbx_image.specs.Rules.{◌>>=◌, between, is_known, is_data_length, each, Place, code_start, range_keeps, location_keeps, cell_keeps, term_keeps, block_keeps, function_keeps, parts_keep}
+use Rattle.sbx_parts.specs.declared.parts.Kind.{Kind}
+use Rattle.sbx_parts.specs.declared.parts.Kind.TheVariants.{Leaf, Framed}
+use Rattle.sbx_parts.specs.declared.parts.Range.{Range}
+use Rattle.sbx_parts.specs.declared.parts.Cell.{Cell}
+use Rattle.sbx_parts.specs.declared.parts.Term.{Term}
+use Rattle.sbx_parts.specs.declared.parts.Block.{Block}
+use Rattle.sbx_parts.specs.declared.parts.Function.{Function}
+use Rattle.sbx_parts.specs.declared.parts.Parts.{Parts}
+use Rattle.sbx_parts.specs.declared.services.Services.{Services}
+use Rattle.sbx_parts.specs.Rules.{◌>>=◌, between, is_known, is_data_length, each, Place, code_start, range_keeps, location_keeps, cell_keeps, term_keeps, block_keeps, function_keeps, parts_keep}
 use Rattle.sbx_image.specs.Reading.{number_at, items_at, range_at, location_at, cell_at, term_at, block_head_at, block_at, kind_at, counts_at, bounds_at, function_head_at, function_at, services_at, data_length_at, header_at, parts_at, reading}
 use Rattle.sbx_image.specs.Spelling.{IsTyped, IsTypedRange, IsTypedCell, IsTypedTerm, IsTypedBlock, IsTypedFunction, signed, kind_code, range_text, cell_text, term_text, block_text, function_head_text, function_text, header_text, spelling}
 use Rattle.sbx_image.proofs.Fields.{bind_ok, both_true, ok_is, wants_true, number_reads, number_in_reads, signed_reads, bytes_again, wide8, wide16, wide32, wide64, signed32, signed64}
 use Rattle.sbx_image.proofs.TakesLaws.{head_text, HeadKeeps, counts_text, HeaderKeeps}
-use Rattle.sbx_image.proofs.Limits.{range_kept, location_kept, cell_kept, term_kept, block_kept, function_kept, parts_kept}
+use Rattle.sbx_parts.proofs.Limits.{range_kept, location_kept, cell_kept, term_kept, block_kept, function_kept, parts_kept}
 
 -- a step that gives what is known, and then the rest
 then_is : {A B : Type 0} (r : Result A ImageFault) (x : A) (f : A → Result B ImageFault) (y : Result B ImageFault) → r ≡ Ok x → f x ≡ y → (r >>= f) ≡ y

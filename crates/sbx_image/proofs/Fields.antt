@@ -8,9 +8,10 @@ use Rattle.std.proofs.lemmas.Int.{of_z-to_z, to_z-of_z}
 use Rattle.std.proofs.Math.Facts.{Fits-of_z, Fits-lt-pow}
 use Rattle.std.proofs.Math.Nat.{mod-eq_of_lt}
 use Rattle.std.proofs.lemmas.Nat.{be_bytes_2, be_bytes_4, be_bytes_8, from_be_bytes-to_be_bytes_2, from_be_bytes-to_be_bytes_4, from_be_bytes-to_be_bytes_8}
-use Rattle.sbx_image.specs.declared.fault.ImageFault.{ImageFault}
-use Rattle.sbx_image.specs.declared.fault.ImageFault.TheVariants as fault
-use Rattle.sbx_image.specs.Rules.{◌>>=◌, wants, between}
+use Rattle.sbx_parts.specs.declared.fault.ImageFault.{ImageFault}
+use Rattle.sbx_parts.specs.declared.fault.ImageFault.TheVariants as fault
+use Rattle.sbx_parts.specs.Rules.{◌>>=◌, wants, between}
+pub use Rattle.sbx_parts.proofs.Steps.{bind_ok, wanted, wanted_last, wants_true, both_true, is_between, ok_is}
 use Rattle.sbx_image.specs.Reading.{number_at, number_in, signed_at, bytes_at}
 use Rattle.sbx_image.specs.Spelling.{IsBytes, signed}
 
@@ -24,40 +25,9 @@ IsBytes-take n bytes h i =
       | inr le ↦ rw (get_or_past (take n bytes) i 0 (omega (arith, length-take n bytes))) (omega arith)
     ]
 
--- the value of a step that did not fail
-pub bind_ok : {A B : Type 0} (r : Result A ImageFault) (f : A → Result B ImageFault) (y : B) → (r >>= f) ≡ Ok y → (x : A) × (r ≡ Ok x) × (f x ≡ Ok y)
-bind_ok (Ok x) f y e = (x, refl, e)
-bind_ok (Err d) f y e = absurd cc
-
--- a test that did not fail
-pub wanted : {B : Type 0} (b : Bool) (d : ImageFault) (f : Unit {0} → Result B ImageFault) (y : B) → (wants b d >>= f) ≡ Ok y → (b ≡ true) × (f tt ≡ Ok y)
-wanted true d f y e = (refl, e)
-wanted false d f y e = absurd cc
-
-pub wanted_last : (b : Bool) (d : ImageFault) → wants b d ≡ Ok tt → b ≡ true
-wanted_last true d e = refl
-wanted_last false d e = absurd cc
-
-pub wants_true : (b : Bool) (d : ImageFault) → b ≡ true → wants b d ≡ Ok tt
-wants_true true d e = refl
-wants_true false d e = absurd cc
-
-pub both_true : (a b : Bool) → (a && b) ≡ true → (a ≡ true) × (b ≡ true)
-both_true true b e = (refl, e)
-both_true false b e = absurd cc
-
-pub is_between : (low high n : ℕ) → between low high n ≡ true → (low ≤ n) × (n ≤ high)
-is_between low high n e = let h = both_true _ _ e in (leb-true _ _ h.0, leb-true _ _ h.1)
-
 guard_ok : {A : Type 0} (b : Bool) (d : ImageFault) (x y : A) → cond b (Err d) (Ok x) ≡ Ok y → (b ≡ false) × (x ≡ y)
 guard_ok true d x y e = absurd cc
 guard_ok false d x y e = (refl, cc)
-
-abbrev done : {A : Type 0} → A → Result A ImageFault
-done x = Ok x
-
-pub ok_is : {A : Type 0} (x y : A) → done x ≡ done y → x ≡ y
-ok_is x y e = cc
 
 -- what a reader took from the front
 pub record Takes (bytes text rest : List ℕ) : Type 0 where

@@ -1,9 +1,7 @@
 pub mod Loops
 pub mod Fields
 pub mod TakesLaws
-pub mod Limits
 pub mod Appends
-pub mod Eaches
-pub mod Every
 pub mod AgainLaws
-pub mod Ordered
+pub use Rattle.sbx_parts.proofs.Limits
+pub use Rattle.sbx_parts.proofs.Ordered

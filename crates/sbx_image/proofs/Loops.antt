@@ -1,8 +1,8 @@
 -- Reading items one after the other, as a loop does, whatever an item is.
 use Rattle.std.proofs.Common.{◌≡◌, ℕ, suc, ◌-◌, ◌+◌, ◌≤◌, ◌<◌, List, [], ◌∷◌, ◌++◌, Result, Ok, Err, refl, sym, ap, ◌∙◌, append_assoc, arith}
 use Rattle.std.proofs.lemmas.List.{append-nil}
-use Rattle.sbx_image.specs.declared.fault.ImageFault.{ImageFault}
-use Rattle.sbx_image.specs.Rules.{◌>>=◌}
+use Rattle.sbx_parts.specs.declared.fault.ImageFault.{ImageFault}
+use Rattle.sbx_parts.specs.Rules.{◌>>=◌}
 use Rattle.sbx_image.specs.Reading.{items_at}
 
 module _ {A C : Type 0} (item : C → Result (A × C) ImageFault) where

@@ -1,26 +1,26 @@
 -- Reading from left to right: a field is a value and the bytes after it, or the first fault that is met.
 use Rattle.std.specs.Prelude.{◌≡◌, ◌≢◌, ℕ, zero, suc, ◌+◌, ◌-◌, ◌*◌, ℤ, List, [], ◌∷◌, length, take, drop, Result, Ok, Err, MatchResult, nat_lt, ◌==◌, if◌then◌else◌}
 use Rattle.std.specs.Int.{Width, w8, w16, w32, w64, byte_len, from_be_bytes, cast_signed}
-use Rattle.sbx_image.specs.declared.fault.ImageFault.{ImageFault}
-use Rattle.sbx_image.specs.declared.fault.ImageFault.TheVariants as fault
+use Rattle.sbx_parts.specs.declared.fault.ImageFault.{ImageFault}
+use Rattle.sbx_parts.specs.declared.fault.ImageFault.TheVariants as fault
 use Rattle.want.specs.Wants.{refused}
-use Rattle.sbx_image.specs.declared.order.Next.{Next}
-use Rattle.sbx_image.specs.declared.order.Next.TheVariants.{Exactly, Above}
+use Rattle.sbx_parts.specs.declared.order.Next.{Next}
+use Rattle.sbx_parts.specs.declared.order.Next.TheVariants.{Exactly, Above}
 use Rattle.sbx_image.specs.declared.heads.Header.{Header}
 use Rattle.sbx_image.specs.declared.heads.Counts.{Counts}
 use Rattle.sbx_image.specs.declared.heads.Bounds.{Bounds}
 use Rattle.sbx_image.specs.declared.heads.FunctionHead.{FunctionHead}
 use Rattle.sbx_image.specs.declared.heads.BlockHead.{BlockHead}
-use Rattle.sbx_image.specs.declared.parts.Kind.{Kind}
-use Rattle.sbx_image.specs.declared.parts.Kind.TheVariants.{Leaf, Framed}
-use Rattle.sbx_image.specs.declared.parts.Range.{Range}
-use Rattle.sbx_image.specs.declared.parts.Cell.{Cell}
-use Rattle.sbx_image.specs.declared.parts.Term.{Term}
-use Rattle.sbx_image.specs.declared.parts.Block.{Block}
-use Rattle.sbx_image.specs.declared.parts.Function.{Function}
-use Rattle.sbx_image.specs.declared.parts.Parts.{Parts}
-use Rattle.sbx_image.specs.declared.services.Services.{Services}
-use Rattle.sbx_image.specs.Rules.{◌>>=◌, wants, between, code_start, admits, is_fuel, is_coefficient, is_known, is_data_length, in_order, Place}
+use Rattle.sbx_parts.specs.declared.parts.Kind.{Kind}
+use Rattle.sbx_parts.specs.declared.parts.Kind.TheVariants.{Leaf, Framed}
+use Rattle.sbx_parts.specs.declared.parts.Range.{Range}
+use Rattle.sbx_parts.specs.declared.parts.Cell.{Cell}
+use Rattle.sbx_parts.specs.declared.parts.Term.{Term}
+use Rattle.sbx_parts.specs.declared.parts.Block.{Block}
+use Rattle.sbx_parts.specs.declared.parts.Function.{Function}
+use Rattle.sbx_parts.specs.declared.parts.Parts.{Parts}
+use Rattle.sbx_parts.specs.declared.services.Services.{Services}
+use Rattle.sbx_parts.specs.Rules.{◌>>=◌, wants, between, code_start, admits, is_fuel, is_coefficient, is_known, is_data_length, in_order, Place}
 
 -- What a function returned, seen by view, is what reading gives, unless memory ran out.
 abbrev pub Gives : {X Y : Type 0} → (X → Y) → Result X ImageFault → Result Y ImageFault → Type 0

@@ -1,6 +1,5 @@
 //! The fields that stand before the lists that they count.
-use crate::parts::Kind;
-use crate::services::Services;
+use sbx_parts::{Kind, Services};
 
 /// What stands before the words.
 #[derive(Clone, Copy)]

@@ -1,11 +1,9 @@
 //! Parts that keep every limit and order of the format.
-ghost use Rattle.std.specs.Prelude.{◌≡◌, ◌≤◌, length, Ok, All};
+ghost use Rattle.std.specs.Prelude.{◌≡◌, ◌≤◌, length, Ok, Err, IfOk, IfErr, All};
 ghost use Rattle.sbx_image.specs.Spelling.{IsCountedFunction, IsTyped};
-ghost use Rattle.sbx_image.specs.Rules.{parts_keep};
+ghost use Rattle.sbx_parts.specs.Rules.{parts_keep};
 
-use crate::parts::{Function, Parts};
-use crate::services::Services;
-use crate::widths::parts_fit;
+use sbx_parts::{Function, ImageFault, Parts, Services};
 use std::marker::Model;
 
 /// An image: parts that keep every limit and order of the format. Contracts see the parts.
@@ -16,11 +14,11 @@ pub struct Image {
 
 impl Model for Image {
     ghost use Rattle.std.specs.Prelude.{◌≡◌, Ok};
-    ghost use Rattle.sbx_image.specs.declared.parts.Parts.{Parts};
+    ghost use Rattle.sbx_parts.specs.declared.parts.Parts.{Parts};
 
     ghost Value = { Parts };
 
-    ghost use Rattle.sbx_image.specs.Rules.{parts_keep};
+    ghost use Rattle.sbx_parts.specs.Rules.{parts_keep};
 
     ghost view = { λ a. a.parts };
 
@@ -34,6 +32,19 @@ impl Image {
         ensures { result ≡ parts }
     {
         Image { parts }
+    }
+
+    /// The image of parts that keep every limit and order, made without memory. Else the parts come back as they
+    /// are, with the fault of the first field, in the order of the format, that breaks a rule: `Service`, `Limit`,
+    /// `Order` or `Range`.
+    pub fn from_parts(parts: Parts) -> Result<Image, (Parts, ImageFault)>
+        ensures made { IfOk result (λ image. (image ≡ parts) × (parts_keep parts ≡ Ok tt)) }
+        ensures refused { IfErr result (λ back. (back.0 ≡ parts) × (parts_keep parts ≡ Err back.1)) }
+    {
+        match parts.check() {
+            Ok(()) => Ok(Image::of(parts)),
+            Err(fault) => Err((parts, fault)),
+        }
     }
 
     /// The services that it may ask for.
@@ -51,7 +62,7 @@ impl Image {
     }
 
     /// How many words of code there are, 1 to 65,536.
-    #[tactic(auto, using(crate::proofs::Limits::words_within))]
+    #[tactic(auto, using(sbx_parts::proofs::Limits::words_within))]
     pub fn word_count(&self) -> u32
         ensures count { result ≡ length self.now.words }
         ensures some { 1 ≤ result }
@@ -61,7 +72,7 @@ impl Image {
     }
 
     /// How many bytes of data there are, up to 262,144.
-    #[tactic(auto, using(crate::proofs::Limits::bytes_within))]
+    #[tactic(auto, using(sbx_parts::proofs::Limits::bytes_within))]
     pub fn byte_count(&self) -> u32
         ensures count { result ≡ length self.now.bytes }
         ensures few { result ≤ 262144 }
@@ -70,7 +81,7 @@ impl Image {
     }
 
     /// How many functions there are, 1 to 256.
-    #[tactic(auto, using(crate::proofs::Limits::functions_within))]
+    #[tactic(auto, using(sbx_parts::proofs::Limits::functions_within))]
     pub fn function_count(&self) -> u16
         ensures { result ≡ length self.now.functions }
     {
@@ -85,7 +96,7 @@ impl Image {
     }
 
     /// Pages of stack, 1 to 16.
-    #[tactic(auto, using(crate::proofs::Limits::stack_within))]
+    #[tactic(auto, using(sbx_parts::proofs::Limits::stack_within))]
     pub fn stack_pages(&self) -> u16
         ensures count { result ≡ self.now.stack_pages }
         ensures some { 1 ≤ result }
@@ -95,7 +106,7 @@ impl Image {
     }
 
     /// The functions, by entry; a run begins in the first. The length of each list is one that its count can say.
-    #[tactic(auto, using(crate::proofs::Limits::functions_counted))]
+    #[tactic(auto, using(sbx_parts::proofs::Limits::functions_counted))]
     pub fn functions(&self) -> &[Function]
         ensures value { result.now ≡ self.now.functions }
         ensures counted { All IsCountedFunction self.now.functions }
@@ -109,7 +120,7 @@ impl Image {
         ensures kept { parts_keep self.now ≡ Ok tt }
         ensures typed { IsTyped self.now }
     {
-        parts_fit(&self.parts);
+        self.parts.fit();
     }
 
     /// The parts, without taking memory.

@@ -3,7 +3,7 @@ ghost use Rattle.std.specs.Prelude.{◌≡◌, ◌≤◌, IfOk};
 ghost use Rattle.std.specs.Int.{w8, w16, w32, w64};
 ghost use Rattle.sbx_image.specs.Reading.{Gives, number_at, number_in, signed_at};
 
-use crate::fault::ImageFault;
+use sbx_parts::ImageFault;
 
 pub fn u8_at(bytes: &[u8]) -> Result<(u8, &[u8]), ImageFault>
     ensures { Gives (λ x. (x.0, x.1.now)) result (number_at w8 bytes.now) }

@@ -1,20 +1,187 @@
 //! Bytes as parts, field by field from left to right.
-ghost use Rattle.std.specs.Prelude.{◌≡◌, ◌+◌, ◌≤◌, IfOk};
+ghost use Rattle.std.specs.Prelude.{◌≡◌, ℕ, ◌+◌, ◌≤◌, List, IfOk};
 ghost use Rattle.std.specs.Int.{w8, w16, w32, w64};
-ghost use Rattle.sbx_image.specs.Rules.{is_known, is_data_length, is_fuel, is_coefficient};
+ghost use Rattle.sbx_parts.specs.declared.order.Next.{Next};
+ghost use Rattle.sbx_parts.specs.Rules.{Place};
 ghost use Rattle.sbx_image.specs.Reading.{Gives, number_at, bytes_at, items_at, range_at, location_at, cell_at, term_at, block_head_at, block_at, kind_at, counts_at, bounds_at, function_head_at, function_at, services_at, data_length_at, header_at, parts_at, reading};
 ghost use Rattle.sbx_image.specs.Spelling.{spelling};
 
-use crate::fault::ImageFault;
 use crate::heads::{BlockHead, Bounds, Counts, FunctionHead, Header};
 use crate::image::Image;
-use crate::items::Items;
 use crate::numbers::{i32_at, i64_at, u8_in, u16_at, u16_in, u32_at, u32_in, u64_in};
-use crate::order::{Next, admits, is_coefficient, is_fuel};
-use crate::parts::{Block, Cell, Function, Kind, Parts, Range, Term};
-use crate::services::{Services, services_of};
+use sbx_parts::{
+    Block, Cell, Function, ImageFault, Items, Kind, Next, Parts, Range, Services, Term, admits,
+    is_coefficient, is_fuel, services_of,
+};
 use std::alloc::Global;
 use v8_map::CODE_START;
+
+/// An item of a list, as the format has it.
+pub trait Readable: Drop {
+    ghost use Rattle.std.specs.Prelude.{◌≡◌, ℕ, List, Result};
+    ghost use Rattle.sbx_parts.specs.declared.fault.ImageFault.{ImageFault};
+    ghost use Rattle.sbx_image.specs.Reading.{Gives};
+
+    /// What an item leaves for the next one of its list, as the last location.
+    type State: Copy;
+
+    /// What is still to be read, with what goes along.
+    ghost Cursor: { Type 0 };
+
+    /// The bytes that are still to be read, behind an item that left a state.
+    ghost at: { Self.State → List ℕ → Cursor };
+
+    /// The item at a cursor, in code that ends at an address, and the cursor behind it.
+    ghost item_at: { ℕ → Cursor → Result (Self × Cursor) ImageFault };
+
+    /// The item at the front; behind it, what it leaves and the bytes that are still to be read. `end` is the address behind
+    /// the code.
+    fn read(
+        alloc: Global,
+        end: u32,
+        state: Self::State,
+        bytes: &[u8],
+    ) -> Result<(Self, (Self::State, &[u8])), ImageFault>
+        ensures { Gives (λ x. (x.0, at x.1.0 x.1.1.now)) result (item_at end (at state bytes.now)) };
+}
+
+/// So many items, one after the other; behind them, what the last one leaves.
+fn items_of<T: Readable>(
+    alloc: Global,
+    end: u32,
+    count: u32,
+    first: T::State,
+    bytes: &[u8],
+) -> Result<(Vec<T>, (T::State, &[u8])), ImageFault>
+    ensures { Gives (λ x. (x.0.items, T.at x.1.0 x.1.1.now)) result (items_at (T.item_at end) count (T.at first bytes.now)) }
+{
+    let mut items = Vec::with_capacity(alloc, count as usize)?;
+    let mut state = first;
+    let mut rest = bytes;
+    for _ in 0..count {
+        let (item, (next, after)) = T::read(alloc, end, state, rest)?;
+        items.push(item)?;
+        state = next;
+        rest = after;
+    }
+    Ok((items, (state, rest)))
+}
+
+impl Readable for u32 {
+    type State = ();
+
+    ghost Cursor = { List ℕ };
+
+    ghost at = { λ _ bytes. bytes };
+
+    ghost item_at = { λ _. number_at w32 };
+
+    fn read(
+        _alloc: Global,
+        _end: u32,
+        _state: (),
+        bytes: &[u8],
+    ) -> Result<(u32, ((), &[u8])), ImageFault> {
+        let (word, rest) = u32_at(bytes)?;
+        Ok((word, ((), rest)))
+    }
+}
+
+impl Readable for Range {
+    type State = ();
+
+    ghost Cursor = { List ℕ };
+
+    ghost at = { λ _ bytes. bytes };
+
+    ghost item_at = { λ _. range_at };
+
+    fn read(
+        _alloc: Global,
+        _end: u32,
+        _state: (),
+        bytes: &[u8],
+    ) -> Result<(Range, ((), &[u8])), ImageFault> {
+        let (range, rest) = range_of(bytes)?;
+        Ok((range, ((), rest)))
+    }
+}
+
+impl Readable for Cell {
+    type State = u16;
+
+    ghost Cursor = { ℕ × List ℕ };
+
+    ghost at = { λ last bytes. (last, bytes) };
+
+    ghost item_at = { λ _. cell_at };
+
+    fn read(
+        _alloc: Global,
+        _end: u32,
+        last: u16,
+        bytes: &[u8],
+    ) -> Result<(Cell, (u16, &[u8])), ImageFault> {
+        cell_of(last, bytes)
+    }
+}
+
+impl Readable for Term {
+    type State = u16;
+
+    ghost Cursor = { ℕ × List ℕ };
+
+    ghost at = { λ last bytes. (last, bytes) };
+
+    ghost item_at = { λ _. term_at };
+
+    fn read(
+        _alloc: Global,
+        _end: u32,
+        last: u16,
+        bytes: &[u8],
+    ) -> Result<(Term, (u16, &[u8])), ImageFault> {
+        term_of(last, bytes)
+    }
+}
+
+impl Readable for Block {
+    type State = Next;
+
+    ghost Cursor = { Next × List ℕ };
+
+    ghost at = { λ next bytes. (next, bytes) };
+
+    ghost item_at = { block_at };
+
+    fn read(
+        alloc: Global,
+        end: u32,
+        next: Next,
+        bytes: &[u8],
+    ) -> Result<(Block, (Next, &[u8])), ImageFault> {
+        block_of(alloc, end, next, bytes)
+    }
+}
+
+impl Readable for Function {
+    type State = (Next, u16);
+
+    ghost Cursor = { Place × List ℕ };
+
+    ghost at = { λ place bytes. (place, bytes) };
+
+    ghost item_at = { function_at };
+
+    fn read(
+        alloc: Global,
+        end: u32,
+        place: (Next, u16),
+        bytes: &[u8],
+    ) -> Result<(Function, ((Next, u16), &[u8])), ImageFault> {
+        function_of(alloc, end, place, bytes)
+    }
+}
 
 #[tactic(auto, unfolding(crate::specs::Reading::range_at))]
 fn range_of(bytes: &[u8]) -> Result<(Range, &[u8]), ImageFault>
@@ -99,8 +266,8 @@ pub fn block_of(
     ensures { Gives (λ x. (x.0, (x.1.0, x.1.1.now))) result (block_at end (next, bytes.now)) }
 {
     let (head, rest) = block_head_of(end, next, bytes)?;
-    let (cells, (_, rest)) = cells_of(alloc, head.cells, 0, rest)?;
-    let (terms, (_, rest)) = terms_of(alloc, head.terms, 0, rest)?;
+    let (cells, (_, rest)) = items_of(alloc, end, head.cells as u32, 0, rest)?;
+    let (terms, (_, rest)) = items_of(alloc, end, head.terms as u32, 0, rest)?;
     let block = Block {
         address: head.address,
         fuel: head.fuel,
@@ -184,71 +351,12 @@ pub fn function_head_of(
     Ok((head, rest))
 }
 
-fn cells_of(
-    alloc: Global,
-    count: u16,
-    last: u16,
-    bytes: &[u8],
-) -> Result<(Vec<Cell>, (u16, &[u8])), ImageFault>
-    ensures { Gives (λ x. (x.0.items, (x.1.0, x.1.1.now))) result (items_at cell_at count (last, bytes.now)) }
-{
-    let mut cells = Vec::with_capacity(alloc, count as usize)?;
-    let mut at = last;
-    let mut rest = bytes;
-    for _ in 0..count {
-        let (cell, (location, after)) = cell_of(at, rest)?;
-        cells.push(cell)?;
-        at = location;
-        rest = after;
-    }
-    Ok((cells, (at, rest)))
-}
-
-fn terms_of(
-    alloc: Global,
-    count: u16,
-    last: u16,
-    bytes: &[u8],
-) -> Result<(Vec<Term>, (u16, &[u8])), ImageFault>
-    ensures { Gives (λ x. (x.0.items, (x.1.0, x.1.1.now))) result (items_at term_at count (last, bytes.now)) }
-{
-    let mut terms = Vec::with_capacity(alloc, count as usize)?;
-    let mut at = last;
-    let mut rest = bytes;
-    for _ in 0..count {
-        let (term, (location, after)) = term_of(at, rest)?;
-        terms.push(term)?;
-        at = location;
-        rest = after;
-    }
-    Ok((terms, (at, rest)))
-}
-
 /// So many ranges, one after the other.
 pub fn ranges_of(alloc: Global, count: u8, bytes: &[u8]) -> Result<(Vec<Range>, &[u8]), ImageFault>
     ensures { Gives (λ x. (x.0.items, x.1.now)) result (items_at range_at count bytes.now) }
 {
-    let mut ranges = Vec::with_capacity(alloc, count as usize)?;
-    let mut rest = bytes;
-    for _ in 0..count {
-        let (range, after) = range_of(rest)?;
-        ranges.push(range)?;
-        rest = after;
-    }
+    let (ranges, ((), rest)) = items_of(alloc, 0, count as u32, (), bytes)?;
     Ok((ranges, rest))
-}
-
-fn words_of(alloc: Global, count: u32, bytes: &[u8]) -> Result<(Vec<u32>, &[u8]), ImageFault>
-    ensures { Gives (λ x. (x.0.items, x.1.now)) result (items_at (number_at w32) count bytes.now) }
-{
-    let mut words = Vec::with_capacity(alloc, count as usize)?;
-    let mut rest = bytes;
-    for _ in 0..count {
-        let (word, after) = u32_at(rest)?;
-        words.push(word)?;
-        rest = after;
-    }
-    Ok((words, rest))
 }
 
 fn bytes_of(alloc: Global, count: u32, bytes: &[u8]) -> Result<(Vec<u8>, &[u8]), ImageFault>
@@ -260,27 +368,6 @@ fn bytes_of(alloc: Global, count: u32, bytes: &[u8]) -> Result<(Vec<u8>, &[u8]),
     }
     let (front, rest) = bytes.split_at(count);
     Ok((Vec::from_slice(alloc, front)?, rest))
-}
-
-fn blocks_of(
-    alloc: Global,
-    end: u32,
-    count: u16,
-    next: Next,
-    bytes: &[u8],
-) -> Result<(Vec<Block>, (Next, &[u8])), ImageFault>
-    ensures { Gives (λ x. (x.0.items, (x.1.0, x.1.1.now))) result (items_at (block_at end) count (next, bytes.now)) }
-{
-    let mut blocks = Vec::with_capacity(alloc, count as usize)?;
-    let mut at = next;
-    let mut rest = bytes;
-    for _ in 0..count {
-        let (block, (following, after)) = block_of(alloc, end, at, rest)?;
-        blocks.push(block)?;
-        at = following;
-        rest = after;
-    }
-    Ok((blocks, (at, rest)))
 }
 
 /// A function; behind it, where the next one may begin and how many blocks there are so far.
@@ -297,7 +384,7 @@ fn function_of(
     let (params, rest) = ranges_of(alloc, head.params, rest)?;
     let (results, rest) = ranges_of(alloc, head.results, rest)?;
     let first = Next::Exactly(head.entry);
-    let (blocks, (next, rest)) = blocks_of(alloc, end, head.blocks, first, rest)?;
+    let (blocks, (next, rest)) = items_of(alloc, end, head.blocks as u32, first, rest)?;
     let function = Function {
         kind: head.kind,
         params: Items::new(params),
@@ -309,27 +396,6 @@ fn function_of(
         blocks: Items::new(blocks),
     };
     Ok((function, ((next, place.1 + head.blocks), rest)))
-}
-
-fn functions_of(
-    alloc: Global,
-    end: u32,
-    count: u16,
-    place: (Next, u16),
-    bytes: &[u8],
-) -> Result<(Vec<Function>, ((Next, u16), &[u8])), ImageFault>
-    ensures { Gives (λ x. (x.0.items, (x.1.0, x.1.1.now))) result (items_at (function_at end) count (place, bytes.now)) }
-{
-    let mut functions = Vec::with_capacity(alloc, count as usize)?;
-    let mut at = place;
-    let mut rest = bytes;
-    for _ in 0..count {
-        let (function, (following, after)) = function_of(alloc, end, at, rest)?;
-        functions.push(function)?;
-        at = following;
-        rest = after;
-    }
-    Ok((functions, (at, rest)))
 }
 
 /// The services, behind what tells an image of this version.
@@ -383,11 +449,11 @@ fn parts_of(alloc: Global, bytes: &[u8]) -> Result<(Parts, &[u8]), ImageFault>
     ensures { Gives (λ x. (x.0, x.1.now)) result (parts_at bytes.now) }
 {
     let (header, rest) = header_of(bytes)?;
-    let (words, rest) = words_of(alloc, header.words, rest)?;
-    let (data_bytes, rest) = bytes_of(alloc, header.bytes, rest)?;
     let end = CODE_START + 4 * header.words;
     let first = (Next::Exactly(CODE_START), 0);
-    let (functions, (_, rest)) = functions_of(alloc, end, header.functions, first, rest)?;
+    let (words, ((), rest)) = items_of(alloc, end, header.words, (), rest)?;
+    let (data_bytes, rest) = bytes_of(alloc, header.bytes, rest)?;
+    let (functions, (_, rest)) = items_of(alloc, end, header.functions as u32, first, rest)?;
     let parts = Parts {
         services: header.services,
         words: Items::new(words),

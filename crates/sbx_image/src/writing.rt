@@ -5,8 +5,35 @@ ghost use Rattle.std.specs.List.{flat_map};
 ghost use Rattle.sbx_image.specs.Spelling.{kind_code, signed, IsCountedBlock, IsCountedFunction, block_text, cell_text, function_head_text, function_text, header_text, range_text, spelling, term_text};
 
 use crate::image::Image;
-use crate::parts::{Block, Cell, Function, Kind, Range, Term};
+use sbx_parts::{Block, Cell, Function, Kind, Range, Term};
 use std::alloc::{AllocError, Global};
+
+/// An item of a list, as the format spells it.
+pub trait Writable {
+    ghost use Rattle.std.specs.Prelude.{◌≡◌, ℕ, ◌++◌, List, OnOk};
+
+    /// Its bytes.
+    ghost text: { Self → List ℕ };
+
+    /// Each of its lists has a length that its count can say.
+    ghost is_counted: { Self → Type 0 } = { λ _. Unit {0} };
+
+    /// Puts its bytes at the end.
+    fn put(&self, out: &mut Vec<u8>) -> Result<(), AllocError>
+        requires { is_counted self.now }
+        ensures { OnOk result (out.new.items ≡ out.old.items ++ text self.now) };
+}
+
+/// Puts the bytes of each item at the end.
+fn put_each<T: Writable>(out: &mut Vec<u8>, items: &[T]) -> Result<(), AllocError>
+    requires { All T.is_counted items.now }
+    ensures { OnOk result (out.new.items ≡ out.old.items ++ flat_map T.text items.now) }
+{
+    for item in items {
+        item.put(out)?;
+    }
+    Ok(())
+}
 
 fn put_u8(out: &mut Vec<u8>, n: u8) -> Result<(), AllocError>
     ensures { OnOk result (out.new.items ≡ out.old.items ++ to_be_bytes w8 n) }
@@ -44,81 +71,61 @@ fn put_i64(out: &mut Vec<u8>, n: i64) -> Result<(), AllocError>
     put_u64(out, n.cast_unsigned())
 }
 
-#[tactic(auto, unfolding(crate::specs::Spelling::range_text))]
-fn put_range(out: &mut Vec<u8>, range: &Range) -> Result<(), AllocError>
-    ensures { OnOk result (out.new.items ≡ out.old.items ++ range_text range.now) }
-{
-    put_i32(out, range.lo)?;
-    put_i32(out, range.hi)?;
-    put_u8(out, range.alignment)
-}
+impl Writable for u32 {
+    ghost text = { to_be_bytes w32 };
 
-fn put_ranges(out: &mut Vec<u8>, ranges: &[Range]) -> Result<(), AllocError>
-    ensures { OnOk result (out.new.items ≡ out.old.items ++ flat_map range_text ranges.now) }
-{
-    for range in ranges {
-        put_range(out, range)?;
+    fn put(&self, out: &mut Vec<u8>) -> Result<(), AllocError> {
+        put_u32(out, *self)
     }
-    Ok(())
 }
 
-#[tactic(auto, unfolding(crate::specs::Spelling::cell_text))]
-fn put_cell(out: &mut Vec<u8>, cell: &Cell) -> Result<(), AllocError>
-    ensures { OnOk result (out.new.items ≡ out.old.items ++ cell_text cell.now) }
-{
-    put_u16(out, cell.location)?;
-    put_range(out, &cell.range)
-}
+impl Writable for Range {
+    ghost text = { range_text };
 
-fn put_cells(out: &mut Vec<u8>, cells: &[Cell]) -> Result<(), AllocError>
-    ensures { OnOk result (out.new.items ≡ out.old.items ++ flat_map cell_text cells.now) }
-{
-    for cell in cells {
-        put_cell(out, cell)?;
+    #[tactic(auto, unfolding(crate::specs::Spelling::range_text))]
+    fn put(&self, out: &mut Vec<u8>) -> Result<(), AllocError> {
+        put_i32(out, self.lo)?;
+        put_i32(out, self.hi)?;
+        put_u8(out, self.alignment)
     }
-    Ok(())
 }
 
-#[tactic(auto, unfolding(crate::specs::Spelling::term_text))]
-fn put_term(out: &mut Vec<u8>, term: &Term) -> Result<(), AllocError>
-    ensures { OnOk result (out.new.items ≡ out.old.items ++ term_text term.now) }
-{
-    put_u16(out, term.location)?;
-    put_i32(out, term.coefficient)
-}
+impl Writable for Cell {
+    ghost text = { cell_text };
 
-fn put_terms(out: &mut Vec<u8>, terms: &[Term]) -> Result<(), AllocError>
-    ensures { OnOk result (out.new.items ≡ out.old.items ++ flat_map term_text terms.now) }
-{
-    for term in terms {
-        put_term(out, term)?;
+    #[tactic(auto, unfolding(crate::specs::Spelling::cell_text))]
+    fn put(&self, out: &mut Vec<u8>) -> Result<(), AllocError> {
+        put_u16(out, self.location)?;
+        self.range.put(out)
     }
-    Ok(())
 }
 
-#[tactic(auto, unfolding(crate::specs::Spelling::block_text))]
-fn put_block(out: &mut Vec<u8>, block: &Block) -> Result<(), AllocError>
-    requires { IsCountedBlock block.now }
-    ensures { OnOk result (out.new.items ≡ out.old.items ++ block_text block.now) }
-{
-    let cells = block.cells.as_slice();
-    let terms = block.terms.as_slice();
-    put_u32(out, block.address)?;
-    put_u16(out, cells.len() as u16)?;
-    put_u16(out, terms.len() as u16)?;
-    put_i64(out, block.fuel)?;
-    put_cells(out, cells)?;
-    put_terms(out, terms)
-}
+impl Writable for Term {
+    ghost text = { term_text };
 
-fn put_blocks(out: &mut Vec<u8>, blocks: &[Block]) -> Result<(), AllocError>
-    requires { All IsCountedBlock blocks.now }
-    ensures { OnOk result (out.new.items ≡ out.old.items ++ flat_map block_text blocks.now) }
-{
-    for block in blocks {
-        put_block(out, block)?;
+    #[tactic(auto, unfolding(crate::specs::Spelling::term_text))]
+    fn put(&self, out: &mut Vec<u8>) -> Result<(), AllocError> {
+        put_u16(out, self.location)?;
+        put_i32(out, self.coefficient)
     }
-    Ok(())
+}
+
+impl Writable for Block {
+    ghost text = { block_text };
+
+    ghost is_counted = { IsCountedBlock };
+
+    #[tactic(auto, unfolding(crate::specs::Spelling::block_text))]
+    fn put(&self, out: &mut Vec<u8>) -> Result<(), AllocError> {
+        let cells = self.cells.as_slice();
+        let terms = self.terms.as_slice();
+        put_u32(out, self.address)?;
+        put_u16(out, cells.len() as u16)?;
+        put_u16(out, terms.len() as u16)?;
+        put_i64(out, self.fuel)?;
+        put_each(out, cells)?;
+        put_each(out, terms)
+    }
 }
 
 /// The number of a kind.
@@ -147,34 +154,18 @@ fn put_function_head(out: &mut Vec<u8>, function: &Function) -> Result<(), Alloc
     put_u16(out, function.blocks.len() as u16)
 }
 
-#[tactic(auto, unfolding(crate::specs::Spelling::function_text))]
-fn put_function(out: &mut Vec<u8>, function: &Function) -> Result<(), AllocError>
-    requires { IsCountedFunction function.now }
-    ensures { OnOk result (out.new.items ≡ out.old.items ++ function_text function.now) }
-{
-    put_function_head(out, function)?;
-    put_ranges(out, function.params.as_slice())?;
-    put_ranges(out, function.results.as_slice())?;
-    put_blocks(out, function.blocks.as_slice())
-}
+impl Writable for Function {
+    ghost text = { function_text };
 
-fn put_functions(out: &mut Vec<u8>, functions: &[Function]) -> Result<(), AllocError>
-    requires { All IsCountedFunction functions.now }
-    ensures { OnOk result (out.new.items ≡ out.old.items ++ flat_map function_text functions.now) }
-{
-    for function in functions {
-        put_function(out, function)?;
-    }
-    Ok(())
-}
+    ghost is_counted = { IsCountedFunction };
 
-fn put_words(out: &mut Vec<u8>, words: &[u32]) -> Result<(), AllocError>
-    ensures { OnOk result (out.new.items ≡ out.old.items ++ flat_map (to_be_bytes w32) words.now) }
-{
-    for word in words {
-        put_u32(out, *word)?;
+    #[tactic(auto, unfolding(crate::specs::Spelling::function_text))]
+    fn put(&self, out: &mut Vec<u8>) -> Result<(), AllocError> {
+        put_function_head(out, self)?;
+        put_each(out, self.params.as_slice())?;
+        put_each(out, self.results.as_slice())?;
+        put_each(out, self.blocks.as_slice())
     }
-    Ok(())
 }
 
 #[tactic(auto, unfolding(crate::specs::Spelling::header_text))]
@@ -197,8 +188,8 @@ pub fn write(image: &Image, alloc: Global) -> Result<Vec<u8>, AllocError>
 {
     let mut out = Vec::new(alloc);
     put_header(&mut out, image)?;
-    put_words(&mut out, image.words())?;
+    put_each(&mut out, image.words())?;
     out.extend_from_slice(image.bytes())?;
-    put_functions(&mut out, image.functions())?;
+    put_each(&mut out, image.functions())?;
     Ok(out)
 }

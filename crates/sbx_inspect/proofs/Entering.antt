@@ -4,7 +4,7 @@ use Rattle.std.specs.Prelude.{◌&&◌, ◌==◌, if◌then◌else◌}
 use Rattle.std.proofs.lemmas.Bool.Decides.{nat_tests}
 use Rattle.v8_meaning.specs.declared.operation.Operation.{Operation}
 use Rattle.v8_meaning.specs.declared.operation.Operation.TheVariants.{BranchOnCondition, JumpAndLink}
-use Rattle.sbx_image.specs.declared.parts.Parts.{Parts}
+use Rattle.sbx_image.specs.Parts.{Parts}
 use Rattle.sbx_domain.specs.Known.{Known}
 use Rattle.sbx_rules.specs.Places.{op_at, op_before}
 use Rattle.sbx_rules.specs.Ways.{after_word, branch_way, falls, state_at, taken_visit, untaken_visit, visits_after, visits_at}

@@ -5,8 +5,8 @@ use Rattle.std.specs.List.Sorted.{IsPartitionPoint}
 use Rattle.std.proofs.lemmas.Bool.{cases_lt}
 use Rattle.std.proofs.lemmas.Bool.Decides.{nat_tests}
 use Rattle.std.proofs.lemmas.Option.{slice_get-get_or}
-use Rattle.sbx_image.specs.declared.parts.Block.{Block}
-use Rattle.sbx_image.specs.declared.parts.Parts.{Parts}
+use Rattle.sbx_image.specs.Block.{Block}
+use Rattle.sbx_image.specs.Parts.{Parts}
 use Rattle.sbx_image.specs.Order.{address_of as image_address, words_in as image_words}
 use Rattle.sbx_image.specs.Rules.{parts_keep}
 use Rattle.sbx_image.proofs.Ordered.{in_order}

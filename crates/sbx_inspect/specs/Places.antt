@@ -1,6 +1,6 @@
 -- The word of a function at an address.
 use Rattle.std.specs.Prelude.{◌≡◌, ℕ}
-use Rattle.sbx_image.specs.declared.parts.Parts.{Parts}
+use Rattle.sbx_image.specs.Parts.{Parts}
 use Rattle.sbx_rules.specs.Places.{IsPlace, address_of}
 
 -- word i of block b of function f is there, and stands at the address

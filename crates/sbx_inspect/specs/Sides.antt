@@ -1,6 +1,6 @@
 -- Fuel as values, in the terms of the rules.
 use Rattle.std.specs.Prelude.{◌≡◌, ℕ, Option, Some, None}
-use Rattle.sbx_image.specs.declared.parts.Parts.{Parts}
+use Rattle.sbx_image.specs.Parts.{Parts}
 use Rattle.sbx_domain.specs.Forms.{Form}
 use Rattle.sbx_rules.specs.Ways.{fuel_at}
 use Rattle.sbx_known.specs.declared.courses.Course.{Course}

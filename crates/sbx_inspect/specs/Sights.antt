@@ -1,6 +1,6 @@
 -- What is told of an address: the word there, the ways on which it runs, and what is known before it on each.
 use Rattle.std.specs.Prelude.{◌≡◌, ℕ, zero, suc, false, ◌<◌, ◌≤◌, if◌then◌else◌, List, length}
-use Rattle.sbx_image.specs.declared.parts.Parts.{Parts}
+use Rattle.sbx_image.specs.Parts.{Parts}
 use Rattle.sbx_domain.specs.Known.{Known, known}
 use Rattle.sbx_rules.specs.Places.{op_at, op_before}
 use Rattle.sbx_rules.specs.Ways.{Visit, state_at, visits_at, weight_to}

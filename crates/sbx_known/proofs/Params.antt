@@ -1,8 +1,8 @@
 -- The cells of a first block are its function's params, from %o0 on.
 use Rattle.std.proofs.Common.{◌≡◌, ℕ, ◌+◌, ◌≤◌, List, [], ◌∷◌, take, length, refl, arith}
 use Rattle.std.specs.Prelude.{slice_index_or}
-use Rattle.sbx_image.specs.declared.parts.Cell.{Cell}
-use Rattle.sbx_image.specs.declared.parts.Range.{Range}
+use Rattle.sbx_image.specs.Cell.{Cell}
+use Rattle.sbx_image.specs.Range.{Range}
 use Rattle.sbx_rules.specs.Ways.{out_cells}
 
 abbrev pub cell_by : List Range → Range → ℕ → Cell

@@ -6,10 +6,10 @@ use Rattle.std.proofs.lemmas.Bool.Decides.{nat_tests}
 use Rattle.v8_formats.specs.declared.instr.Branch.{Branch}
 use Rattle.v8_meaning.specs.declared.operation.Operation.{Operation}
 use Rattle.v8_meaning.specs.declared.operation.Operation.TheVariants.{BranchOnCondition, Call, JumpAndLink}
-use Rattle.sbx_image.specs.declared.parts.Parts.{Parts}
+use Rattle.sbx_image.specs.Parts.{Parts}
 use Rattle.sbx_rules.specs.Known.{Known}
 use Rattle.sbx_rules.specs.Transfer.{transferred}
-use Rattle.sbx_image.specs.declared.parts.Function.{Function}
+use Rattle.sbx_image.specs.Function.{Function}
 use Rattle.sbx_rules.specs.Operations.{is_call, is_framed, is_framed_return, is_restore, is_save, is_transfer, is_trap}
 use Rattle.sbx_rules.specs.Places.{address_of, callee_at, callee_before, callee_of, ends_run, function_at, op_at, op_before, words_in}
 use Rattle.sbx_rules.specs.Rules.{enters_well, has_bad_shape, has_cells, is_entry, is_last, misses_params, params_of, same_test, suits}

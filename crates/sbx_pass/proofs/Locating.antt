@@ -1,7 +1,7 @@
 -- What is known on the ways that the pass keeps is of locations alone.
 use Rattle.std.proofs.Common.{◌≡◌, ℕ, List, ◌++◌, Option, Some, None, ap, subst}
 use Rattle.std.specs.Prelude.{IfSome, slice_get}
-use Rattle.sbx_image.specs.declared.parts.Parts.{Parts}
+use Rattle.sbx_image.specs.Parts.{Parts}
 use Rattle.sbx_rules.specs.Known.{Known}
 use Rattle.sbx_rules.specs.Ways.{Visit, visits_at}
 use Rattle.sbx_known.specs.declared.courses.Course.{Course}

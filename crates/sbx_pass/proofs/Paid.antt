@@ -1,7 +1,7 @@
 -- An edge that isn't paid is one of the two ways that the pass keeps.
 use Rattle.std.proofs.Common.{◌≡◌, ℕ, zero, suc, Bool, true, false, List, [], ◌∷◌, ◌++◌, map, Option, Some, None, refl, ap, subst, inl, inr}
 use Rattle.std.specs.Prelude.{◌&&◌, ◌||◌, ◌↔◌, ◌⊎◌, IsTrue, slice_get}
-use Rattle.sbx_image.specs.declared.parts.Parts.{Parts}
+use Rattle.sbx_image.specs.Parts.{Parts}
 use Rattle.sbx_rules.specs.Known.{Known}
 use Rattle.sbx_rules.specs.Rules.{HasUnpaidEdge, now}
 use Rattle.sbx_rules.specs.Ways.{To, Visit, Way, fuel_at, state_at, visits_at, weight_to}

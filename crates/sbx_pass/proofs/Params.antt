@@ -2,8 +2,8 @@
 use Rattle.std.proofs.Common.{◌≡◌, ℕ, zero, suc, true, List, [], ◌∷◌, refl, ap, arith}
 use Rattle.std.specs.Prelude.{◌&&◌, ◌==◌}
 use Rattle.std.proofs.lemmas.Bool.Decides.{nat_tests}
-use Rattle.sbx_image.specs.declared.parts.Range.{Range}
-use Rattle.sbx_image.specs.declared.parts.Parts.{Parts}
+use Rattle.sbx_image.specs.Range.{Range}
+use Rattle.sbx_image.specs.Parts.{Parts}
 use Rattle.sbx_rules.specs.Known.{Known, range_at}
 use Rattle.sbx_rules.specs.Places.{block_at, function_at}
 use Rattle.sbx_rules.specs.Rules.{has_cells, has_outs, has_range}

@@ -1,6 +1,6 @@
 -- What the pass tells: of the rules that a word breaks the one of least number, of the words of a block the first that breaks one.
 use Rattle.std.specs.Prelude.{ℕ, ◌<◌, ◌≤◌, Option, Some, None}
-use Rattle.sbx_image.specs.declared.parts.Parts.{Parts}
+use Rattle.sbx_image.specs.Parts.{Parts}
 use Rattle.sbx_rules.specs.declared.cause.Cause.{Cause}
 use Rattle.sbx_rules.specs.Causes.{number_of}
 use Rattle.sbx_rules.specs.Places.{words_in}

@@ -1,6 +1,6 @@
 -- Where the fuel of a block has to last.
 use Rattle.std.specs.Prelude.{ℕ, Option, Some, None}
-use Rattle.sbx_image.specs.declared.parts.Parts.{Parts}
+use Rattle.sbx_image.specs.Parts.{Parts}
 use Rattle.sbx_rules.specs.Known.{Known}
 use Rattle.sbx_rules.specs.Fuel.{IsPaid}
 use Rattle.sbx_rules.specs.Ways.{To, Way, fuel_at, state_at}

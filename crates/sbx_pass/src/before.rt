@@ -1,6 +1,6 @@
 //! The rules that look before a word: what it is, where it goes, and what it reads, writes and reaches on each of its ways.
 ghost use Rattle.std.specs.Prelude.{◌≡◌, ◌<◌, ◌+◌, ◌&&◌, ◌||◌, nat_le, not, ℕ};
-ghost use Rattle.sbx_image.specs.declared.parts.Parts.{Parts};
+ghost use Rattle.sbx_image.specs.Parts.{Parts};
 ghost use Rattle.sbx_rules.specs.Known.{Known, known};
 ghost use Rattle.sbx_rules.specs.Operations.{access_of, is_call, is_framed, is_framed_return, is_restore, is_save, is_transfer, is_trap};
 ghost use Rattle.sbx_rules.specs.Rules.{Holds, branches_badly, enters_well, has_bad_shape, is_aligned_access, is_entry, is_later, is_placed_access, may_divide_by_zero, may_overflow, reads_undefined, runs_with, same_test, suits, touches_reserved};

@@ -1,6 +1,6 @@
 -- A run of the plain machine, so far.
 use Rattle.std.proofs.Common.{◌≡◌, ℕ, ◌^◌, ◌<◌, ◌≤◌, List, [], ◌∷◌, ◌++◌, length, Some, refl, sym, ap, ◌∙◌, subst, arith}
-use Rattle.sbx_image.specs.declared.parts.Parts.{Parts}
+use Rattle.sbx_image.specs.Parts.{Parts}
 use Rattle.sbx_flat.specs.declared.path.Place.{Place}
 use Rattle.sbx_flat.specs.declared.path.Wrong.{Wrong}
 use Rattle.sbx_flat.specs.Registers.{IsFresh}

@@ -5,7 +5,7 @@ use Rattle.std.proofs.lemmas.Bool.Decides.{nat_tests}
 use Rattle.v8_word.specs.declared.Icc.{Icc}
 use Rattle.v8_formats.specs.declared.instr.Branch.{Branch}
 use Rattle.v8_meaning.specs.Operands.{annuls, target}
-use Rattle.sbx_image.specs.declared.parts.Parts.{Parts}
+use Rattle.sbx_image.specs.Parts.{Parts}
 use Rattle.sbx_flat.specs.Effects.{branched, branches, gets, is_base, jumps, restores, saves, writes}
 use Rattle.sbx_flat.specs.Registers.{Fresh, Registers, pushed}
 use Rattle.sbx_flat.specs.States.{State, Turn, advanced, reg, transferred, with_reg}

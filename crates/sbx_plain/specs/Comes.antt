@@ -1,6 +1,6 @@
 -- What the plain machine answers, against what comes of the flat state.
 use Rattle.std.specs.Prelude.{◌≡◌, ℕ, ◌≤◌, List, length, Some, Result, Ok, Err}
-use Rattle.sbx_image.specs.declared.parts.Parts.{Parts}
+use Rattle.sbx_image.specs.Parts.{Parts}
 use Rattle.sbx_flat.specs.declared.path.Place.{Place}
 use Rattle.sbx_flat.specs.Runs.{Run}
 use Rattle.sbx_flat.specs.States.{State, Turn, Goes, Fails}

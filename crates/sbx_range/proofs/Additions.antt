@@ -3,7 +3,7 @@ use Rattle.std.proofs.Common.{◌≡◌, ℕ, ◌^◌, ◌<◌, true, false, ari
 use Rattle.std.specs.Prelude.{pos, negsuc, ◌+ℤ◌, ◌-ℤ◌, ◌≤ℤ◌}
 use Rattle.std.proofs.lemmas.Int.{ints}
 use Rattle.v8_alu.specs.Results.{signed, is_signed_word, sum, difference}
-use Rattle.sbx_image.specs.declared.parts.Range.{Range}
+use Rattle.sbx_image.specs.Range.{Range}
 use Rattle.sbx_range.specs.Ranges.{InInterval}
 use Rattle.sbx_range.specs.Rows.{least_alignment, range_add, range_sub, sums_fit, differences_fit}
 use Rattle.sbx_range.proofs.Words.{signed-word, in_fit, both_true, is_signed_word-from, is_signed_word-says}

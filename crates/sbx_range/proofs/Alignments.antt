@@ -13,7 +13,7 @@ use Rattle.v8_alu.specs.declared.TaggedOp.TheVariants.{TaggedAdd, TaggedSub}
 use Rattle.v8_alu.specs.Results.{signed, is_signed_word, is_tagged, low_word, signed_product, sum, sum_codes, difference, difference_codes, shifted_left, shifted_right, shifted_right_signed}
 use Rattle.v8_alu.specs.declared.Op.{Op}
 use Rattle.v8_alu.specs.declared.Op.TheVariants.{Add, AddCc, Addx, AddxCc, Sub, SubCc, Subx, SubxCc, And, AndCc, Andn, AndnCc, Or, OrCc, Orn, OrnCc, Xor, XorCc, Xnor, XnorCc, Sll, Srl, Sra, Umul, UmulCc, Smul, SmulCc, TaddCc, TsubCc, MulsCc}
-use Rattle.sbx_image.specs.declared.parts.Range.{Range}
+use Rattle.sbx_image.specs.Range.{Range}
 use Rattle.sbx_range.specs.Laws.{is_some, DivisionsHaveResults, LoadsStayIn, TaggedOperationsHaveResults, QuotientsStayIn, ResultsStayAligned, TaggedResultsStayIn, WrittenYStaysIn}
 use Rattle.sbx_range.specs.Ranges.{InInterval, InRange, IsAligned, is_within, all, both_natural, fit, is_natural, is_single, is_zero, known, range}
 use Rattle.sbx_range.specs.Rows.{differences_fit, excludes_zero, sums_fit, least_product, greatest_product, count_of, divides_naturals, range_add, range_and, range_andn, range_divide, range_or, range_sll, range_smul, range_sra, range_srl, range_sub, range_umul, range_xor, least_alignment, product_alignment}

@@ -9,7 +9,7 @@ use Rattle.std.proofs.lemmas.Nat.{or_comm, leading_length, or_lt, xor_lt, le_or_
 use Rattle.std.proofs.lemmas.Int.{ints, clamps}
 use Rattle.v8_alu.specs.Results.{signed}
 use Rattle.v8_alu.specs.Outcomes.{complement}
-use Rattle.sbx_image.specs.declared.parts.Range.{Range}
+use Rattle.sbx_image.specs.Range.{Range}
 use Rattle.sbx_range.specs.Laws.{OnesAreLeast}
 use Rattle.sbx_range.specs.Ranges.{InInterval, range, is_zero, is_natural, both_natural}
 use Rattle.sbx_range.specs.Rows.{least_alignment, greatest_alignment, natural_of, ones_above, ones_of, range_or, range_and, range_andn, range_xor}

@@ -10,7 +10,7 @@ use Rattle.v8_alu.specs.Outcomes.{divided}
 use Rattle.v8_alu.specs.Results.{signed, dividend, quotient, signed_quotient, nearest_word}
 use Rattle.v8_alu.specs.declared.Division.{Division}
 use Rattle.v8_alu.specs.declared.Division.TheVariants.{Udiv, UdivCc, Sdiv, SdivCc}
-use Rattle.sbx_image.specs.declared.parts.Range.{Range}
+use Rattle.sbx_image.specs.Range.{Range}
 use Rattle.sbx_range.specs.Ranges.{InInterval, range, is_natural, is_zero}
 use Rattle.sbx_range.specs.Rows.{range_divide, divides_naturals}
 use Rattle.sbx_range.proofs.Words.{signed-natural, natural-word, is_zero-word, in_all, by_test, both_true}

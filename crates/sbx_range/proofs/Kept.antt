@@ -11,7 +11,7 @@ use Rattle.v8_alu.specs.Icc.{Icc}
 use Rattle.v8_alu.specs.Cond.{Cond}
 use Rattle.v8_alu.specs.Cond.TheVariants.{Never, Equal, LessOrEqual, Less, LessOrEqualUnsigned, CarrySet, Negative, OverflowSet, Always, NotEqual, Greater, GreaterOrEqual, GreaterUnsigned, CarryClear, Positive, OverflowClear}
 use Rattle.v8_alu.specs.Results.{signed, codes, difference_codes}
-use Rattle.sbx_image.specs.declared.parts.Range.{Range}
+use Rattle.sbx_image.specs.Range.{Range}
 use Rattle.sbx_range.specs.declared.refining.Pair.{Pair}
 use Rattle.sbx_range.specs.Laws.{HasSigns, IsRange, KeepsBoth, OneEdgeIsLeft, RefinementKeepsPairs, RefinementKeepsWords, WordsStayIn, is_some}
 use Rattle.sbx_range.specs.Ranges.{InInterval, IsAligned, both_natural, is_empty, is_natural, is_single, known, range}

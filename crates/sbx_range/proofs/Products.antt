@@ -6,7 +6,7 @@ use Rattle.std.proofs.Math.Nat.{mul-le-mul_right}
 use Rattle.std.proofs.lemmas.Nat.{mod_below, mul-le}
 use Rattle.std.proofs.lemmas.Int.{ints, clamps}
 use Rattle.v8_alu.specs.Results.{signed, signed_product, low_word}
-use Rattle.sbx_image.specs.declared.parts.Range.{Range}
+use Rattle.sbx_image.specs.Range.{Range}
 use Rattle.sbx_range.specs.Ranges.{InInterval, is_natural, both_natural}
 use Rattle.sbx_range.specs.Rows.{product_alignment, range_smul, range_umul, least_product, greatest_product, least_of, greatest_of}
 use Rattle.sbx_range.proofs.Words.{signed-word, signed-natural, in_fit, in_all, by_test, both_true}

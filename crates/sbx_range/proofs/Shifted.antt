@@ -7,7 +7,7 @@ use Rattle.std.proofs.lemmas.Bool.Decides.{nat_tests, Decides-eqb}
 use lib.Pow.{pow_mono}
 use Rattle.std.proofs.lemmas.Int.{ints}
 use Rattle.v8_alu.specs.Results.{signed, shifted_left, shifted_right, shifted_right_signed}
-use Rattle.sbx_image.specs.declared.parts.Range.{Range}
+use Rattle.sbx_image.specs.Range.{Range}
 use Rattle.sbx_range.specs.Ranges.{InInterval, fit, is_single, is_natural}
 use Rattle.sbx_range.specs.Rows.{count_of, halved, halved_range, range_sll, range_srl, range_sra}
 use Rattle.sbx_range.proofs.Words.{signed-word, signed-low, signed-high, signed-natural, signed-written, written-below, natural-word, single-word, in_fit, in_all, by_test}

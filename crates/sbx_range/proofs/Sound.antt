@@ -8,7 +8,7 @@ use Rattle.v8_alu.specs.Results.{high_word, signed_product, step_y}
 use Rattle.v8_alu.specs.declared.AluOut.{AluOut}
 use Rattle.v8_alu.specs.declared.Op.{Op}
 use Rattle.v8_alu.specs.declared.Op.TheVariants.{Add, AddCc, Addx, AddxCc, Sub, SubCc, Subx, SubxCc, And, AndCc, Andn, AndnCc, Or, OrCc, Orn, OrnCc, Xor, XorCc, Xnor, XnorCc, Sll, Srl, Sra, Umul, UmulCc, Smul, SmulCc, TaddCc, TsubCc, MulsCc}
-use Rattle.sbx_image.specs.declared.parts.Range.{Range}
+use Rattle.sbx_image.specs.Range.{Range}
 use Rattle.sbx_range.specs.Laws.{ResultsStayIn, SumsAreExact}
 use Rattle.sbx_range.specs.Ranges.{InInterval, known, is_single, word_of}
 use Rattle.sbx_range.specs.Table.{is_computed, no_codes, range_of, range_of_y, row_of}

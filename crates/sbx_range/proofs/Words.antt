@@ -7,7 +7,7 @@ use Rattle.std.proofs.lemmas.Bool.{cases_lt}
 use Rattle.std.proofs.lemmas.Bool.Decides.{nat_tests, Decides-int_eq}
 use Rattle.std.proofs.lemmas.Int.{ints, to_z-of_z, of_z-to_z}
 use Rattle.v8_alu.specs.Results.{signed, is_signed_word}
-use Rattle.sbx_image.specs.declared.parts.Range.{Range}
+use Rattle.sbx_image.specs.Range.{Range}
 use Rattle.sbx_range.specs.Ranges.{InInterval, range, all, fit, is_natural, is_single, is_zero, word_of, known}
 
 signed-large : (w : ℕ) → w < 2 ^ 32 → 2 ^ 31 ≤ w → (signed w +ℤ pos (2 ^ 32)) ≡ pos w

@@ -12,7 +12,7 @@ use Rattle.v8_alu.specs.declared.Division.{Division}
 use Rattle.v8_alu.specs.declared.Op.{Op}
 use Rattle.v8_alu.specs.declared.Op.TheVariants.{Xor}
 use Rattle.v8_alu.specs.declared.TaggedOp.{TaggedOp}
-use Rattle.sbx_image.specs.declared.parts.Range.{Range}
+use Rattle.sbx_image.specs.Range.{Range}
 use Rattle.sbx_range.specs.declared.refining.Pair.{Pair}
 use Rattle.sbx_range.specs.declared.table.TheConstants.{BYTE_OR_END, SIGNED_BYTE, SIGNED_HALF, UNSIGNED_BYTE, UNSIGNED_HALF}
 use Rattle.sbx_range.specs.Ranges.{InInterval, InRange, IsAligned, is_within, known}

@@ -5,7 +5,7 @@ use Rattle.std.specs.Prelude.{ℕ, ◌%◌, ◌^◌, ◌≡◌, Bool, not, ◌&&
 use Rattle.std.specs.Int.{cast_unsigned, w32}
 use Rattle.std.specs.Ordering.{int_eq}
 use Rattle.v8_alu.specs.Results.{signed, is_signed_word}
-use Rattle.sbx_image.specs.declared.parts.Range.{Range}
+use Rattle.sbx_image.specs.Range.{Range}
 
 abbrev pub range : ℤ → ℤ → ℕ → Range
 range lo hi alignment = record { lo = lo; hi = hi; alignment = alignment }

@@ -2,7 +2,7 @@
 use Rattle.std.specs.Prelude.{ℕ, ◌+◌, ◌-◌, ◌%◌, ◌^◌, Bool, ◌&&◌, ◌||◌, ◌==◌, ℤ, pos, negsuc, ◌+ℤ◌, ◌-ℤ◌, ◌*ℤ◌, int_lt, int_div, min, max, if◌then◌else◌}
 use Rattle.std.specs.Int.{int_div_euclid, int_max, int_min, w32, leading_zeros}
 use Rattle.v8_alu.specs.Results.{is_signed_word}
-use Rattle.sbx_image.specs.declared.parts.Range.{Range}
+use Rattle.sbx_image.specs.Range.{Range}
 use Rattle.sbx_range.specs.Ranges.{range, all, fit, is_single, word_of, is_zero, is_natural, both_natural}
 
 abbrev pub least_alignment : Range → Range → ℕ

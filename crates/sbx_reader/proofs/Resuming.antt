@@ -5,14 +5,14 @@ use Rattle.std.specs.Int.{w32, byte_len, from_be_bytes}
 use Rattle.std.proofs.lemmas.Bool.{cases_lt, lt-ltb, le-ltb, ne_eqb, eqb-false}
 use Rattle.std.proofs.lemmas.List.{append_assoc, append-nil, length-append, length-drop, drop-append-le, drop-drop, nil_from_length, take_all}
 use Rattle.std.proofs.Math.Seq.{drop-append_seam}
-use Rattle.sbx_image.specs.declared.fault.ImageFault.{ImageFault}
-use Rattle.sbx_image.specs.declared.fault.ImageFault.TheVariants as fault
-use Rattle.sbx_image.specs.declared.order.Next.{Next}
-use Rattle.sbx_image.specs.declared.order.Next.TheVariants.{Exactly}
-use Rattle.sbx_image.specs.declared.parts.Block.{Block}
-use Rattle.sbx_image.specs.declared.parts.Function.{Function}
-use Rattle.sbx_image.specs.declared.parts.Range.{Range}
-use Rattle.sbx_image.specs.declared.parts.Parts.{Parts}
+use Rattle.sbx_image.specs.ImageFault.{ImageFault}
+use Rattle.sbx_image.specs.ImageFault.TheVariants as fault
+use Rattle.sbx_image.specs.Next.{Next}
+use Rattle.sbx_image.specs.Next.TheVariants.{Exactly}
+use Rattle.sbx_image.specs.Block.{Block}
+use Rattle.sbx_image.specs.Function.{Function}
+use Rattle.sbx_image.specs.Range.{Range}
+use Rattle.sbx_image.specs.Parts.{Parts}
 use Rattle.sbx_image.specs.declared.heads.Header.{Header}
 use Rattle.sbx_image.specs.declared.heads.FunctionHead.{FunctionHead}
 use Rattle.sbx_image.specs.Rules.{◌>>=◌, wants, Place, code_start}

@@ -1,8 +1,8 @@
 -- What a front of an image's bytes tells, and what a reader that is fed in pieces keeps and answers.
 use Rattle.std.specs.Prelude.{◌≡◌, ℕ, List, ◌++◌, Option, None, Some, Result, Ok, Err, MatchResult}
-use Rattle.sbx_image.specs.declared.fault.ImageFault.{ImageFault}
-use Rattle.sbx_image.specs.declared.fault.ImageFault.TheVariants.{Short, Magic, Version, Service, Limit, Trailing, Order, Range, Memory}
-use Rattle.sbx_image.specs.declared.parts.Parts.{Parts}
+use Rattle.sbx_image.specs.ImageFault.{ImageFault}
+use Rattle.sbx_image.specs.ImageFault.TheVariants.{Short, Magic, Version, Service, Limit, Trailing, Order, Range, Memory}
+use Rattle.sbx_image.specs.Parts.{Parts}
 use Rattle.sbx_image.specs.Reading.{Gives, reading}
 
 -- a fault that further bytes can't mend: any but that the bytes end

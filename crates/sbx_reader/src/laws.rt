@@ -1,6 +1,6 @@
 //! Why a reader may stop at a fault, as a law about lists of bytes.
 ghost use Rattle.std.specs.Prelude.{◌≡◌, ◌++◌, ℕ, List, Err};
-ghost use Rattle.sbx_image.specs.declared.fault.ImageFault.{ImageFault};
+ghost use Rattle.sbx_image.specs.ImageFault.{ImageFault};
 ghost use Rattle.sbx_image.specs.Reading.{reading};
 ghost use Rattle.sbx_reader.specs.Fronts.{front};
 

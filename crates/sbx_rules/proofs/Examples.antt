@@ -6,8 +6,8 @@ use Rattle.v8_alu.specs.Outcomes.{outcome}
 use Rattle.v8_formats.specs.Table.{meaning}
 use Rattle.v8_meaning.specs.Admitted.{is_admitted}
 use Rattle.v8_meaning.specs.Operations.{operation_of}
-use Rattle.sbx_image.specs.declared.parts.Parts.{Parts}
-use Rattle.sbx_image.specs.declared.parts.Range.{Range}
+use Rattle.sbx_image.specs.Parts.{Parts}
+use Rattle.sbx_image.specs.Range.{Range}
 use Rattle.sbx_form.specs.Forms.{Cells, add_term, add_terms}
 use Rattle.sbx_form.specs.Ranges.{range}
 use Rattle.sbx_form.specs.Rows.{range_add, range_or, range_sub}

@@ -5,7 +5,7 @@ use Rattle.std.proofs.Common.{arith, inl, inr, refl, subst}
 use Rattle.std.proofs.lemmas.Bool.Decides.{nat_tests}
 use Rattle.v8_formats.specs.Table.{IsCanonical, lookup_unused, meaning, table}
 use Rattle.v8_meaning.specs.Admitted.{is_admitted}
-use Rattle.sbx_image.specs.declared.parts.Parts.{Parts}
+use Rattle.sbx_image.specs.Parts.{Parts}
 use Rattle.want.specs.Wants.{refused}
 use Rattle.sbx_rules.specs.declared.cause.Cause.{Cause}
 use Rattle.sbx_rules.specs.declared.cause.Cause.TheVariants.{NotAnInstruction, NotAdmitted, BadShape, BadBranch, BadCall, UndefinedRead, ReservedRegister, Misaligned, OutOfBounds, ZeroDivisor, TagOverflow, UndeclaredService, UnkeptCells, OutOfFuel, OutOfStack, RunsPastEnd, UnkeptResults, BadEntry, NoMemory}

@@ -1,6 +1,6 @@
 -- Fuel: what has to hold for all numbers of a block's ranges. Alignment isn't looked at.
 use Rattle.std.specs.Prelude.{◌≡◌, ℕ, Option, Some, None, ℤ, pos, ◌+ℤ◌, ◌≤ℤ◌}
-use Rattle.sbx_image.specs.declared.parts.Range.{Range}
+use Rattle.sbx_image.specs.Range.{Range}
 use Rattle.sbx_form.specs.Forms.{Cells}
 use Rattle.sbx_domain.specs.Forms.{Form, form_value}
 use Rattle.sbx_domain.specs.Known.{Known, form_at, range_at}

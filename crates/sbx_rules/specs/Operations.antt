@@ -15,10 +15,10 @@ use Rattle.v8_meaning.specs.declared.operation.Transfer.TheVariants.{Load, Store
 use Rattle.v8_meaning.specs.Admitted.{is_ret}
 use Rattle.v8_meaning.specs.Operands.{is_always}
 use Rattle.v8_meaning.specs.Transfers.{bytes_in, odd_of, size_of}
-use Rattle.sbx_image.specs.declared.parts.Function.{Function}
-use Rattle.sbx_image.specs.declared.parts.Kind.{Kind}
-use Rattle.sbx_image.specs.declared.parts.Kind.TheVariants.{Leaf, Framed}
-use Rattle.sbx_image.specs.declared.parts.Range.{Range}
+use Rattle.sbx_image.specs.Function.{Function}
+use Rattle.sbx_image.specs.Kind.{Kind}
+use Rattle.sbx_image.specs.Kind.TheVariants.{Leaf, Framed}
+use Rattle.sbx_image.specs.Range.{Range}
 use Rattle.sbx_domain.specs.Effects.{service_of}
 use Rattle.sbx_domain.specs.Known.{Known}
 use Rattle.sbx_domain.specs.Results.{address_of, operand_entry, register_entry}

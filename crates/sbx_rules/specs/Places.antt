@@ -5,10 +5,10 @@ use Rattle.v8_meaning.specs.declared.operation.Operation.{Operation}
 use Rattle.v8_meaning.specs.declared.operation.Operation.TheVariants.{Call, Nothing, TrapOnCondition}
 use Rattle.v8_meaning.specs.Operands.{target}
 use Rattle.sbx_image.specs.Rules.{code_start}
-use Rattle.sbx_image.specs.declared.parts.Block.{Block}
-use Rattle.sbx_image.specs.declared.parts.Function.{Function}
-use Rattle.sbx_image.specs.declared.parts.Kind.TheVariants.{Leaf}
-use Rattle.sbx_image.specs.declared.parts.Parts.{Parts}
+use Rattle.sbx_image.specs.Block.{Block}
+use Rattle.sbx_image.specs.Function.{Function}
+use Rattle.sbx_image.specs.Kind.TheVariants.{Leaf}
+use Rattle.sbx_image.specs.Parts.{Parts}
 use Rattle.sbx_domain.specs.Effects.{service_of}
 use Rattle.sbx_domain.specs.Turns.{asked}
 

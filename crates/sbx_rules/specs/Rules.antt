@@ -12,14 +12,14 @@ use Rattle.v8_alu.specs.declared.TaggedOp.{TaggedOp}
 use Rattle.v8_meaning.specs.declared.operation.Operation.{Operation}
 use Rattle.v8_meaning.specs.declared.operation.Operation.TheVariants.{Call, Divide, TaggedTrap, Save, BranchOnCondition, JumpAndLink}
 use Rattle.v8_meaning.specs.Admitted.{is_admitted, is_ret}
-use Rattle.sbx_image.specs.declared.parts.Block.{Block}
-use Rattle.sbx_image.specs.declared.parts.Cell.{Cell}
-use Rattle.sbx_image.specs.declared.parts.Function.{Function}
-use Rattle.sbx_image.specs.declared.parts.Kind.{Kind}
-use Rattle.sbx_image.specs.declared.parts.Kind.TheVariants.{Leaf, Framed}
-use Rattle.sbx_image.specs.declared.parts.Parts.{Parts}
-use Rattle.sbx_image.specs.declared.parts.Range.{Range}
-use Rattle.sbx_image.specs.declared.services.Services.{Services}
+use Rattle.sbx_image.specs.Block.{Block}
+use Rattle.sbx_image.specs.Cell.{Cell}
+use Rattle.sbx_image.specs.Function.{Function}
+use Rattle.sbx_image.specs.Kind.{Kind}
+use Rattle.sbx_image.specs.Kind.TheVariants.{Leaf, Framed}
+use Rattle.sbx_image.specs.Parts.{Parts}
+use Rattle.sbx_image.specs.Range.{Range}
+use Rattle.sbx_image.specs.Services.{Services}
 use Rattle.sbx_domain.specs.Effects.{declares}
 use Rattle.sbx_domain.specs.Runs.{data_start}
 use Rattle.sbx_form.specs.Ranges.{is_within}

@@ -1,6 +1,6 @@
 -- What a verdict means: which images are checked, which refusal is told of another, and what the rules know at a place.
 use Rattle.std.specs.Prelude.{◌≡◌, ℕ, ◌<◌, List}
-use Rattle.sbx_image.specs.declared.parts.Parts.{Parts}
+use Rattle.sbx_image.specs.Parts.{Parts}
 use Rattle.sbx_rules.specs.declared.cause.Cause.{Cause}
 use Rattle.sbx_rules.specs.declared.cause.Refusal.{Refusal}
 use Rattle.sbx_rules.specs.Causes.{number_of}

@@ -10,7 +10,7 @@ use Rattle.v8_memory.specs.Board.{Device}
 use Rattle.v8_loaded.specs.States.{IsState}
 use Rattle.v8_board.specs.Seen.{State}
 use Rattle.v8_board.specs.Start.{IsPlaced, IsStart}
-use Rattle.sbx_image.specs.declared.parts.Parts.{Parts}
+use Rattle.sbx_image.specs.Parts.{Parts}
 use Rattle.sbx_windows.specs.Runs.{IsAnyBoard}
 use Rattle.sbx_windows.proofs.Start.{boot}
 

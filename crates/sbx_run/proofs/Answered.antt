@@ -10,7 +10,7 @@ use Rattle.v8_board.specs.Marks.{page_use_of}
 use Rattle.v8_board.specs.Runs.{GoesOn, IsCutShort, IsRun, Turns, after, outcome_of}
 use Rattle.v8_board.specs.Seen.{State as BoardState, turned}
 use Rattle.v8_board.specs.Start.{IsStart}
-use Rattle.sbx_image.specs.declared.parts.Parts.{Parts}
+use Rattle.sbx_image.specs.Parts.{Parts}
 use Rattle.sbx_flat.specs.Runs.{AreBytes, FlatSafe, budget}
 use Rattle.sbx_raw.specs.declared.raw.Raw.{Raw}
 use Rattle.sbx_raw.specs.Runs.{IsRaw}

@@ -14,7 +14,7 @@ use Rattle.v8_board.specs.Runs.{IsRun, after, ending_or_limit, outcome_of}
 use Rattle.v8_board.specs.Seen.{State as BoardState, ending_by, ending_of}
 use Rattle.v8_board.specs.Start.{IsStart}
 use Rattle.v8_board.proofs.Running.{Counted}
-use Rattle.sbx_image.specs.declared.parts.Parts.{Parts}
+use Rattle.sbx_image.specs.Parts.{Parts}
 use Rattle.sbx_flat.specs.Runs.{AreBytes, Behaves, FlatSafe, budget}
 use Rattle.sbx_flat.specs.declared.path.Place.{Place}
 use Rattle.sbx_flat.specs.declared.path.Traffic.{Traffic}

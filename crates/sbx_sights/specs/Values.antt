@@ -1,7 +1,7 @@
 -- What is known of a word, and fuel, as text.
 use Rattle.std.specs.Prelude.{ℕ, ◌==◌, if◌then◌else◌, List, ◌++◌, codes, Option, Some, None}
 use Rattle.std.specs.Fmt.{signed_decimal}
-use Rattle.sbx_image.specs.declared.parts.Range.{Range}
+use Rattle.sbx_image.specs.Range.{Range}
 
 abbrev pub multiple_text : ℕ → List ℕ
 multiple_text al =

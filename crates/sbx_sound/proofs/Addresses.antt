@@ -11,8 +11,8 @@ use Rattle.v8_alu.specs.Results.{signed, sum}
 use Rattle.v8_alu.specs.declared.Op.TheVariants as ops
 use Rattle.v8_meaning.specs.Operands.{sum_address}
 use Rattle.v8_meaning.specs.Transfers.{bytes_in}
-use Rattle.sbx_image.specs.declared.parts.Parts.{Parts}
-use Rattle.sbx_image.specs.declared.parts.Range.{Range}
+use Rattle.sbx_image.specs.Parts.{Parts}
+use Rattle.sbx_image.specs.Range.{Range}
 use Rattle.sbx_flat.specs.Runs.{data_start}
 use Rattle.sbx_form.specs.Forms.{Cells}
 use Rattle.sbx_range.specs.Ranges.{InInterval}

@@ -9,9 +9,9 @@ use Rattle.v8_word.specs.declared.Icc.{Icc}
 use Rattle.v8_alu.specs.Results.{signed}
 use Rattle.sbx_image.specs.Rules.{parts_keep}
 use Rattle.sbx_image.specs.Spelling.{IsTyped}
-use Rattle.sbx_image.specs.declared.parts.Cell.{Cell}
-use Rattle.sbx_image.specs.declared.parts.Parts.{Parts}
-use Rattle.sbx_image.specs.declared.parts.Range.{Range}
+use Rattle.sbx_image.specs.Cell.{Cell}
+use Rattle.sbx_image.specs.Parts.{Parts}
+use Rattle.sbx_image.specs.Range.{Range}
 use Rattle.sbx_form.specs.Forms.{Cells}
 use Rattle.sbx_rules.specs.Entry.{Entry}
 use Rattle.sbx_rules.specs.Fits.{HasForm, HasInterval}

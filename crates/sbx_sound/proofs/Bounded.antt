@@ -9,9 +9,9 @@ use Rattle.v8_meaning.specs.declared.operation.Operation.{Operation}
 use Rattle.v8_meaning.specs.declared.operation.Operation.TheVariants.{Restore, Save, TrapOnCondition}
 use Rattle.sbx_image.specs.Rules.{parts_keep}
 use Rattle.sbx_image.specs.Spelling.{IsTyped, IsTypedTerm}
-use Rattle.sbx_image.specs.declared.parts.Cell.{Cell}
-use Rattle.sbx_image.specs.declared.parts.Parts.{Parts}
-use Rattle.sbx_image.specs.declared.parts.Term.{Term}
+use Rattle.sbx_image.specs.Cell.{Cell}
+use Rattle.sbx_image.specs.Parts.{Parts}
+use Rattle.sbx_image.specs.Term.{Term}
 use Rattle.sbx_flat.specs.Effects.{service_of}
 use Rattle.sbx_flat.specs.Runs.{weight_of, weight_of_service}
 use Rattle.sbx_form.specs.Forms.{Cells, terms_value}

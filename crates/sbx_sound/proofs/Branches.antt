@@ -8,8 +8,8 @@ use Rattle.v8_word.specs.declared.Icc.{Icc}
 use Rattle.v8_formats.specs.declared.instr.Branch.{Branch}
 use Rattle.v8_meaning.specs.declared.operation.Operation.TheVariants.{BranchOnCondition}
 use Rattle.v8_meaning.specs.Operands.{following, is_always, target}
-use Rattle.sbx_image.specs.declared.parts.Block.{Block}
-use Rattle.sbx_image.specs.declared.parts.Parts.{Parts}
+use Rattle.sbx_image.specs.Block.{Block}
+use Rattle.sbx_image.specs.Parts.{Parts}
 use Rattle.sbx_flat.specs.Registers.{Words}
 use Rattle.sbx_flat.specs.Runs.{weight_of}
 use Rattle.sbx_rules.specs.Operations.{is_call, is_return}

@@ -6,7 +6,7 @@ use Rattle.v8_formats.specs.declared.instr.Branch.{Branch}
 use Rattle.v8_meaning.specs.Operands.{is_always}
 use Rattle.v8_meaning.specs.declared.operation.Operation.{Operation}
 use Rattle.v8_meaning.specs.declared.operation.Operation.TheVariants.{BranchOnCondition, Restore, Save, TrapOnCondition}
-use Rattle.sbx_image.specs.declared.parts.Parts.{Parts}
+use Rattle.sbx_image.specs.Parts.{Parts}
 use Rattle.sbx_flat.specs.Runs.{weight_of}
 use Rattle.sbx_range.specs.Refining.{opposite}
 use Rattle.sbx_form.specs.Forms.{Cells}

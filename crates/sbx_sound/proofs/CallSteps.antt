@@ -5,8 +5,8 @@ use Rattle.std.specs.Prelude.{pos, ◌≤ℤ◌, ◌==◌, ◌&&◌, ◌||◌, n
 use Rattle.std.proofs.lemmas.Bool.Decides.{nat_tests}
 use Rattle.v8_meaning.specs.declared.operation.Operation.TheVariants.{Call}
 use Rattle.v8_meaning.specs.Operands.{target}
-use Rattle.sbx_image.specs.declared.parts.Parts.{Parts}
-use Rattle.sbx_image.specs.declared.parts.Function.{Function}
+use Rattle.sbx_image.specs.Parts.{Parts}
+use Rattle.sbx_image.specs.Function.{Function}
 use Rattle.sbx_flat.specs.Effects.{does}
 use Rattle.sbx_flat.specs.Runs.{reached_by, weight_of}
 use Rattle.sbx_flat.specs.States.{State}

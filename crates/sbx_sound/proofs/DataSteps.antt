@@ -16,9 +16,9 @@ use Rattle.v8_meaning.specs.declared.operation.Transfer.{Transfer as Moving}
 use Rattle.v8_meaning.specs.declared.operation.Transfer.TheVariants.{Load, Store, Exchange}
 use Rattle.v8_meaning.specs.Operands.{second, sum_address}
 use Rattle.v8_meaning.specs.Transfers.{bytes_in, exchanged_size, filled, left_behind, loaded, odd_of, size_of, stored}
-use Rattle.sbx_image.specs.declared.parts.Function.{Function}
-use Rattle.sbx_image.specs.declared.parts.Parts.{Parts}
-use Rattle.sbx_image.specs.declared.parts.Range.{Range}
+use Rattle.sbx_image.specs.Function.{Function}
+use Rattle.sbx_image.specs.Parts.{Parts}
+use Rattle.sbx_image.specs.Range.{Range}
 use Rattle.sbx_range.specs.Ranges.{all}
 use Rattle.sbx_flat.specs.Effects.{address_in, does, takes, transfers, transfers_data, writes}
 use Rattle.sbx_flat.specs.Memory.{byte_of, with_number}

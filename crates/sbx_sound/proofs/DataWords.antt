@@ -13,7 +13,7 @@ use Rattle.v8_meaning.specs.declared.operation.MemoryOperand.{MemoryOperand}
 use Rattle.v8_meaning.specs.declared.operation.Operation.{Operation}
 use Rattle.v8_meaning.specs.declared.operation.Operation.TheVariants.{Transfer, TrapOnCondition}
 use Rattle.v8_meaning.specs.Operands.{following}
-use Rattle.sbx_image.specs.declared.parts.Parts.{Parts}
+use Rattle.sbx_image.specs.Parts.{Parts}
 use Rattle.sbx_flat.specs.Effects.{address_in, aligned, declares, does, gets, puts, served, serves, service_of, slot_of, takes, transfers, transfers_data, transfers_in, writes}
 use Rattle.sbx_flat.specs.Memory.{Bytes, byte_of, followed_by, number_at, with_number}
 use Rattle.sbx_flat.specs.Registers.{written}

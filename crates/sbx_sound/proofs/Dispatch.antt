@@ -6,7 +6,7 @@ use Rattle.v8_formats.specs.declared.instr.Three.{Three}
 use Rattle.v8_meaning.specs.declared.operation.Operation.{Operation}
 use Rattle.v8_meaning.specs.declared.operation.Operation.TheVariants.{BranchOnCondition, Call, JumpAndLink}
 use Rattle.v8_meaning.specs.Operands.{is_always}
-use Rattle.sbx_image.specs.declared.parts.Parts.{Parts}
+use Rattle.sbx_image.specs.Parts.{Parts}
 use Rattle.sbx_rules.specs.Operations.{is_call, is_return}
 use Rattle.sbx_rules.specs.Ways.{Visit, branch_way, falls, state_at}
 use Rattle.sbx_rules.specs.Places.{op_at, op_before}

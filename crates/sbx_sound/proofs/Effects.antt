@@ -11,7 +11,7 @@ use Rattle.v8_meaning.specs.declared.operation.MemoryOperand.{MemoryOperand}
 use Rattle.v8_meaning.specs.declared.operation.Operation.TheVariants.{Save, Restore, Call, BranchOnCondition, JumpAndLink}
 use Rattle.v8_meaning.specs.declared.operation.Transfer.TheVariants as transfer
 use Rattle.v8_meaning.specs.Operands.{address, annuls, following, target}
-use Rattle.sbx_image.specs.declared.parts.Parts.{Parts}
+use Rattle.sbx_image.specs.Parts.{Parts}
 use Rattle.sbx_flat.specs.Effects.{aligned, branches, does, is_base, jumps, restores, saves, takes, transfers, transfers_in, writes}
 use Rattle.sbx_flat.specs.Registers.{Frame, Fresh, Registers, Words, ins_of, popped, pushed, written}
 use Rattle.sbx_flat.specs.declared.path.Wrong.TheVariants.{StackPointer, Misaligned, BadFrame}

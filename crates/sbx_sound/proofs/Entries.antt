@@ -2,7 +2,7 @@
 use Rattle.std.proofs.Common.{◌≡◌, ℕ, ◌+◌, ◌<◌, ◌≤◌, Bool, true, false, List, Option, Some, None, refl, ap, ◌∙◌, arith}
 use Rattle.std.specs.Prelude.{◌==◌, ◌-◌, nat_le, if◌then◌else◌, slice_get}
 use Rattle.std.proofs.lemmas.Bool.Decides.{nat_tests}
-use Rattle.sbx_image.specs.declared.parts.Range.{Range}
+use Rattle.sbx_image.specs.Range.{Range}
 use Rattle.sbx_rules.specs.Entry.{Entry}
 use Rattle.sbx_rules.specs.Known.{Known, form_at, form_of_entry, is_location, plain_entry_of, range_at, range_of_entry, with_entry, without_location}
 use Rattle.sbx_rules.specs.Transfer.{called, is_global, is_out, restored, result_entry}

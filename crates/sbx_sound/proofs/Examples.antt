@@ -5,7 +5,7 @@ use Rattle.std.specs.List.{AllByRecursion}
 use Rattle.std.proofs.lemmas.Bool.Decides.{nat_tests}
 use Rattle.sbx_image.specs.Rules.{block_keeps, cell_keeps, each, function_keeps, parts_keep, range_keeps, term_keeps}
 use Rattle.sbx_image.specs.Spelling.{IsTyped, IsTypedBlock, IsTypedRange}
-use Rattle.sbx_image.specs.declared.parts.Parts.{Parts}
+use Rattle.sbx_image.specs.Parts.{Parts}
 use Rattle.sbx_flat.specs.Runs.{AreBytes}
 use Rattle.sbx_range.proofs.Words.{both_true}
 use Rattle.sbx_range.specs.Ranges.{range}

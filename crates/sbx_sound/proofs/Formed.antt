@@ -4,22 +4,22 @@ use Rattle.std.specs.Prelude.{pos, negsuc, ◌≤ℤ◌, FitsSigned, unsigned_ab
 use Rattle.std.specs.Int.{cast_signed, w8, w16, w32, w64}
 use Rattle.std.specs.List.{AllByRecursion}
 use Rattle.std.proofs.lemmas.Int.{fits_signed_from_abs, ints}
-use Rattle.sbx_image.specs.declared.fault.ImageFault.{ImageFault}
-use Rattle.sbx_image.specs.declared.fault.ImageFault.TheVariants as fault
+use Rattle.sbx_image.specs.ImageFault.{ImageFault}
+use Rattle.sbx_image.specs.ImageFault.TheVariants as fault
 use Rattle.sbx_image.specs.declared.heads.Bounds.{Bounds}
 use Rattle.sbx_image.specs.declared.heads.BlockHead.{BlockHead}
 use Rattle.sbx_image.specs.declared.heads.Counts.{Counts}
 use Rattle.sbx_image.specs.declared.heads.FunctionHead.{FunctionHead}
 use Rattle.sbx_image.specs.declared.heads.Header.{Header}
-use Rattle.sbx_image.specs.declared.order.Next.{Next}
-use Rattle.sbx_image.specs.declared.order.Next.TheVariants.{Above, Exactly}
-use Rattle.sbx_image.specs.declared.parts.Block.{Block}
-use Rattle.sbx_image.specs.declared.parts.Cell.{Cell}
-use Rattle.sbx_image.specs.declared.parts.Function.{Function}
-use Rattle.sbx_image.specs.declared.parts.Parts.{Parts}
-use Rattle.sbx_image.specs.declared.parts.Range.{Range}
-use Rattle.sbx_image.specs.declared.parts.Term.{Term}
-use Rattle.sbx_image.specs.declared.services.Services.{Services}
+use Rattle.sbx_image.specs.Next.{Next}
+use Rattle.sbx_image.specs.Next.TheVariants.{Above, Exactly}
+use Rattle.sbx_image.specs.Block.{Block}
+use Rattle.sbx_image.specs.Cell.{Cell}
+use Rattle.sbx_image.specs.Function.{Function}
+use Rattle.sbx_image.specs.Parts.{Parts}
+use Rattle.sbx_image.specs.Range.{Range}
+use Rattle.sbx_image.specs.Term.{Term}
+use Rattle.sbx_image.specs.Services.{Services}
 use Rattle.sbx_image.specs.Reading.{block_at, block_head_at, bounds_at, cell_at, counts_at, data_length_at, function_at, function_head_at, header_at, items_at, kind_at, location_at, number_at, parts_at, range_at, reading, services_at, signed_at, term_at}
 use Rattle.sbx_image.specs.Rules.{Place, admits, code_start, in_order, is_coefficient, is_fuel, is_known, is_data_length}
 use Rattle.sbx_image.specs.Spelling.{IsBytes, IsTyped, IsTypedBlock, IsTypedCell, IsTypedFunction, IsTypedRange, IsTypedTerm}

@@ -13,8 +13,8 @@ use Rattle.v8_meaning.specs.declared.operation.Transfer.{Transfer as Moving}
 use Rattle.v8_meaning.specs.declared.operation.Transfer.TheVariants.{Load, Store}
 use Rattle.v8_meaning.specs.Operands.{address, sum_address}
 use Rattle.v8_meaning.specs.Transfers.{bytes_in, size_of}
-use Rattle.sbx_image.specs.declared.parts.Function.{Function}
-use Rattle.sbx_image.specs.declared.parts.Parts.{Parts}
+use Rattle.sbx_image.specs.Function.{Function}
+use Rattle.sbx_image.specs.Parts.{Parts}
 use Rattle.sbx_flat.specs.Effects.{address_in}
 use Rattle.sbx_flat.specs.States.{State, reg}
 use Rattle.sbx_rules.specs.Known.{Known, with_entry}

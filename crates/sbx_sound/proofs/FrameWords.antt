@@ -5,7 +5,7 @@ use Rattle.std.proofs.lemmas.Bool.Decides.{nat_tests}
 use Rattle.v8_meaning.specs.declared.operation.MemoryOperand.{MemoryOperand}
 use Rattle.v8_meaning.specs.declared.operation.Operation.TheVariants.{Transfer}
 use Rattle.v8_meaning.specs.Operands.{following}
-use Rattle.sbx_image.specs.declared.parts.Parts.{Parts}
+use Rattle.sbx_image.specs.Parts.{Parts}
 use Rattle.sbx_flat.specs.Effects.{address_in, aligned, does, transfers, transfers_in}
 use Rattle.sbx_flat.specs.Registers.{Frame, Words, ins_of, with_slot}
 use Rattle.sbx_flat.specs.Runs.{reached_by}

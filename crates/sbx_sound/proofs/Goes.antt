@@ -1,7 +1,7 @@
 -- Where control goes on from a word that comes straight: the next word of the block, or the next block, along an edge that is paid.
 use Rattle.std.proofs.Common.{◌≡◌, ℕ, suc, ◌+◌, ◌<◌, Bool, true, false, length, refl, ap, inl, inr, arith}
 use Rattle.std.specs.Prelude.{◌⊎◌, nat_lt, if◌then◌else◌}
-use Rattle.sbx_image.specs.declared.parts.Parts.{Parts}
+use Rattle.sbx_image.specs.Parts.{Parts}
 use Rattle.sbx_rules.specs.Operations.{is_call}
 use Rattle.sbx_rules.specs.Places.{IsPlace, ends_run, function_at, op_at, op_before, words_in}
 use Rattle.sbx_rules.specs.Rules.{is_past}

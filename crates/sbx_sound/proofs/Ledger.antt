@@ -7,9 +7,9 @@ use Rattle.std.proofs.Math.Nat.{mul_assoc}
 use Rattle.std.proofs.lemmas.Nat.{mod-mul-add, pow_pos, pow-add, shr_split}
 use Rattle.v8_alu.specs.Results.{signed}
 use Rattle.v8_word.specs.declared.Icc.{Icc}
-use Rattle.sbx_image.specs.declared.parts.Parts.{Parts}
-use Rattle.sbx_image.specs.declared.parts.Range.{Range}
-use Rattle.sbx_image.specs.declared.parts.Cell.{Cell}
+use Rattle.sbx_image.specs.Parts.{Parts}
+use Rattle.sbx_image.specs.Range.{Range}
+use Rattle.sbx_image.specs.Cell.{Cell}
 use Rattle.sbx_form.specs.declared.terms.FormTerm.{FormTerm}
 use Rattle.sbx_flat.specs.Registers.{Words}
 use Rattle.sbx_form.specs.Forms.{Cells, terms_value}

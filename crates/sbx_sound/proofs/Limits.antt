@@ -9,14 +9,14 @@ use Rattle.v8_alu.specs.Results.{signed}
 use Rattle.sbx_image.specs.Rules.{block_keeps, cell_keeps, code_start, each, function_keeps, is_fuel, parts_keep, range_keeps, ranges_keep, Place}
 use Rattle.sbx_image.specs.Spelling.{IsTyped, IsTypedBlock, IsTypedCell, IsTypedFunction, IsTypedRange, IsTypedTerm}
 use Rattle.sbx_image.specs.Order as order
-use Rattle.sbx_image.specs.declared.fault.ImageFault.{ImageFault}
-use Rattle.sbx_image.specs.declared.order.Next.{Next}
-use Rattle.sbx_image.specs.declared.order.Next.TheVariants.{Exactly}
-use Rattle.sbx_image.specs.declared.parts.Block.{Block}
-use Rattle.sbx_image.specs.declared.parts.Cell.{Cell}
-use Rattle.sbx_image.specs.declared.parts.Function.{Function}
-use Rattle.sbx_image.specs.declared.parts.Parts.{Parts}
-use Rattle.sbx_image.specs.declared.parts.Range.{Range}
+use Rattle.sbx_image.specs.ImageFault.{ImageFault}
+use Rattle.sbx_image.specs.Next.{Next}
+use Rattle.sbx_image.specs.Next.TheVariants.{Exactly}
+use Rattle.sbx_image.specs.Block.{Block}
+use Rattle.sbx_image.specs.Cell.{Cell}
+use Rattle.sbx_image.specs.Function.{Function}
+use Rattle.sbx_image.specs.Parts.{Parts}
+use Rattle.sbx_image.specs.Range.{Range}
 use Rattle.sbx_image.proofs.Fields.{bind_ok, is_between}
 use Rattle.sbx_image.proofs.Limits.{block_kept, cell_kept, function_kept, location_kept, parts_kept, range_kept, words_within}
 use Rattle.sbx_image.proofs.Ordered.{in_order}

@@ -18,9 +18,9 @@ use Rattle.v8_alu.specs.declared.TaggedOp.TheVariants.{TaggedAdd, TaggedSub}
 use Rattle.v8_meaning.specs.declared.operation.Operation.{Operation}
 use Rattle.v8_meaning.specs.declared.operation.Operation.TheVariants.{Divide, ReadY, SetHigh, TaggedTrap, WriteY}
 use Rattle.v8_meaning.specs.Operands.{second}
-use Rattle.sbx_image.specs.declared.parts.Function.{Function}
-use Rattle.sbx_image.specs.declared.parts.Parts.{Parts}
-use Rattle.sbx_image.specs.declared.parts.Range.{Range}
+use Rattle.sbx_image.specs.Function.{Function}
+use Rattle.sbx_image.specs.Parts.{Parts}
+use Rattle.sbx_image.specs.Range.{Range}
 use Rattle.sbx_range.specs.Laws.{AreIn, is_some as is_there}
 use Rattle.sbx_range.proofs.Alignments.{divisions_have_results, tagged_operations_have_results}
 use Rattle.sbx_flat.specs.Effects.{does, high_word, operand_value, writes, writes_some}

@@ -1,7 +1,7 @@
 -- The order of functions and blocks that the image format asks for, as far as a run needs it.
 use Rattle.std.specs.Prelude.{◌≡◌, ℕ, ◌+◌, ◌*◌, ◌<◌, ◌≤◌, length}
 use Rattle.sbx_image.specs.Rules.{code_start}
-use Rattle.sbx_image.specs.declared.parts.Parts.{Parts}
+use Rattle.sbx_image.specs.Parts.{Parts}
 use Rattle.sbx_rules.specs.Places.{address_of, block_end, code_end, function_at, words_in}
 
 -- A block has one word or more, and they are words of the code.

@@ -5,8 +5,8 @@ use Rattle.std.proofs.lemmas.Bool.Decides.{nat_tests}
 use Rattle.std.proofs.lemmas.Option.{slice_get-get_or}
 use Rattle.v8_meaning.specs.Operands.{following}
 use Rattle.sbx_image.specs.Rules.{code_start}
-use Rattle.sbx_image.specs.declared.parts.Block.{Block}
-use Rattle.sbx_image.specs.declared.parts.Parts.{Parts}
+use Rattle.sbx_image.specs.Block.{Block}
+use Rattle.sbx_image.specs.Parts.{Parts}
 use Rattle.sbx_flat.specs.Turns.{word_at}
 use Rattle.sbx_flat.proofs.Turns.{word_at_place}
 use Rattle.sbx_rules.specs.Places.{IsPlace, address_of, address_or_end, block_at, ends_run, function_at, function_end, no_block, op_at, or_block, word_of_place, words_in}

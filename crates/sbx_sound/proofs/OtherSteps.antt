@@ -10,7 +10,7 @@ use Rattle.v8_formats.specs.declared.instr.Operand.TheVariants.{Immediate}
 use Rattle.v8_formats.specs.declared.instr.Three.{Three}
 use Rattle.v8_meaning.specs.declared.operation.Operation.TheVariants.{BranchOnCondition, Save, TrapOnCondition}
 use Rattle.v8_meaning.specs.Operands.{address, following}
-use Rattle.sbx_image.specs.declared.parts.Parts.{Parts}
+use Rattle.sbx_image.specs.Parts.{Parts}
 use Rattle.sbx_flat.specs.Effects.{declares, does, exits, serves, service_of}
 use Rattle.sbx_flat.specs.Registers.{Words}
 use Rattle.sbx_flat.specs.Runs.{budget, place_of, reached_at, reached_by, weight_at, weight_of}

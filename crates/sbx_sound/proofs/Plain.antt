@@ -1,5 +1,5 @@
 -- Plain words: the results that every pair of operands has.
-use Rattle.sbx_image.specs.declared.parts.Range.{Range}
+use Rattle.sbx_image.specs.Range.{Range}
 use Rattle.sbx_sound.proofs.Written.{entry_codes, entry_y, fits_shown, more_tests, other_defined, other_word}
 use Rattle.sbx_fits.proofs.Results.{results_keep_fitting}
 use Rattle.sbx_fits.specs.Held.{AreFields, Held}
@@ -15,7 +15,7 @@ use Rattle.v8_alu.specs.declared.Op.{Op}
 use Rattle.v8_alu.specs.Outcomes.{outcome}
 use Rattle.v8_meaning.specs.declared.operation.Operation.TheVariants.{Compute}
 use Rattle.v8_meaning.specs.Operands.{second}
-use Rattle.sbx_image.specs.declared.parts.Parts.{Parts}
+use Rattle.sbx_image.specs.Parts.{Parts}
 use Rattle.sbx_flat.specs.Effects.{does, operand_value, writes, writes_result}
 use Rattle.sbx_flat.specs.Runs.{reached_by}
 use Rattle.sbx_flat.specs.States.{State, reg}

@@ -10,8 +10,8 @@ use Rattle.v8_alu.specs.declared.Op.{Op}
 use Rattle.v8_meaning.specs.declared.operation.Operation.{Operation}
 use Rattle.v8_meaning.specs.declared.operation.Operation.TheVariants.{Compute}
 use Rattle.v8_meaning.specs.Operands.{second}
-use Rattle.sbx_image.specs.declared.parts.Function.{Function}
-use Rattle.sbx_image.specs.declared.parts.Parts.{Parts}
+use Rattle.sbx_image.specs.Function.{Function}
+use Rattle.sbx_image.specs.Parts.{Parts}
 use Rattle.sbx_flat.specs.States.{State, reg}
 use Rattle.sbx_rules.specs.Known.{Known}
 use Rattle.sbx_fits.specs.Held.{IsOperand}

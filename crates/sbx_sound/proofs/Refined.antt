@@ -6,7 +6,7 @@ use Rattle.v8_word.specs.declared.Cond.{Cond}
 use Rattle.v8_word.specs.declared.Cond.TheVariants.{Always}
 use Rattle.v8_word.specs.declared.Icc.{Icc}
 use Rattle.v8_meaning.specs.Operands.{is_always}
-use Rattle.sbx_image.specs.declared.parts.Range.{Range}
+use Rattle.sbx_image.specs.Range.{Range}
 use Rattle.sbx_range.specs.declared.refining.Pair.{Pair}
 use Rattle.sbx_range.specs.Refining.{refine, refine_by_value}
 use Rattle.sbx_form.specs.Forms.{Cells}

@@ -10,9 +10,9 @@ use Rattle.v8_formats.specs.declared.instr.Operand.TheVariants.{Immediate}
 use Rattle.v8_formats.specs.declared.instr.Three.{Three}
 use Rattle.v8_meaning.specs.declared.operation.Operation.TheVariants.{JumpAndLink, Restore}
 use Rattle.v8_meaning.specs.Operands.{address, following}
-use Rattle.sbx_image.specs.declared.parts.Parts.{Parts}
-use Rattle.sbx_image.specs.declared.parts.Function.{Function}
-use Rattle.sbx_image.specs.declared.parts.Range.{Range}
+use Rattle.sbx_image.specs.Parts.{Parts}
+use Rattle.sbx_image.specs.Function.{Function}
+use Rattle.sbx_image.specs.Range.{Range}
 use Rattle.sbx_flat.specs.Effects.{does}
 use Rattle.sbx_flat.specs.Registers.{Fresh, Words}
 use Rattle.sbx_flat.specs.Runs.{reached_by, weight_of}

@@ -9,10 +9,10 @@ use Rattle.v8_meaning.specs.Admitted.{is_admitted, is_immediate_of, is_ret, is_r
 use Rattle.v8_meaning.specs.Operands.{address, following, second, sum_address}
 use Rattle.v8_meaning.specs.declared.operation.Operation.{Operation}
 use Rattle.v8_meaning.specs.declared.operation.Operation.TheVariants.{BranchOnCondition, Call, JumpAndLink, Restore, TrapOnCondition}
-use Rattle.sbx_image.specs.declared.parts.Function.{Function}
-use Rattle.sbx_image.specs.declared.parts.Kind.{Kind}
-use Rattle.sbx_image.specs.declared.parts.Kind.TheVariants.{Framed, Leaf}
-use Rattle.sbx_image.specs.declared.parts.Parts.{Parts}
+use Rattle.sbx_image.specs.Function.{Function}
+use Rattle.sbx_image.specs.Kind.{Kind}
+use Rattle.sbx_image.specs.Kind.TheVariants.{Framed, Leaf}
+use Rattle.sbx_image.specs.Parts.{Parts}
 use Rattle.sbx_flat.specs.States.{State, reg}
 use Rattle.sbx_form.specs.Forms.{Cells}
 use Rattle.sbx_rules.specs.Fits.{Words}

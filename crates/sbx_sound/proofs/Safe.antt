@@ -1,7 +1,7 @@
 -- If from every place where a run stands it steps to another such place or to its exit, the image is safe.
 use Rattle.std.proofs.Common.{◌≡◌, ℕ, ◌+◌, ◌≤◌, List, Option, Some, None, sym, ap, ◌∙◌, subst, inl, inr}
 use Rattle.std.specs.Prelude.{pos, ◌≤ℤ◌, ◌⊎◌}
-use Rattle.sbx_image.specs.declared.parts.Parts.{Parts}
+use Rattle.sbx_image.specs.Parts.{Parts}
 use Rattle.sbx_flat.specs.Registers.{Fresh, IsFresh, still}
 use Rattle.sbx_flat.specs.declared.path.Place.{Place}
 use Rattle.sbx_flat.specs.Runs.{AreBytes, FlatSafe, IsStart, budget, place_of, weight_at}

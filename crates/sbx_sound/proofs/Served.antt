@@ -7,8 +7,8 @@ use Rattle.v8_formats.specs.declared.instr.Trap.{Trap}
 use Rattle.v8_meaning.specs.Admitted.{is_admitted, is_immediate, is_service_call}
 use Rattle.v8_meaning.specs.Operands.{is_always}
 use Rattle.v8_meaning.specs.declared.operation.Operation.TheVariants.{TrapOnCondition}
-use Rattle.sbx_image.specs.declared.parts.Function.{Function}
-use Rattle.sbx_image.specs.declared.parts.Parts.{Parts}
+use Rattle.sbx_image.specs.Function.{Function}
+use Rattle.sbx_image.specs.Parts.{Parts}
 use Rattle.sbx_range.specs.Rows.{byte_or_end}
 use Rattle.sbx_flat.specs.Effects.{service_in, service_of}
 use Rattle.sbx_flat.specs.Runs.{AreBytes}

@@ -6,9 +6,9 @@ use Rattle.v8_formats.specs.declared.instr.Branch.{Branch}
 use Rattle.v8_formats.specs.declared.instr.Trap.{Trap}
 use Rattle.v8_meaning.specs.declared.operation.Operation.{Operation}
 use Rattle.v8_meaning.specs.declared.operation.Operation.TheVariants.{BranchOnCondition, Call, Save, TrapOnCondition}
-use Rattle.sbx_image.specs.declared.parts.Function.{Function}
-use Rattle.sbx_image.specs.declared.parts.Parts.{Parts}
-use Rattle.sbx_image.specs.declared.services.Services.{Services}
+use Rattle.sbx_image.specs.Function.{Function}
+use Rattle.sbx_image.specs.Parts.{Parts}
+use Rattle.sbx_image.specs.Services.{Services}
 use Rattle.sbx_flat.specs.Effects.{declares, service_of}
 use Rattle.sbx_range.specs.Refining.{opposite}
 use Rattle.sbx_range.proofs.Kept.{one_edge_is_left}

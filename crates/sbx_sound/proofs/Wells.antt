@@ -7,9 +7,9 @@ use Rattle.v8_formats.specs.declared.instr.Operand.TheVariants.{Register, Immedi
 use Rattle.v8_meaning.specs.declared.operation.Operation.{Operation}
 use Rattle.v8_meaning.specs.declared.operation.Operation.TheVariants.{Call, Save}
 use Rattle.v8_meaning.specs.Operands.{following}
-use Rattle.sbx_image.specs.declared.parts.Function.{Function}
-use Rattle.sbx_image.specs.declared.parts.Parts.{Parts}
-use Rattle.sbx_image.specs.declared.parts.Range.{Range}
+use Rattle.sbx_image.specs.Function.{Function}
+use Rattle.sbx_image.specs.Parts.{Parts}
+use Rattle.sbx_image.specs.Range.{Range}
 use Rattle.sbx_flat.specs.Runs.{AreBytes, budget_of}
 use Rattle.sbx_rules.specs.Transfer.{saved, transferred}
 use Rattle.sbx_rules.specs.Fuel.{IsWithinBudget}
@@ -18,8 +18,8 @@ use Rattle.sbx_rules.specs.Places.{IsPlace, address_of, callee_at, callee_of, en
 use Rattle.sbx_rules.specs.Rules.{enters_well, has_cells, is_frame_size, is_minus, is_save_of, params_of, room_of_callee, suits}
 use Rattle.sbx_rules.specs.Verdicts.{Checked}
 use Rattle.sbx_rules.specs.Ways.{falls, fuel_at, out_cells, state_at}
-use Rattle.sbx_image.specs.declared.parts.Kind.{Kind}
-use Rattle.sbx_image.specs.declared.parts.Kind.TheVariants.{Framed, Leaf}
+use Rattle.sbx_image.specs.Kind.{Kind}
+use Rattle.sbx_image.specs.Kind.TheVariants.{Framed, Leaf}
 use Rattle.sbx_sound.proofs.Order.{IsOrdered}
 use Rattle.sbx_sound.proofs.Running.{Follows, straight_visit}
 use Rattle.sbx_sound.proofs.Arrivals.{goes_straight, is_straight_visit}

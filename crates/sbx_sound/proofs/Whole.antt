@@ -1,6 +1,6 @@
 -- The whole: an image that breaks no rule is safe on the flat machine.
 use Rattle.std.proofs.Common.{ℕ, ◌≤◌, length}
-use Rattle.sbx_image.specs.declared.parts.Parts.{Parts}
+use Rattle.sbx_image.specs.Parts.{Parts}
 use Rattle.sbx_image.proofs.Fields.{is_between}
 use Rattle.sbx_image.proofs.Limits.{bytes_within, functions_within, parts_kept}
 use Rattle.sbx_flat.specs.Runs.{FlatSafe}

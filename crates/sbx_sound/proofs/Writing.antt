@@ -2,8 +2,8 @@
 use Rattle.std.proofs.Common.{◌≡◌, ◌≢◌, ℕ, true, length, Option, refl, sym, ap, ◌∙◌, subst}
 use Rattle.v8_word.specs.declared.Icc.{Icc}
 use Rattle.v8_meaning.specs.declared.operation.Operation.{Operation}
-use Rattle.sbx_image.specs.declared.parts.Parts.{Parts}
-use Rattle.sbx_image.specs.declared.parts.Range.{Range}
+use Rattle.sbx_image.specs.Parts.{Parts}
+use Rattle.sbx_image.specs.Range.{Range}
 use Rattle.sbx_flat.specs.Effects.{does, writes}
 use Rattle.sbx_flat.specs.Memory.{Bytes}
 use Rattle.sbx_flat.specs.Registers.{Fresh}

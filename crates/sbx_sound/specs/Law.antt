@@ -3,7 +3,7 @@ use Rattle.std.specs.Prelude.{◌≡◌, ℕ, List, Ok}
 use Rattle.sbx_image.specs.Reading.{reading}
 use Rattle.sbx_image.specs.Rules.{parts_keep}
 use Rattle.sbx_image.specs.Spelling.{IsBytes, IsTyped}
-use Rattle.sbx_image.specs.declared.parts.Parts.{Parts}
+use Rattle.sbx_image.specs.Parts.{Parts}
 use Rattle.sbx_flat.specs.Runs.{AreBytes, FlatSafe}
 use Rattle.sbx_rules.specs.Verdicts.{Checked}
 

@@ -1,7 +1,7 @@
 -- Fuel stays positive: in a checked image some of a block's fuel is left before each of its words, whatever numbers of its
 -- ranges the block began with, multiples or not. A caller's fuel then outlasts its callee, also one that never returns.
 use Rattle.std.specs.Prelude.{ℕ, ℤ, pos, ◌-ℤ◌, ◌≤ℤ◌}
-use Rattle.sbx_image.specs.declared.parts.Parts.{Parts}
+use Rattle.sbx_image.specs.Parts.{Parts}
 use Rattle.sbx_form.specs.Forms.{Cells}
 use Rattle.sbx_rules.specs.Forms.{form_value}
 use Rattle.sbx_rules.specs.Fuel.{InCells}

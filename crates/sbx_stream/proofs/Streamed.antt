@@ -20,7 +20,7 @@ use Rattle.v8_board.specs.Runs.{IsRun, ending_or_limit, outcome_of}
 use Rattle.v8_board.specs.Seen.{Seen, State, ending_by, ending_of}
 use Rattle.v8_board.specs.Start.{IsNew, IsStart, pages_of}
 use Rattle.v8_board.proofs.Contained.{run_kept, stays_contained}
-use Rattle.sbx_image.specs.declared.parts.Parts.{Parts}
+use Rattle.sbx_image.specs.Parts.{Parts}
 use Rattle.sbx_flat.specs.Runs.{AreBytes, Behaves, FlatSafe, budget}
 use Rattle.sbx_flat.specs.declared.path.Place.{Place}
 use Rattle.want.specs.Wants.{refused}

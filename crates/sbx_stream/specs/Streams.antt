@@ -1,6 +1,6 @@
 -- What a run of an accepted image over a reader and a writer gives.
 use Rattle.std.specs.Prelude.{ℕ, ◌≡◌, ◌≢◌, Bool, true, false, List, [], ◌++◌, None}
-use Rattle.sbx_image.specs.declared.parts.Parts.{Parts}
+use Rattle.sbx_image.specs.Parts.{Parts}
 use Rattle.v8_board.specs.Contains.{Contains}
 use Rattle.v8_board.specs.Seen.{Seen, State}
 use Rattle.v8_board.specs.Start.{IsNew, IsStart}

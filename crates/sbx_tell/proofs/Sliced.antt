@@ -1,6 +1,6 @@
 -- Runs in slices.
 use Rattle.std.proofs.Common.{◌≡◌, ℕ, List, ◌+◌, ◌*◌, ◌/◌, ◌%◌, subst, sym, refl, arith}
-use Rattle.sbx_image.specs.declared.parts.Parts.{Parts}
+use Rattle.sbx_image.specs.Parts.{Parts}
 use Rattle.v8_board.specs.Seen.{State}
 use Rattle.v8_board.specs.Runs.{IsRun}
 use Rattle.v8_board.proofs.Running.{no_turns, whole_run}

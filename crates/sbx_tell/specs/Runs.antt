@@ -1,6 +1,6 @@
 -- What a run gave that is told: a raw run, and where the instruction stands that trapped.
 use Rattle.std.specs.Prelude.{ℕ, ◌≡◌, List}
-use Rattle.sbx_image.specs.declared.parts.Parts.{Parts}
+use Rattle.sbx_image.specs.Parts.{Parts}
 use Rattle.v8_core.specs.Windows.{reg_of}
 use Rattle.v8_board.specs.Contains.{Keeps}
 use Rattle.v8_board.specs.Marks.{page_use_of}

@@ -1,6 +1,6 @@
 -- The function that an address is in.
 use Rattle.std.proofs.Common.{◌≡◌, ℕ, suc, ◌+◌, ◌<◌, List, ◌∷◌, length, get_or, drop, sym, ap, ◌∙◌, add-one, drop-cons}
-use Rattle.sbx_image.specs.declared.parts.Function.{Function}
+use Rattle.sbx_image.specs.Function.{Function}
 use Rattle.sbx_turns.specs.declared.places.Place.{Place}
 use Rattle.sbx_turns.specs.Places.{last_from, nearer}
 

@@ -6,7 +6,7 @@ use Rattle.v8_core.specs.declared.turn.Event.TheVariants.{Ran, Annulled, Trapped
 use Rattle.v8_core.specs.declared.turn.Turn.{Turn}
 use Rattle.v8_formats.specs.Table.{meaning}
 use Rattle.v8_forms.specs.Text.{text_of}
-use Rattle.sbx_image.specs.declared.parts.Function.{Function}
+use Rattle.sbx_image.specs.Function.{Function}
 use Rattle.sbx_lines.specs.Words.{word_text}
 use Rattle.sbx_turns.specs.Places.{place_of, place_text}
 

@@ -1,7 +1,7 @@
 -- Places of code by their names.
 use Rattle.std.specs.Prelude.{ℕ, ◌+◌, ◌-◌, ◌/◌, ◌%◌, ◌==◌, ◌&&◌, nat_le, nat_lt, true, if◌then◌else◌, List, [], ◌∷◌, ◌++◌, codes}
 use Rattle.std.specs.Fmt.{decimal, digits}
-use Rattle.sbx_image.specs.declared.parts.Function.{Function}
+use Rattle.sbx_image.specs.Function.{Function}
 use Rattle.sbx_lines.specs.Words.{byte_text}
 use Rattle.v8_map.specs.declared.TheConstants.{CODE_START, CODE_END, TRAP_TABLE, HANDLERS, PAGE}
 use Rattle.sbx_turns.specs.declared.places.Place.{Place}

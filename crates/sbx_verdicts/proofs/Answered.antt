@@ -1,6 +1,6 @@
 -- What the verifier and a run on a board answer, beside a line.
 use Rattle.std.proofs.Common.{◌≡◌, ◌↔◌, ℕ, Bool, IsTrue, List, Result, Ok, IfOk, subst, sym}
-use Rattle.sbx_image.specs.declared.parts.Parts.{Parts}
+use Rattle.sbx_image.specs.Parts.{Parts}
 use Rattle.sbx_image.specs.Reading.{reading}
 use Rattle.sbx_rules.specs.Verdicts.{Checked}
 use Rattle.sbx_run.specs.declared.runner.Finished.{Finished}

@@ -1,6 +1,6 @@
 -- What a run of the plain machine tells of the flat machine.
 use Rattle.std.proofs.Common.{◌≡◌, ℕ, List, subst}
-use Rattle.sbx_image.specs.declared.parts.Parts.{Parts}
+use Rattle.sbx_image.specs.Parts.{Parts}
 use Rattle.sbx_flat.specs.declared.path.Place.{Place}
 use Rattle.sbx_flat.specs.Runs.{IsStart}
 use Rattle.sbx_flat.specs.States.{State}

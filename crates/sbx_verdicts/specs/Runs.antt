@@ -1,6 +1,6 @@
 -- What it means that a run is the one of a line.
 use Rattle.std.specs.Prelude.{◌≡◌, ℕ, List, Some}
-use Rattle.sbx_image.specs.declared.parts.Parts.{Parts}
+use Rattle.sbx_image.specs.Parts.{Parts}
 use Rattle.sbx_flat.specs.declared.path.Place.{Place}
 use Rattle.sbx_flat.specs.declared.path.Traffic.{Traffic}
 use Rattle.sbx_flat.specs.Runs.{FlatRun}

@@ -1,7 +1,7 @@
 -- What a verdict says of an image's bytes, and how lines spell it.
 use Rattle.std.specs.Prelude.{◌≡◌, ℕ, List, ◌++◌, Ok, codes}
 use Rattle.std.specs.Fmt.{decimal}
-use Rattle.sbx_image.specs.declared.parts.Parts.{Parts}
+use Rattle.sbx_image.specs.Parts.{Parts}
 use Rattle.sbx_image.specs.Reading.{reading}
 use Rattle.sbx_rules.specs.Causes.{eight_digits, shown_cause}
 use Rattle.sbx_rules.specs.Verdicts.{Checked}

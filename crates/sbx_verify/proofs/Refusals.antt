@@ -1,7 +1,7 @@
 -- A refusal that isn't for want of memory names a broken rule.
 use Rattle.std.proofs.Common.{◌≡◌, ap, inl, inr}
 use Rattle.want.specs.Wants.{refused}
-use Rattle.sbx_image.specs.declared.parts.Parts.{Parts}
+use Rattle.sbx_image.specs.Parts.{Parts}
 use Rattle.sbx_sound.specs.Cause.TheVariants.{NoMemory}
 use Rattle.sbx_sound.specs.Refusal.{Refusal}
 use Rattle.sbx_sound.specs.Verdicts.{IsFirst}

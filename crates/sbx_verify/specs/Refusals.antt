@@ -1,7 +1,7 @@
 -- What is told of an image that is not accepted.
 use Rattle.std.specs.Prelude.{◌≡◌, ◌⊎◌}
 use Rattle.want.specs.Wants.{refused}
-use Rattle.sbx_image.specs.declared.parts.Parts.{Parts}
+use Rattle.sbx_image.specs.Parts.{Parts}
 use Rattle.sbx_sound.specs.Cause.TheVariants.{NoMemory}
 use Rattle.sbx_sound.specs.Refusal.{Refusal}
 use Rattle.sbx_sound.specs.Verdicts.{IsFirst}

@@ -20,7 +20,7 @@ pub struct Accepted {
 }
 
 impl Model for Accepted {
-    ghost use Rattle.sbx_image.specs.declared.parts.Parts.{Parts};
+    ghost use Rattle.sbx_image.specs.Parts.{Parts};
     ghost use Rattle.sbx_sound.specs.Verdicts.{Checked};
 
     ghost Value = { Parts };

@@ -1,6 +1,6 @@
 -- What a walk over the blocks of an image tells, function by function.
 use Rattle.std.specs.Prelude.{◌≡◌, ℕ, ◌<◌, length}
-use Rattle.sbx_image.specs.declared.parts.Parts.{Parts}
+use Rattle.sbx_image.specs.Parts.{Parts}
 use Rattle.sbx_pass.specs.Refusal.{Refusal}
 use Rattle.sbx_pass.specs.Places.{address_of, function_at}
 use Rattle.sbx_pass.specs.Firsts.{IsFirstOfBlock, IsQuiet}

@@ -1,7 +1,7 @@
 -- What a board's state is once it is made or loaded, and what its turns keep.
 use Rattle.std.proofs.Common.{◌≡◌, ℕ, zero, suc, ◌%◌, ◌^◌, ◌<◌, ◌≤◌, inl, inr, List, length, None, refl, sym, ap, ◌∙◌, subst, lit<, Result, Ok, Err}
 use Rattle.std.specs.Prelude.{IfOk, OnErr}
-use Rattle.sbx_image.specs.declared.parts.Parts.{Parts}
+use Rattle.sbx_image.specs.Parts.{Parts}
 use Rattle.v8_core.specs.Ram.{AreBytes}
 use Rattle.v8_core.specs.Walked.{root_of}
 use Rattle.v8_core.specs.MmuRegs.{MmuRegs}

@@ -1,6 +1,6 @@
 -- A board that an image was loaded into, whatever the image's words.
 use Rattle.std.specs.Prelude.{ℕ}
-use Rattle.sbx_image.specs.declared.parts.Parts.{Parts}
+use Rattle.sbx_image.specs.Parts.{Parts}
 use Rattle.v8_core.specs.declared.turn.Turn.{Turn}
 use Rattle.v8_contained.specs.Contained.{IsContained, TurnIs}
 use Rattle.v8_board.specs.Runs.{after}

@@ -1,6 +1,6 @@
 -- Laws of runs: calls that follow one another make one run of the board; and of what is loaded.
 use Rattle.std.specs.Prelude.{ℕ, ◌≡◌, ◌+◌, None}
-use Rattle.sbx_image.specs.declared.parts.Parts.{Parts}
+use Rattle.sbx_image.specs.Parts.{Parts}
 use Rattle.v8_board.specs.Contains.{Contains, StaysContained}
 use Rattle.v8_board.specs.Seen.{State, ending_of, turned}
 use Rattle.v8_board.specs.Runs.{Turns, IsRun, IsCutShort}

@@ -1,6 +1,6 @@
 -- What a board is when it is made, and when an image has been loaded.
 use Rattle.std.specs.Prelude.{ℕ, ◌≡◌, ◌+◌, ◌*◌, ◌/◌, ◌<◌, ◌≤◌, nat_le, false, List, length, slice_index, Some, None, if◌then◌else◌}
-use Rattle.sbx_image.specs.declared.parts.Parts.{Parts}
+use Rattle.sbx_image.specs.Parts.{Parts}
 use Rattle.v8_core.specs.Ram.{AreBytes, entry_of}
 use Rattle.v8_core.specs.Walked.{root_of}
 use Rattle.v8_core.specs.Registers.{booted, cleared, started_with}

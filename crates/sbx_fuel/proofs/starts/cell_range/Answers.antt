@@ -1,5 +1,5 @@
 use Rattle.std.proofs.Common.{◌∙◌, pos, ap, sym}
-use Rattle.sbx_image.specs.declared.parts.Cell.{Cell}
+use Rattle.sbx_image.specs.Cell.{Cell}
 use Rattle.sbx_rules.specs.Known.{range_of_entry}
 use Rattle.sbx_fuel.proofs.Counting.{cell_here, cell_past, cells_done}
 use Rattle.sbx_fuel.proofs.starts.cell_range.Goals as goal

@@ -1,6 +1,6 @@
 use Rattle.std.proofs.Common.{◌∙◌, ◌-◌, ap, sym, arith, pos}
 use Rattle.std.proofs.lemmas.Option.{slice_get-get_or, slice_get_past}
-use Rattle.sbx_image.specs.declared.parts.Range.{Range}
+use Rattle.sbx_image.specs.Range.{Range}
 use Rattle.sbx_rules.specs.Known.{range_of_entry}
 use Rattle.sbx_fuel.proofs.Counting.{before_params, param_is}
 use Rattle.sbx_fuel.proofs.starts.param_range.Goals as goal

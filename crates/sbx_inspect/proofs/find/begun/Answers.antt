@@ -1,7 +1,7 @@
 use Rattle.std.proofs.Common.{rules}
 use Rattle.std.specs.Prelude.{nat_le}
 use Rattle.std.proofs.lemmas.List.Sorted.{IsPartitionPoint-from_clause, IsPartitionedBy-leb}
-use Rattle.sbx_image.specs.declared.parts.Block.{Block}
+use Rattle.sbx_image.specs.Block.{Block}
 use Rattle.sbx_known.proofs.Searches.{rises}
 use Rattle.sbx_inspect.proofs.Finding.{point_of}
 use Rattle.sbx_inspect.proofs.find.begun.Goals as goal

@@ -1,7 +1,7 @@
 use Rattle.std.proofs.Common.{◌<◌, ◌≤◌, ◌-◌, ◌/◌, List, length, sym, ap, ◌∙◌, subst, arith}
 use Rattle.std.specs.List.Sorted.{IsPartitionPoint}
-use Rattle.sbx_image.specs.declared.parts.Block.{Block}
-use Rattle.sbx_image.specs.declared.parts.Function.{Function}
+use Rattle.sbx_image.specs.Block.{Block}
+use Rattle.sbx_image.specs.Function.{Function}
 use Rattle.sbx_known.specs.Sorted.{Ascend}
 use Rattle.sbx_known.proofs.InOrder.{blocks_ascend}
 use Rattle.sbx_inspect.proofs.Finding.{found, low, none_begun, none_found}

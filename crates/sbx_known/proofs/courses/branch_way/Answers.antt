@@ -1,6 +1,6 @@
 use Rattle.std.proofs.Common.{List, sym, ap, ◌∙◌, subst}
-use Rattle.sbx_image.specs.declared.parts.Block.{Block}
-use Rattle.sbx_image.specs.declared.parts.Function.{Function}
+use Rattle.sbx_image.specs.Block.{Block}
+use Rattle.sbx_image.specs.Function.{Function}
 use Rattle.sbx_known.specs.Sorted.{Ascend}
 use Rattle.sbx_known.proofs.InOrder.{blocks_ascend}
 use Rattle.sbx_known.proofs.courses.branch_way.Goals as goal

@@ -1,5 +1,5 @@
 use Rattle.std.proofs.Common.{List, sym, subst}
-use Rattle.sbx_image.specs.declared.parts.Function.{Function}
+use Rattle.sbx_image.specs.Function.{Function}
 use Rattle.sbx_known.specs.Sorted.{Ascend}
 use Rattle.sbx_known.proofs.InOrder.{functions_ascend}
 use Rattle.sbx_known.proofs.places.callee_of.Goals as goal

@@ -2,7 +2,7 @@ use Rattle.std.proofs.Common.{refl, sym, rules, arith, length, ◌≡◌, ◌≤
 use Rattle.std.specs.Prelude.{nat_le}
 use Rattle.std.specs.List.Sorted.{IsPartitionPoint}
 use Rattle.std.proofs.lemmas.List.Sorted.{IsPartitionPoint-from_clause, IsPartitionedBy-leb}
-use Rattle.sbx_image.specs.declared.parts.Block.{Block}
+use Rattle.sbx_image.specs.Block.{Block}
 use Rattle.sbx_rules.specs.Places.{find_block}
 use Rattle.sbx_known.proofs.Searches.{finds, misses, misses_all, rises}
 use Rattle.sbx_known.proofs.places.find_block.Goals as goal

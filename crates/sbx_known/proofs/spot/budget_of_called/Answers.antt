@@ -1,6 +1,6 @@
 use Rattle.std.proofs.Common.{◌<◌, ℕ, Option, ap, subst, length, arith}
 use Rattle.std.specs.Prelude.{IfSome}
-use Rattle.sbx_image.specs.declared.parts.Function.{Function}
+use Rattle.sbx_image.specs.Function.{Function}
 use Rattle.sbx_known.proofs.Limits.{function_limited}
 use Rattle.sbx_known.proofs.spot.budget_of_called.Goals as goal
 

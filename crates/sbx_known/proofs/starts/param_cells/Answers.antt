@@ -1,5 +1,5 @@
 use Rattle.std.proofs.Common.{pos}
-use Rattle.sbx_image.specs.declared.parts.Range.{Range}
+use Rattle.sbx_image.specs.Range.{Range}
 use Rattle.sbx_known.proofs.Params.{six_cells}
 use Rattle.sbx_known.proofs.starts.param_cells.Goals as goal
 

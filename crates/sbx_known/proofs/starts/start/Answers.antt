@@ -1,8 +1,8 @@
 use Rattle.std.proofs.Common.{List, length, sym, ap, ◌∙◌, arith}
 use Rattle.std.proofs.lemmas.List.{length-take-le}
-use Rattle.sbx_image.specs.declared.parts.Cell.{Cell}
-use Rattle.sbx_image.specs.declared.parts.Function.{Function}
-use Rattle.sbx_image.specs.declared.parts.Range.{Range}
+use Rattle.sbx_image.specs.Cell.{Cell}
+use Rattle.sbx_image.specs.Function.{Function}
+use Rattle.sbx_image.specs.Range.{Range}
 use Rattle.sbx_known.proofs.Limits.{function_limited}
 use Rattle.sbx_known.proofs.starts.start.Goals as goal
 

@@ -1,6 +1,6 @@
 use Rattle.std.proofs.Common.{◌≡◌, Bool, true, false, Option, Some, None, sym, ap, ◌∙◌, List}
 use Rattle.std.specs.Prelude.{◌&&◌, not}
-use Rattle.sbx_image.specs.declared.parts.Range.{Range}
+use Rattle.sbx_image.specs.Range.{Range}
 use Rattle.sbx_rules.specs.Known.{Known, known}
 use Rattle.sbx_rules.specs.Rules.{has_outs, is_back}
 use Rattle.sbx_known.specs.declared.courses.Course.{Course}

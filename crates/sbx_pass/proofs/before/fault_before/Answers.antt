@@ -1,7 +1,7 @@
 use Rattle.std.proofs.Common.{ap, ◌∙◌, arith}
 use Rattle.std.specs.Prelude.{not}
 use Rattle.v8_meaning.specs.declared.operation.Operation.{Operation}
-use Rattle.sbx_image.specs.declared.services.Services.{Services}
+use Rattle.sbx_image.specs.Services.{Services}
 use Rattle.sbx_rules.specs.declared.cause.Cause.{Cause}
 use Rattle.sbx_rules.specs.declared.cause.Cause.TheVariants.{UndeclaredService}
 use Rattle.sbx_rules.specs.Places.{op_at, service_asked}

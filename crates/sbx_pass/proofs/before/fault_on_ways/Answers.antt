@@ -1,7 +1,7 @@
 use Rattle.std.proofs.Common.{Bool, List, arith}
 use Rattle.std.specs.Prelude.{not}
 use Rattle.v8_meaning.specs.declared.operation.Operation.{Operation}
-use Rattle.sbx_image.specs.declared.parts.Function.{Function}
+use Rattle.sbx_image.specs.Function.{Function}
 use Rattle.sbx_rules.specs.Known.{known}
 use Rattle.sbx_rules.specs.declared.cause.Cause.{Cause}
 use Rattle.sbx_rules.specs.declared.cause.Cause.TheVariants.{UndefinedRead, ReservedRegister, Misaligned, OutOfBounds, ZeroDivisor, TagOverflow}

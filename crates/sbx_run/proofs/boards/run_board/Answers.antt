@@ -6,7 +6,7 @@ use Rattle.v8_board.specs.Runs.{IsCutShort, IsRun}
 use Rattle.v8_board.specs.Start.{IsStart}
 use Rattle.v8_board.specs.declared.outcome.Ending.{Ending}
 use Rattle.v8_board.specs.declared.outcome.Ending.TheVariants.{ErrorMode, Limit, Trapped}
-use Rattle.sbx_image.specs.declared.parts.Parts.{Parts}
+use Rattle.sbx_image.specs.Parts.{Parts}
 use Rattle.sbx_flat.specs.Runs.{AreBytes, budget}
 use Rattle.sbx_windows.specs.Runs.{IsImage}
 use Rattle.sbx_run.proofs.Answered.{board_ends, board_exits, stands_on, turns_stay}

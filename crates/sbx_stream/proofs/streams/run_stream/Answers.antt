@@ -1,7 +1,7 @@
 use Rattle.std.proofs.Common.{◌≡◌, ℕ, ◌∙◌, ap, subst}
 use Rattle.v8_board.specs.declared.outcome.Outcome.{Outcome}
 use Rattle.sbx_flat.specs.Runs.{budget}
-use Rattle.sbx_image.specs.declared.parts.Parts.{Parts}
+use Rattle.sbx_image.specs.Parts.{Parts}
 use Rattle.sbx_port.specs.Streams.{RunsAs, RunsOn, Streamed}
 use Rattle.sbx_run.specs.Runs.{IsImage}
 use Rattle.sbx_stream.specs.Streams.{IsReady}

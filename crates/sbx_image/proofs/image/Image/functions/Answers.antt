@@ -1,4 +1,4 @@
-use Rattle.sbx_image.proofs.Limits.{functions_counted}
+use Rattle.sbx_parts.proofs.Limits.{functions_counted}
 use Rattle.sbx_image.proofs.image.Image.functions.Goals as goal
 
 pub returns-clause-counted : goal.returns-clause-counted

@@ -1,5 +1,0 @@
-use Rattle.sbx_image.proofs.Ordered.{have_places}
-use Rattle.sbx_image.proofs.laws.each_word_has_a_place.Goals as goal
-
-pub returns : goal.returns
-returns c = have_places

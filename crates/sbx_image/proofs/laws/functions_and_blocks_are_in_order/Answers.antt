@@ -1,5 +1,0 @@
-use Rattle.sbx_image.proofs.Ordered.{in_order}
-use Rattle.sbx_image.proofs.laws.functions_and_blocks_are_in_order.Goals as goal
-
-pub returns : goal.returns
-returns c = in_order

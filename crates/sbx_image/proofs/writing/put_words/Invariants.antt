@@ -1,7 +1,0 @@
-use Rattle.std.proofs.Common.{◌≡◌, ◌++◌, take}
-use Rattle.std.specs.List.{flat_map}
-use Rattle.std.specs.Int.{w32, to_be_bytes}
-use Rattle.sbx_image.proofs.writing.put_words.Given as goal
-
-abbrev pub invariant-loop-word : goal.invariant-loop-word
-invariant-loop-word l = l.out.items ≡ l.initial.out.items ++ flat_map (to_be_bytes w32) (take l.word-index l.words)

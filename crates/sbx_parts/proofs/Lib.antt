@@ -1,0 +1,5 @@
+pub mod Steps
+pub mod Limits
+pub mod Eaches
+pub mod Every
+pub mod Ordered

@@ -1,0 +1,19 @@
+use Rattle.sbx_parts.specs.Rules.{function_keeps}
+use Rattle.std.proofs.Common.{rules}
+use Rattle.sbx_parts.proofs.checking.FunctionChecked.check.Goals as goal
+
+pub returns-in_err-check_each : goal.returns-in_err-check_each
+unfolding function_keeps
+returns-in_err-check_each c = search rules
+
+pub returns-in_err-check_each-2 : goal.returns-in_err-check_each-2
+unfolding function_keeps
+returns-in_err-check_each-2 c = search rules
+
+pub returns-in_err-next : goal.returns-in_err-next
+unfolding function_keeps
+returns-in_err-next c = search rules
+
+pub returns : goal.returns
+unfolding function_keeps
+returns c = search rules
