@@ -116,13 +116,16 @@ impl Readable for Cell {
 
     ghost item_at = { λ _. cell_at };
 
+    #[tactic(auto, unfolding(crate::specs::Reading::cell_at))]
     fn read(
         _alloc: Global,
         _end: u32,
         last: u16,
         bytes: &[u8],
     ) -> Result<(Cell, (u16, &[u8])), ImageFault> {
-        cell_of(last, bytes)
+        let (location, rest) = location_of(last, bytes)?;
+        let (range, rest) = range_of(rest)?;
+        Ok((Cell { location, range }, (location, rest)))
     }
 }
 
@@ -135,13 +138,23 @@ impl Readable for Term {
 
     ghost item_at = { λ _. term_at };
 
+    #[tactic(auto, unfolding(crate::specs::Reading::term_at))]
     fn read(
         _alloc: Global,
         _end: u32,
         last: u16,
         bytes: &[u8],
     ) -> Result<(Term, (u16, &[u8])), ImageFault> {
-        term_of(last, bytes)
+        let (location, rest) = location_of(last, bytes)?;
+        let (coefficient, rest) = i32_at(rest)?;
+        if !is_coefficient(coefficient) {
+            return Err(ImageFault::Limit);
+        }
+        let term = Term {
+            location,
+            coefficient,
+        };
+        Ok((term, (location, rest)))
     }
 }
 
@@ -173,13 +186,29 @@ impl Readable for Function {
 
     ghost item_at = { function_at };
 
+    #[tactic(auto, unfolding(crate::specs::Reading::function_at))]
     fn read(
         alloc: Global,
         end: u32,
         place: (Next, u16),
         bytes: &[u8],
     ) -> Result<(Function, ((Next, u16), &[u8])), ImageFault> {
-        function_of(alloc, end, place, bytes)
+        let (head, rest) = function_head_of(end, place, bytes)?;
+        let (params, rest) = ranges_of(alloc, head.params, rest)?;
+        let (results, rest) = ranges_of(alloc, head.results, rest)?;
+        let first = Next::Exactly(head.entry);
+        let (blocks, (next, rest)) = items_of(alloc, end, head.blocks as u32, first, rest)?;
+        let function = Function {
+            kind: head.kind,
+            params: Items::new(params),
+            results: Items::new(results),
+            entry: head.entry,
+            frame: head.frame,
+            stack_room: head.stack_room,
+            budget: head.budget,
+            blocks: Items::new(blocks),
+        };
+        Ok((function, ((next, place.1 + head.blocks), rest)))
     }
 }
 
@@ -205,31 +234,6 @@ fn location_of(last: u16, bytes: &[u8]) -> Result<(u16, &[u8]), ImageFault>
         return Err(ImageFault::Order);
     }
     Ok((location, rest))
-}
-
-#[tactic(auto, unfolding(crate::specs::Reading::cell_at))]
-fn cell_of(last: u16, bytes: &[u8]) -> Result<(Cell, (u16, &[u8])), ImageFault>
-    ensures { Gives (λ x. (x.0, (x.1.0, x.1.1.now))) result (cell_at (last, bytes.now)) }
-{
-    let (location, rest) = location_of(last, bytes)?;
-    let (range, rest) = range_of(rest)?;
-    Ok((Cell { location, range }, (location, rest)))
-}
-
-#[tactic(auto, unfolding(crate::specs::Reading::term_at))]
-fn term_of(last: u16, bytes: &[u8]) -> Result<(Term, (u16, &[u8])), ImageFault>
-    ensures { Gives (λ x. (x.0, (x.1.0, x.1.1.now))) result (term_at (last, bytes.now)) }
-{
-    let (location, rest) = location_of(last, bytes)?;
-    let (coefficient, rest) = i32_at(rest)?;
-    if !is_coefficient(coefficient) {
-        return Err(ImageFault::Limit);
-    }
-    let term = Term {
-        location,
-        coefficient,
-    };
-    Ok((term, (location, rest)))
 }
 
 #[tactic(auto, unfolding(crate::specs::Reading::block_head_at))]
@@ -368,34 +372,6 @@ fn bytes_of(alloc: Global, count: u32, bytes: &[u8]) -> Result<(Vec<u8>, &[u8]),
     }
     let (front, rest) = bytes.split_at(count);
     Ok((Vec::from_slice(alloc, front)?, rest))
-}
-
-/// A function; behind it, where the next one may begin and how many blocks there are so far.
-#[tactic(auto, unfolding(crate::specs::Reading::function_at))]
-fn function_of(
-    alloc: Global,
-    end: u32,
-    place: (Next, u16),
-    bytes: &[u8],
-) -> Result<(Function, ((Next, u16), &[u8])), ImageFault>
-    ensures { Gives (λ x. (x.0, (x.1.0, x.1.1.now))) result (function_at end (place, bytes.now)) }
-{
-    let (head, rest) = function_head_of(end, place, bytes)?;
-    let (params, rest) = ranges_of(alloc, head.params, rest)?;
-    let (results, rest) = ranges_of(alloc, head.results, rest)?;
-    let first = Next::Exactly(head.entry);
-    let (blocks, (next, rest)) = items_of(alloc, end, head.blocks as u32, first, rest)?;
-    let function = Function {
-        kind: head.kind,
-        params: Items::new(params),
-        results: Items::new(results),
-        entry: head.entry,
-        frame: head.frame,
-        stack_room: head.stack_room,
-        budget: head.budget,
-        blocks: Items::new(blocks),
-    };
-    Ok((function, ((next, place.1 + head.blocks), rest)))
 }
 
 /// The services, behind what tells an image of this version.
