@@ -9,6 +9,7 @@ use sbx_image::{Function, Kind, Services};
 use sbx_rules::{declares, service_of};
 use v8_formats::{Instr, Operand, decode, is_canonical};
 use v8_meaning::{Operation, is_ret};
+use v8_word::Reg;
 
 fn is_undefined(instr: &Instr) -> bool
     ensures { result ≡ is_undefined instr.now }
@@ -47,8 +48,8 @@ pub fn enters_well(function: &Function, operation: &Operation) -> bool
         Kind::Framed => match operation {
             Operation::Save(fields) => {
                 is_frame_size(function.frame)
-                    && fields.rd.number() == 14
-                    && fields.rs1.number() == 14
+                    && fields.rd == Reg::SP
+                    && fields.rs1 == Reg::SP
                     && is_minus(function.frame, fields.operand2)
             }
             _ => false,
