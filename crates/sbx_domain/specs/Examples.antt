@@ -58,6 +58,7 @@ is_possible (Some d) = Some 1
 
 -- ---- starts, results and forms
 
+-- Worked examples: where a block starts, and what operations leave.
 pub record ResultsAreThese : Type 0 where
   -- a cell starts as itself, and what is no cell is undefined
   pub cell : start.entry 8 ≡ Some (record { range = range (pos 0) (pos 10) 0; form = Some (form_of_location 8) })
@@ -79,6 +80,7 @@ pub record ResultsAreThese : Type 0 where
 
 -- ---- relations
 
+-- Worked examples: what the condition codes were set from.
 pub record RelationsAreThese : Type 0 where
   pub of_cmp : (compare start).relation ≡ Some (Compared (Location 8) (Constant 5))
   -- orcc %g0,%o0,%g0: tst %o0
@@ -97,6 +99,7 @@ pub record RelationsAreThese : Type 0 where
 
 -- ---- branches
 
+-- Worked examples: what a branch lets know of a number from 0 to 10.
 pub record BranchesKnow : Type 0 where
   -- cmp %o0,5 and bl, be, bg
   pub less : outcome_range (refined Less (compare start)) 8 ≡ Some (range (pos 0) (pos 4) 0)
@@ -110,6 +113,7 @@ pub record BranchesKnow : Type 0 where
 
 -- ---- frames and calls
 
+-- Worked examples: what stays known over SAVE, RESTORE and a call.
 pub record FramesKeep : Type 0 where
   -- save %sp,-96,%sp: %i0 is known as %o0 was, and %l0 no longer
   pub in_zero : (after (Save (record { rd = 14; rs1 = 14; operand2 = Immediate 0xFFFFFFA0 })) start).entry 24 ≡ start.entry 8

@@ -4,6 +4,7 @@ use Rattle.std.specs.List.{list_all}
 use Rattle.sbx_form.specs.declared.terms.FormTerm.{FormTerm}
 use Rattle.sbx_form.specs.Forms.{Cells, add_terms, terms_value}
 
+-- A constant, and terms over the numbers that the block's cells start with.
 pub record Form : Type 0 where
   pub constant : ℤ
   pub terms : List FormTerm

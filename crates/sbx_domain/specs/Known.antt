@@ -33,6 +33,7 @@ without_location l (Some r) = if names l r then None else Some r
 
 -- ---- states
 
+-- What is known between two words.
 pub record Known : Type 0 where
   -- by location; one without an entry is undefined
   pub entry : ℕ → Option Entry

@@ -17,9 +17,9 @@ pub fn offset_from_sp(frame: u32, rs1: Reg, operand2: Operand) -> Option<i64>
         Operand::Register(_) => None,
         Operand::Immediate(word) => {
             let offset = i64::from(word.cast_signed());
-            if rs1.number() == 14 {
+            if rs1 == Reg::SP {
                 Some(offset)
-            } else if rs1.number() == 30 {
+            } else if rs1 == Reg::FP {
                 Some(offset + i64::from(frame))
             } else {
                 None

@@ -118,7 +118,7 @@ fn tells_signs(op: Op) -> bool
 fn related_register(r: Reg) -> Related
     ensures { result ≡ related_register r }
 {
-    if r.number() == 0 {
+    if r == Reg::G0 {
         Related::Word(0)
     } else {
         Related::Location(u16::from(r.number()))
@@ -143,7 +143,7 @@ fn compared(op: Op, fields: &Three) -> Option<Relation>
             related_register(fields.rs1),
             related_operand(fields.operand2),
         )),
-        Op::OrCc if fields.rs1.number() == 0 => Some(Relation::Compared(
+        Op::OrCc if fields.rs1 == Reg::G0 => Some(Relation::Compared(
             related_operand(fields.operand2),
             Related::Word(0),
         )),
@@ -155,7 +155,7 @@ fn compared(op: Op, fields: &Three) -> Option<Relation>
 pub(crate) fn relation_of(op: Op, fields: &Three) -> Option<Relation>
     ensures { result ≡ relation_of op fields.now }
 {
-    if fields.rd.number() == 0 {
+    if fields.rd == Reg::G0 {
         compared(op, fields)
     } else if tells_signs(op) {
         Some(Relation::Signs(u16::from(fields.rd.number())))

@@ -22,7 +22,7 @@ impl State {
     pub fn register_entry(&self, r: Reg) -> Option<Entry>
         ensures { result ≡ register_entry (known self.now) r }
     {
-        if r.number() == 0 {
+        if r == Reg::G0 {
             Some(constant_entry(0))
         } else {
             self.entry(u16::from(r.number()))

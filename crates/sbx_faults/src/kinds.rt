@@ -92,5 +92,5 @@ pub fn moves_word(transfer: Transfer) -> bool
 pub fn is_reserved(register: Reg) -> bool
     ensures { result ≡ is_reserved register }
 {
-    matches!(register.number(), 14 | 15 | 30 | 31)
+    matches!(register, Reg::SP | Reg::O7 | Reg::FP | Reg::I7)
 }

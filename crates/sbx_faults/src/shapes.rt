@@ -7,8 +7,9 @@ ghost use Rattle.sbx_rules.specs.Rules.{enters_well, is_declared, is_frame_size,
 use crate::kinds::is_framed;
 use sbx_image::{Function, Kind, Services};
 use sbx_rules::{declares, service_of};
-use v8_formats::{Instr, Operand, decode, is_canonical};
+use v8_formats::{Instr, Operand, decode, encode};
 use v8_meaning::{Operation, is_ret};
+use v8_word::Reg;
 
 fn is_undefined(instr: &Instr) -> bool
     ensures { result ≡ is_undefined instr.now }
@@ -16,11 +17,20 @@ fn is_undefined(instr: &Instr) -> bool
     matches!(instr, Instr::Undefined(_))
 }
 
+/// Whether the word is the instruction's own, with no unused bit set.
+fn spells(instr: &Instr, word: u32) -> bool
+    requires meant { instr.now ≡ meaning word }
+    ensures unused { IsTrue result ↔ IsCanonical word }
+{
+    encode(instr) == word
+}
+
 /// Whether a word is undefined or has an unused bit set.
 pub fn is_no_instruction(word: u32) -> bool
     ensures { IsTrue result ↔ (IsTrue (is_undefined (meaning word)) ⊎ (IsCanonical word → ⊥)) }
 {
-    is_undefined(&decode(word)) || !is_canonical(word)
+    let instr = decode(word);
+    is_undefined(&instr) || !spells(&instr, word)
 }
 
 fn is_minus(frame: u32, operand2: Operand) -> bool
@@ -47,8 +57,8 @@ pub fn enters_well(function: &Function, operation: &Operation) -> bool
         Kind::Framed => match operation {
             Operation::Save(fields) => {
                 is_frame_size(function.frame)
-                    && fields.rd.number() == 14
-                    && fields.rs1.number() == 14
+                    && fields.rd == Reg::SP
+                    && fields.rs1 == Reg::SP
                     && is_minus(function.frame, fields.operand2)
             }
             _ => false,

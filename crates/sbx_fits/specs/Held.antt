@@ -32,6 +32,7 @@ abbrev pub IsOperand : Operand → Type 0
 IsOperand (Register r) = Unit {0}
 IsOperand (Immediate w) = w < 2 ^ 32
 
+-- Fields as a decoded instruction has them: a register's number, and an operand that is a register or a word.
 pub record AreFields (f : Three) : Type 0 where
   pub rd : f.rd < 32
   pub operand2 : IsOperand f.operand2

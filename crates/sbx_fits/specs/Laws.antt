@@ -57,6 +57,7 @@ pub record TaggedResultsKeepFitting : Type 0 where
 
 -- ---- SETHI and Y
 
+-- What fits before SETHI, RDY or WRY fits after it.
 pub record MovesKeepFitting : Type 0 where
   pub set_high : (frame : ℕ) (f : Upper) (d : Known) (h : Held) → Keeps d (transferred frame (SetHigh f) d) h (with_location f.rd (high_word f) h)
   pub read_y : (frame rd : ℕ) (d : Known) (h : Held) → Keeps d (transferred frame (ReadY rd) d) h (with_location rd h.y h)
@@ -83,11 +84,13 @@ pub record FrameWordsKeepFitting : Type 0 where
 
 -- ---- windows and calls
 
+-- What fits before SAVE or RESTORE fits after it, whatever the fresh words are.
 pub record FramesKeepFitting : Type 0 where
   pub save : (frame : ℕ) (f : Three) (d : Known) (h k : Held) → AreSaved h k → Keeps d (transferred frame (Save f) d) h k
   pub restore : (frame : ℕ) (f : Three) (d : Known) (h : Held) (after : Words) → IsOperand f.operand2 → AreRestored h.words after
       → Keeps d (transferred frame (Restore f) d) h (record h { words = with_word f.rd (address h.words f.rs1 f.operand2) after })
 
+-- What fits before a CALL fits in its slot, and again where the callee has returned.
 pub record CallsKeepFitting : Type 0 where
   -- the CALL itself, of whose link nothing is known
   pub link : (frame displacement v : ℕ) (d : Known) (h : Held) → v < 2 ^ 32 → Keeps d (transferred frame (Call displacement) d) h (with_location 15 v h)
@@ -102,6 +105,7 @@ pub record CallsKeepFitting : Type 0 where
 
 -- ---- services, and the other transfers of control
 
+-- What fits before a service or a transfer of control fits after it.
 pub record ServicesKeepFitting : Type 0 where
   pub get_byte : (frame n : ℕ) (t : Trap) (d : Known) (h : Held) → service_of t ≡ Some 1 → n < 2 ^ 8
       → Keeps d (transferred frame (TrapOnCondition t) d) h (with_location 8 n h)

@@ -10,6 +10,7 @@ pub record FrameKnown : Type 0 where
   pub words : ℕ → Bool
   pub slots : ℕ → Bool
 
+-- Which words two states have to share: those that are said to be known.
 pub record Known : Type 0 where
   pub globals : ℕ → Bool
   pub newest : FrameKnown
@@ -32,6 +33,7 @@ knows k n =
 
 -- ---- states that agree there
 
+-- Two frames share the words that are known.
 pub record AlikeFrame (k : FrameKnown) (f g : Frame) : Type 0 where
   pub outs : (n : ℕ) → k.words n ≡ true → nat_lt n 16 ≡ true → f.outs n ≡ g.outs n
   pub locals : (n : ℕ) → k.words n ≡ true → nat_lt n 16 ≡ false → f.locals n ≡ g.locals n
@@ -42,6 +44,7 @@ AlikeFrames [] [] [] = Unit {0}
 AlikeFrames (k ∷ ks) (f ∷ fs) (g ∷ gs) = AlikeFrame k f g × AlikeFrames ks fs gs
 AlikeFrames _ _ _ = ⊥
 
+-- Two states' registers share the words that are known.
 pub record AlikeRegisters (k : Known) (a b : Registers) : Type 0 where
   pub globals : (n : ℕ) → k.globals n ≡ true → a.globals n ≡ b.globals n
   pub newest : AlikeFrame k.newest a.newest b.newest
@@ -58,6 +61,7 @@ pub record SameRest (s t : State) : Type 0 where
   pub output : s.output ≡ t.output
   pub exit : s.exit ≡ t.exit
 
+-- Two states share what is known, and all that isn't a register, the condition codes or Y.
 pub record Alike (k : Known) (s t : State) : Type 0 where
   pub rest : SameRest s t
   pub registers : AlikeRegisters k s.registers t.registers

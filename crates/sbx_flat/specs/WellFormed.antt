@@ -8,11 +8,13 @@ use Rattle.sbx_flat.specs.Registers.{AreWords, Frame, Registers}
 use Rattle.sbx_flat.specs.Runs.{AreBytes}
 use Rattle.sbx_flat.specs.States.{State}
 
+-- What a frame holds are words.
 pub record HasWords (f : Frame) : Type 0 where
   pub locals : AreWords f.locals
   pub outs : AreWords f.outs
   pub slots : (address word : ℕ) → f.slots address ≡ Some word → word < 2 ^ 32
 
+-- What all registers and slots hold are words.
 pub record AreRegisters (file : Registers) : Type 0 where
   pub globals : AreWords file.globals
   pub newest : HasWords file.newest
@@ -36,6 +38,7 @@ pub record IsSlot (file : Registers) (k a : ℕ) : Type 0 where
 abbrev pub HasSlots : Registers → Type 0
 HasSlots file = (k a w : ℕ) → k < depth file → slot file k a ≡ Some w → IsSlot file k a
 
+-- The open calls: words in their registers and slots, one below the other on the stack, each with slots of its own.
 pub record AreCalls (pages : ℕ) (file : Registers) : Type 0 where
   pub words : AreRegisters file
   pub stacked : IsStacked pages file

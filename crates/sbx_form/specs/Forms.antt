@@ -45,6 +45,7 @@ pub record Ends : Type 0 where
   pub lo : ℕ → ℤ
   pub hi : ℕ → ℤ
 
+-- Numbers that lie from the lower to the upper end of their location.
 pub record Within (ends : Ends) (cells : Cells) : Type 0 where
   pub low : (l : ℕ) → ends.lo l ≤ℤ cells l
   pub high : (l : ℕ) → cells l ≤ℤ ends.hi l

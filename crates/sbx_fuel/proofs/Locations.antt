@@ -35,7 +35,8 @@ use Rattle.sbx_rules.specs.Known.{Known, cell_entry, is_location, plain_entry, p
 use Rattle.sbx_rules.specs.Refining.{in_both, is_same, narrowed_at, narrowed_related, range_of_related, refined, refined_by, refined_pair, refined_signs, with_narrowed, with_pair, with_range_of}
 use Rattle.sbx_rules.specs.Results.{constant_entry, entry_of_y, operand_entry, quotient_of, register_entry, result_of, tagged_of}
 use Rattle.sbx_rules.specs.Transfer.{called, division_sets_codes, exchanged_range, frame_word_of, is_global, is_in, is_kept_by_calls, is_out, loaded_entry, relation_of, restored, result_entry, saved, served, sets_codes, transferred, with_codes, with_loaded, with_moved, with_product_y, with_stored}
-use Rattle.sbx_rules.specs.Places.{callee_before, function_at, op_at}
+use Rattle.sbx_image.specs.Order.{function_at}
+use Rattle.sbx_rules.specs.Places.{callee_before, op_at}
 use Rattle.sbx_rules.specs.Ways.{Visit, Way, after_call, after_visit, after_word, branch_way, cells_at, falls, state_at, taken_visit, untaken_visit, visit_if, visits_after, visits_at}
 use Rattle.sbx_fuel.specs.Least.{HasOnlyLocations}
 

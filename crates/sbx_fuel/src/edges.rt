@@ -4,7 +4,7 @@ ghost use Rattle.sbx_rules.specs.Known.{known, range_at};
 ghost use Rattle.sbx_image.specs.Rules.{parts_keep};
 ghost use Rattle.sbx_range.specs.Ranges.{is_empty};
 ghost use Rattle.sbx_rules.specs.Fuel.{IsEnough, IsPaid, IsWithinBudget};
-ghost use Rattle.sbx_rules.specs.Places.{function_at};
+ghost use Rattle.sbx_image.specs.Order.{function_at};
 ghost use Rattle.sbx_rules.specs.Rules.{names_strange};
 ghost use Rattle.sbx_rules.specs.Ways.{fuel_at, state_at};
 ghost use Rattle.sbx_fuel.specs.Blocks.{IsKeptBlock, first_of, fuel_of};

@@ -7,22 +7,14 @@ use Rattle.std.proofs.lemmas.Bool.Decides.{nat_tests}
 use Rattle.std.proofs.lemmas.Option.{slice_get-get_or}
 use Rattle.sbx_image.specs.Block.{Block}
 use Rattle.sbx_image.specs.Parts.{Parts}
-use Rattle.sbx_image.specs.Order.{address_of as image_address, words_in as image_words}
 use Rattle.sbx_image.specs.Rules.{parts_keep}
 use Rattle.sbx_image.proofs.Ordered.{in_order}
-use Rattle.sbx_rules.specs.Places.{IsPlace, address_of, block_at, function_at, no_block, or_block, words_in}
+use Rattle.sbx_image.specs.Order.{address_of, block_at, function_at, no_block, or_block, words_in}
+use Rattle.sbx_rules.specs.Places.{IsPlace}
 use Rattle.sbx_inspect.specs.Places.{HasNone, IsAt}
 
 pub point_of : (xs : List Block) (a k : ℕ) → IsPartitionPoint (λ y. nat_le y.address a ≡ true) (λ y. nat_le y.address a ≡ false) xs k → IsPartitionPoint (λ b. b.address ≤ a) (λ b. a < b.address) xs k
 point_of xs a k p = (λ j d low high. (let h = p.0 j d low high in grind (arith, nat_tests, h)), λ j d low high. (let h = p.1 j d low high in grind (arith, nat_tests, h)))
-
-same_address : (parts : Parts) (f b i : ℕ) → image_address parts f b i ≡ address_of parts f b i
-unfolding image_address address_of
-same_address parts f b i = refl
-
-same_words : (parts : Parts) (f b : ℕ) → image_words parts f b ≡ words_in parts f b
-unfolding image_words words_in
-same_words parts f b = refl
 
 at_word : (parts : Parts) (f b i : ℕ) → address_of parts f b i ≡ (block_at parts f b).address + 4 * i
 unfolding address_of
@@ -33,11 +25,8 @@ module _ (parts : Parts) (keeps : parts_keep parts ≡ Ok tt) (f : ℕ) (is_func
   later b c i less place there =
       let o = (in_order parts keeps).ascending f b c less (is_function, there) in
       let e = ((in_order parts keeps).blocks f b (is_function, place.block)).ends in
-      let s = same_address parts f b (image_words parts f b) in
-      let m = ap (λ k. address_of parts f b k) (same_words parts f b) in
       let p = at_word parts f b i in
       let q = at_word parts f b (words_in parts f b) in
-      let z = same_address parts f c 0 in
       let y = at_word parts f c 0 in
       let within = place.word in
       omega arith

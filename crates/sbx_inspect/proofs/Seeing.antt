@@ -1,7 +1,8 @@
 -- What a sight says of the address of its word.
 use Rattle.std.proofs.Common.{◌≡◌, ℕ, subst, ap, ◌∙◌}
 use Rattle.sbx_image.specs.Parts.{Parts}
-use Rattle.sbx_rules.specs.Places.{IsPlace, address_of}
+use Rattle.sbx_image.specs.Order.{address_of}
+use Rattle.sbx_rules.specs.Places.{IsPlace}
 use Rattle.sbx_rules.specs.Verdicts.{KnownAt}
 use Rattle.sbx_rules.specs.Ways.{visits_at}
 use Rattle.sbx_inspect.specs.declared.known.Sight.{Sight}

@@ -1,7 +1,8 @@
 -- The word of a function at an address.
 use Rattle.std.specs.Prelude.{◌≡◌, ℕ}
 use Rattle.sbx_image.specs.Parts.{Parts}
-use Rattle.sbx_rules.specs.Places.{IsPlace, address_of}
+use Rattle.sbx_image.specs.Order.{address_of}
+use Rattle.sbx_rules.specs.Places.{IsPlace}
 
 -- word i of block b of function f is there, and stands at the address
 pub record IsAt (parts : Parts) (f address b i : ℕ) : Type 0 where

@@ -1,7 +1,8 @@
 //! What the rules know at a word.
 ghost use Rattle.std.specs.Prelude.{◌≡◌, IfErr, IfOk, Ok};
 ghost use Rattle.sbx_image.specs.Rules.{parts_keep};
-ghost use Rattle.sbx_rules.specs.Places.{IsPlace, address_of};
+ghost use Rattle.sbx_image.specs.Order.{address_of};
+ghost use Rattle.sbx_rules.specs.Places.{IsPlace};
 ghost use Rattle.sbx_rules.specs.Verdicts.{KnownAt};
 ghost use Rattle.sbx_inspect.specs.Sights.{IsAfter, IsReason, IsSeen, ways_seen};
 

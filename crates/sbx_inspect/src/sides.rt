@@ -3,7 +3,8 @@ ghost use Rattle.std.specs.Prelude.{◌≡◌, ◌<◌, ◌+◌, ◌*◌, IfSome
 ghost use Rattle.sbx_image.specs.Rules.{parts_keep};
 ghost use Rattle.sbx_known.specs.Courses.{IsWell};
 ghost use Rattle.sbx_known.specs.Spots.{IsBlock, IsSpot};
-ghost use Rattle.sbx_rules.specs.Places.{callee_at, function_at};
+ghost use Rattle.sbx_image.specs.Order.{function_at};
+ghost use Rattle.sbx_rules.specs.Places.{callee_at};
 ghost use Rattle.sbx_rules.specs.Rules.{room_of_callee};
 ghost use Rattle.sbx_rules.specs.Ways.{fuel_at, weight_to};
 ghost use Rattle.sbx_inspect.specs.Sides.{IsNextFuel, form_of};

@@ -4,7 +4,8 @@ use Rattle.std.specs.Prelude.{nat_lt}
 use Rattle.std.proofs.lemmas.Bool.Decides.{nat_tests}
 use Rattle.sbx_image.specs.Parts.{Parts}
 use Rattle.sbx_image.specs.Rules.{parts_keep}
-use Rattle.sbx_rules.specs.Places.{IsPlace, block_at, words_in}
+use Rattle.sbx_image.specs.Order.{block_at, words_in}
+use Rattle.sbx_rules.specs.Places.{IsPlace}
 use Rattle.sbx_rules.specs.Ways.{weight_of_place, weight_to}
 use Rattle.sbx_known.specs.Spots.{IsBlock}
 use Rattle.sbx_known.proofs.InOrder.{fits_low}

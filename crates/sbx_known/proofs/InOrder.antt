@@ -5,19 +5,11 @@ use Rattle.std.proofs.lemmas.Option.{slice_get-get_or}
 use Rattle.sbx_image.specs.Block.{Block}
 use Rattle.sbx_image.specs.Function.{Function}
 use Rattle.sbx_image.specs.Parts.{Parts}
-use Rattle.sbx_image.specs.Order.{AreInOrder, address_of as address_in_order, words_in as words_in_order}
 use Rattle.sbx_image.specs.Rules.{code_start, parts_keep}
 use Rattle.sbx_image.proofs.Ordered.{in_order}
-use Rattle.sbx_rules.specs.Places.{IsPlace, address_of, block_at, block_end, function_at, or_block, or_function, words_in}
+use Rattle.sbx_image.specs.Order.{AreInOrder, address_of, block_at, block_end, function_at, or_block, or_function, words_in}
+use Rattle.sbx_rules.specs.Places.{IsPlace}
 use Rattle.sbx_known.specs.Sorted.{Ascend}
-
-same_address : (parts : Parts) (f b i : ℕ) → address_in_order parts f b i ≡ address_of parts f b i
-unfolding address_in_order address_of
-same_address parts f b i = refl
-
-same_count : (parts : Parts) (f b : ℕ) → words_in_order parts f b ≡ words_in parts f b
-unfolding words_in_order words_in
-same_count parts f b = refl
 
 -- a word of the code
 pub record IsCodeWord (parts : Parts) (address : ℕ) : Type 0 where
@@ -31,8 +23,8 @@ module _ (parts : Parts) (keeps : parts_keep parts ≡ Ok tt) where
 
   pub code_word : (f b i : ℕ) → IsPlace parts f b i → IsCodeWord parts (address_of parts f b i)
   code_word f b i place =
-      let w = (order.blocks f b (place.function, place.block)).each i (subst (λ n. i < n) (sym (same_count parts f b)) place.word) in
-      record { number = w.0; within = w.1; lies = sym (same_address parts f b i) ∙ w.2 }
+      let w = (order.blocks f b (place.function, place.block)).each i place.word in
+      record { number = w.0; within = w.1; lies = w.2 }
 
   -- the code lies below the data
   pub lies_low : (f b i : ℕ) → IsPlace parts f b i → (code_start ≤ address_of parts f b i) × (address_of parts f b i + 4 ≤ 0x80000)
@@ -43,19 +35,19 @@ module _ (parts : Parts) (keeps : parts_keep parts ≡ Ok tt) where
       let within = w.within in
       (omega arith, omega arith)
 
-  block_begins : (f b : ℕ) → (block_at parts f b).address ≡ address_in_order parts f b 0
-  unfolding address_in_order
+  block_begins : (f b : ℕ) → (block_at parts f b).address ≡ address_of parts f b 0
+  unfolding address_of
   block_begins f b = omega arith
 
-  four_on : (f b n : ℕ) → 1 ≤ n → address_in_order parts f b 0 + 4 ≤ address_in_order parts f b n
-  unfolding address_in_order
+  four_on : (f b n : ℕ) → 1 ≤ n → address_of parts f b 0 + 4 ≤ address_of parts f b n
+  unfolding address_of
   four_on f b n some = omega arith
 
   -- a block is four bytes long or more
-  is_long : (f b : ℕ) → f < length parts.functions → b < length (function_at parts f).blocks → address_in_order parts f b 0 + 4 ≤ block_end parts f b
+  is_long : (f b : ℕ) → f < length parts.functions → b < length (function_at parts f).blocks → address_of parts f b 0 + 4 ≤ block_end parts f b
   is_long f b is_function is_block =
       let has = order.blocks f b (is_function, is_block) in
-      subst (λ n. address_in_order parts f b 0 + 4 ≤ n) has.ends (four_on f b (words_in_order parts f b) has.some)
+      subst (λ n. address_of parts f b 0 + 4 ≤ n) has.ends (four_on f b (words_in parts f b) has.some)
 
   pub blocks_ascend : (f : ℕ) → f < length parts.functions → Ascend (λ (b : Block). b.address) (function_at parts f).blocks
   blocks_ascend f is_function i j d less within =

@@ -8,7 +8,7 @@ use Rattle.sbx_image.specs.Parts.{Parts}
 use Rattle.sbx_image.specs.Rules.{Place, code_start, function_keeps, parts_keep}
 use Rattle.sbx_image.proofs.Fields.{is_between}
 use Rattle.sbx_image.proofs.Limits.{each_all, function_kept, parts_kept}
-use Rattle.sbx_rules.specs.Places.{function_at, or_function}
+use Rattle.sbx_image.specs.Order.{function_at, or_function}
 
 pub record IsLimited (f : Function) : Type 0 where
   pub params : length f.params ≤ 6

@@ -11,7 +11,8 @@ use Rattle.sbx_rules.specs.Known.{Known}
 use Rattle.sbx_rules.specs.Transfer.{transferred}
 use Rattle.sbx_image.specs.Function.{Function}
 use Rattle.sbx_rules.specs.Operations.{is_call, is_framed, is_framed_return, is_restore, is_save, is_transfer, is_trap}
-use Rattle.sbx_rules.specs.Places.{address_of, callee_at, callee_before, callee_of, ends_run, function_at, op_at, op_before, words_in}
+use Rattle.sbx_image.specs.Order.{address_of, function_at, words_in}
+use Rattle.sbx_rules.specs.Places.{callee_at, callee_before, callee_of, ends_run, op_at, op_before}
 use Rattle.sbx_rules.specs.Rules.{enters_well, has_bad_shape, has_cells, is_entry, is_last, misses_params, params_of, same_test, suits}
 use Rattle.sbx_rules.specs.Ways.{Visit, after_call, after_word, branch_way, falls, state_at, taken_visit, untaken_visit, visits_after, visits_at}
 use Rattle.sbx_known.specs.declared.courses.Course.{Course}

@@ -4,7 +4,7 @@ use Rattle.v8_meaning.specs.declared.operation.Operation.{Operation}
 use Rattle.v8_meaning.specs.declared.operation.Operation.TheVariants.{BranchOnCondition}
 use Rattle.sbx_image.specs.Parts.{Parts}
 use Rattle.sbx_rules.specs.Known.{Known}
-use Rattle.sbx_rules.specs.Places.{function_at}
+use Rattle.sbx_image.specs.Order.{function_at}
 use Rattle.sbx_rules.specs.Rules.{has_cells, leads_to}
 use Rattle.sbx_rules.specs.Ways.{Visit, Way, after_visit, cells_at, visits_at}
 use Rattle.sbx_rules.specs.Ways as ways

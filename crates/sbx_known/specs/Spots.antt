@@ -5,7 +5,8 @@ use Rattle.v8_meaning.specs.declared.operation.Operation.TheVariants.{BranchOnCo
 use Rattle.sbx_image.specs.Parts.{Parts}
 use Rattle.sbx_image.specs.Rules.{parts_keep}
 use Rattle.sbx_rules.specs.Known.{Known}
-use Rattle.sbx_rules.specs.Places.{IsPlace, callee_at, callee_before, function_at, op_at, op_before, word_of_place, words_in}
+use Rattle.sbx_image.specs.Order.{function_at, words_in}
+use Rattle.sbx_rules.specs.Places.{IsPlace, callee_at, callee_before, op_at, op_before, word_of_place}
 use Rattle.sbx_rules.specs.Ways.{Back, Visit, branch_way, falls, plain_visit, taken_visit, untaken_visit}
 use Rattle.sbx_known.specs.declared.spot.Spot.{Spot}
 

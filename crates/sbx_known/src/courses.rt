@@ -5,7 +5,8 @@ ghost use Rattle.v8_meaning.specs.declared.operation.Operation.TheVariants.{Bran
 ghost use Rattle.sbx_rules.specs.Known.{Known, known};
 ghost use Rattle.sbx_image.specs.Rules.{parts_keep};
 ghost use Rattle.sbx_range.specs.Refining.{opposite};
-ghost use Rattle.sbx_rules.specs.Places.{IsPlace, function_at};
+ghost use Rattle.sbx_image.specs.Order.{function_at};
+ghost use Rattle.sbx_rules.specs.Places.{IsPlace};
 ghost use Rattle.sbx_rules.specs.Rules.{is_back, is_inner_edge, is_past};
 ghost use Rattle.sbx_rules.specs.Ways.{Way, branch_way, falls, taken_visit, untaken_visit};
 ghost use Rattle.sbx_known.specs.Courses.{AreWell, IsStraight, IsWell, is_any, is_branch, listed, runs, visits_of, way_of};

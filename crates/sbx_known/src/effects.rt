@@ -2,7 +2,7 @@
 ghost use Rattle.std.specs.Prelude.{◌≡◌, if◌then◌else◌};
 ghost use Rattle.sbx_rules.specs.Known.{known};
 ghost use Rattle.sbx_rules.specs.Transfer.{transferred};
-ghost use Rattle.sbx_rules.specs.Places.{function_at};
+ghost use Rattle.sbx_image.specs.Order.{function_at};
 ghost use Rattle.sbx_rules.specs.Ways.{after_call};
 ghost use Rattle.sbx_known.specs.Courses.{runs};
 ghost use Rattle.sbx_known.specs.Spots.{IsSpot};

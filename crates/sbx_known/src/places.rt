@@ -2,7 +2,8 @@
 ghost use Rattle.std.specs.Prelude.{◌≡◌, ◌<◌, ◌≤◌, IfSome, Ok, length};
 ghost use Rattle.sbx_image.specs.Rules.{parts_keep};
 ghost use Rattle.sbx_image.specs.Spelling.{IsCountedFunction};
-ghost use Rattle.sbx_rules.specs.Places.{IsPlace, address_of, block_at, block_end, callee_of, find_block, find_entry, function_at, function_end, word_of_place, words_in};
+ghost use Rattle.sbx_image.specs.Order.{address_of, block_at, block_end, function_at, function_end, words_in};
+ghost use Rattle.sbx_rules.specs.Places.{IsPlace, callee_of, find_block, find_entry, word_of_place};
 ghost use Rattle.sbx_known.specs.Sorted.{Ascend};
 ghost use Rattle.sbx_known.specs.Spots.{IsBlock};
 
@@ -53,7 +54,7 @@ fn block_end(image: &Image, function: usize, block: usize) -> u32
 }
 
 /// How many words a block has.
-#[tactic(auto, unfolding(sbx_rules::specs::Places::words_in))]
+#[tactic(auto, unfolding(sbx_image::specs::Order::words_in))]
 pub fn words_in(image: &Image, function: usize, block: usize) -> usize
     requires { IsBlock image.now function block }
     ensures { result ≡ words_in image.now function block }
@@ -65,7 +66,7 @@ pub fn words_in(image: &Image, function: usize, block: usize) -> usize
 }
 
 /// The address of a word, in bytes.
-#[tactic(auto, unfolding(sbx_rules::specs::Places::address_of))]
+#[tactic(auto, unfolding(sbx_image::specs::Order::address_of))]
 pub fn address_of(image: &Image, function: usize, block: usize, number: usize) -> u32
     requires keeps { parts_keep image.now ≡ Ok tt }
     requires place { IsPlace image.now function block number }

@@ -1,7 +1,8 @@
 //! One word of a block.
 ghost use Rattle.std.specs.Prelude.{◌≡◌, ◌<◌, ◌+◌, ◌≤◌, IfSome, Ok, length};
 ghost use Rattle.sbx_image.specs.Rules.{parts_keep};
-ghost use Rattle.sbx_rules.specs.Places.{IsPlace, callee_before, op_before, words_in};
+ghost use Rattle.sbx_image.specs.Order.{words_in};
+ghost use Rattle.sbx_rules.specs.Places.{IsPlace, callee_before, op_before};
 ghost use Rattle.sbx_rules.specs.Ways.{budget_of_callee, weight_of_place};
 ghost use Rattle.sbx_known.specs.Spots.{IsSpot};
 

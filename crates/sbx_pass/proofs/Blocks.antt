@@ -7,7 +7,7 @@ use Rattle.sbx_image.specs.Parts.{Parts}
 use Rattle.sbx_rules.specs.declared.cause.Cause.{Cause}
 use Rattle.sbx_rules.specs.declared.cause.Cause.TheVariants.{BadShape, NoMemory}
 use Rattle.sbx_rules.specs.Causes.{number_of}
-use Rattle.sbx_rules.specs.Places.{words_in}
+use Rattle.sbx_image.specs.Order.{words_in}
 use Rattle.sbx_rules.specs.Rules.{Holds, has_bad_shape}
 use Rattle.sbx_pass.specs.Firsts.{AreKept, IsFirstOfBlock, IsLeastOf}
 

@@ -5,7 +5,7 @@ use Rattle.std.proofs.lemmas.Bool.Decides.{nat_tests}
 use Rattle.sbx_image.specs.Range.{Range}
 use Rattle.sbx_image.specs.Parts.{Parts}
 use Rattle.sbx_rules.specs.Known.{Known, range_at}
-use Rattle.sbx_rules.specs.Places.{block_at, function_at}
+use Rattle.sbx_image.specs.Order.{block_at, function_at}
 use Rattle.sbx_rules.specs.Rules.{has_cells, has_outs, has_range}
 use Rattle.sbx_rules.specs.Ways.{cells_at, out_cells}
 

@@ -3,7 +3,7 @@ use Rattle.std.specs.Prelude.{ℕ, ◌<◌, ◌≤◌, Option, Some, None}
 use Rattle.sbx_image.specs.Parts.{Parts}
 use Rattle.sbx_rules.specs.declared.cause.Cause.{Cause}
 use Rattle.sbx_rules.specs.Causes.{number_of}
-use Rattle.sbx_rules.specs.Places.{words_in}
+use Rattle.sbx_image.specs.Order.{words_in}
 use Rattle.sbx_rules.specs.Rules.{Holds}
 use Rattle.sbx_rules.specs.Verdicts.{IsAsked}
 

@@ -1,7 +1,7 @@
 //! All rules at one word, and the step to the next.
 ghost use Rattle.std.specs.Prelude.{◌≡◌, ◌<◌, ℕ, false, suc, None};
 ghost use Rattle.sbx_rules.specs.Known.{known};
-ghost use Rattle.sbx_rules.specs.Places.{words_in};
+ghost use Rattle.sbx_image.specs.Order.{words_in};
 ghost use Rattle.sbx_rules.specs.Rules.{Holds, has_bad_shape};
 ghost use Rattle.sbx_rules.specs.Ways.{after_word, state_at, visits_at, weight_to};
 ghost use Rattle.sbx_known.specs.Courses.{AreWell, IsStraight, is_branch, listed};

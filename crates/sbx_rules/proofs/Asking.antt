@@ -5,7 +5,8 @@ use Rattle.sbx_image.specs.Parts.{Parts}
 use Rattle.sbx_rules.specs.declared.cause.Cause.{Cause}
 use Rattle.sbx_rules.specs.declared.cause.Refusal.{Refusal}
 use Rattle.sbx_rules.specs.Causes.{number_of}
-use Rattle.sbx_rules.specs.Places.{IsPlace, address_of}
+use Rattle.sbx_image.specs.Order.{address_of}
+use Rattle.sbx_rules.specs.Places.{IsPlace}
 use Rattle.sbx_rules.specs.Rules.{Holds}
 use Rattle.sbx_rules.specs.Verdicts.{AskingInOrderTellsTheSame, Breaks, BreaksAsked, Checked, IsAsked, IsFirst, IsLeast}
 

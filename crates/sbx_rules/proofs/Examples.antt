@@ -24,7 +24,8 @@ use Rattle.sbx_rules.specs.declared.cause.Cause.TheVariants.{BadCall, UndefinedR
 use Rattle.sbx_rules.specs.Causes.{number_of}
 use Rattle.sbx_rules.specs.Examples.{VerdictsAreThese, adding, after_save, echo, no_others, one_other, refusal, stray_stack}
 use Rattle.sbx_rules.specs.Operations.{access_of, reads_of, writes_of}
-use Rattle.sbx_rules.specs.Places.{IsPlace, address_of, callee_at, word_of_place, words_in}
+use Rattle.sbx_image.specs.Order.{address_of, words_in}
+use Rattle.sbx_rules.specs.Places.{IsPlace, callee_at, word_of_place}
 use Rattle.sbx_rules.specs.Rules.{Holds, LacksFuel, reads_undefined, touches_reserved}
 use Rattle.sbx_rules.specs.Verdicts.{Breaks, Checked, IsFirst}
 use Rattle.sbx_rules.specs.Ways.{branch_way, falls, fuel_at, state_at, visits_at, weight_to}

@@ -14,7 +14,8 @@ use Rattle.sbx_rules.specs.Causes.{number_of}
 use Rattle.sbx_rules.specs.Fuel.{IsEnough, IsPaid, IsWithinBudget}
 use Rattle.sbx_rules.specs.Operations.{access_of, is_call, is_return}
 use Rattle.sbx_rules.specs.Verdicts.{Checked, IsFirst}
-use Rattle.sbx_rules.specs.Places.{IsPlace, address_of, block_at, callee_at, function_at, op_at, service_asked, word_of_place}
+use Rattle.sbx_image.specs.Order.{address_of, block_at, function_at}
+use Rattle.sbx_rules.specs.Places.{IsPlace, callee_at, op_at, service_asked, word_of_place}
 use Rattle.sbx_rules.specs.Rules.{Holds, LacksFuel, Leaves, branches_badly, ends_here, first, fuel, has_bad_shape, has_outs, is_aligned_access, is_back, is_declared, is_entry, is_later, is_past, is_placed_access, is_undefined, lacks_room, leaves_to, lists_badly, may_divide_by_zero, may_overflow, misses_cells, misses_params, names_strange, now, reads_undefined, runs_with, touches_reserved, weight}
 use Rattle.sbx_rules.specs.Ways.{To, Visit, Way, fuel_at, visits_at}
 

@@ -87,6 +87,7 @@ no_others = []
 abbrev pub one_other : List Function
 one_other = framed 0x4000C 96 0 ∷ []
 
+-- Worked examples: two images that are checked, and the refusals of some that break a rule.
 pub record VerdictsAreThese : Type 0 where
   pub echo_is_checked : Checked echo
   pub adding_is_checked : Checked (adding (pos 254) (pos 255) 39)

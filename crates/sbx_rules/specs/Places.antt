@@ -1,69 +1,20 @@
--- The places of an image's code: functions, blocks and words by number, where they lie, and what each word asks for.
+-- The places of an image's code, by the numbers of function, block and word: what each word asks for, and what begins at an address.
 -- Every look-up is total; the numbers in use are below the lengths.
-use Rattle.std.specs.Prelude.{ℕ, zero, suc, ◌+◌, ◌-◌, ◌*◌, ◌/◌, ◌<◌, Bool, false, ◌==◌, if◌then◌else◌, List, [], ◌∷◌, length, Option, Some, None, pos, slice_get, slice_index}
+use Rattle.std.specs.Prelude.{ℕ, zero, suc, ◌-◌, ◌/◌, ◌<◌, Bool, false, ◌==◌, if◌then◌else◌, List, [], ◌∷◌, length, Option, Some, None, slice_index}
 use Rattle.v8_meaning.specs.declared.operation.Operation.{Operation}
 use Rattle.v8_meaning.specs.declared.operation.Operation.TheVariants.{Call, Nothing, TrapOnCondition}
 use Rattle.v8_meaning.specs.Operands.{target}
+use Rattle.sbx_image.specs.Order.{address_of, function_at, words_in}
 use Rattle.sbx_image.specs.Rules.{code_start}
 use Rattle.sbx_image.specs.Block.{Block}
 use Rattle.sbx_image.specs.Function.{Function}
-use Rattle.sbx_image.specs.Kind.TheVariants.{Leaf}
 use Rattle.sbx_image.specs.Parts.{Parts}
 use Rattle.sbx_domain.specs.Effects.{service_of}
 use Rattle.sbx_domain.specs.Turns.{asked}
 
--- ---- functions and blocks by number
-
-abbrev pub no_block : Block
-no_block = record { address = 0; fuel = pos 0; cells = []; terms = [] }
-
-abbrev pub no_function : Function
-no_function = record { kind = Leaf; params = []; results = []; entry = 0; frame = 0; stack_room = 0; budget = 0; blocks = [] }
-
-abbrev pub or_function : Option Function → Function
-or_function None = no_function
-or_function (Some f) = f
-
-abbrev pub or_block : Option Block → Block
-or_block None = no_block
-or_block (Some b) = b
-
-abbrev pub function_at : Parts → ℕ → Function
-function_at parts f = or_function (slice_get parts.functions f)
-
-abbrev pub block_at : Parts → ℕ → ℕ → Block
-block_at parts f b = or_block (slice_get (function_at parts f).blocks b)
-
--- ---- where they end
-
-abbrev pub code_end : Parts → ℕ
-code_end parts = code_start + 4 * length parts.words
-
-abbrev pub entry_or_end : ℕ → Option Function → ℕ
-entry_or_end end None = end
-entry_or_end end (Some f) = f.entry
-
-abbrev pub address_or_end : ℕ → Option Block → ℕ
-address_or_end end None = end
-address_or_end end (Some b) = b.address
-
--- a function ends where the next one begins, a block where the next block of its function does
-abbrev pub function_end : Parts → ℕ → ℕ
-function_end parts f = entry_or_end (code_end parts) (slice_get parts.functions (f + 1))
-
-abbrev pub block_end : Parts → ℕ → ℕ → ℕ
-block_end parts f b = address_or_end (function_end parts f) (slice_get (function_at parts f).blocks (b + 1))
-
--- how many words a block has
-unfoldable pub words_in : Parts → ℕ → ℕ → ℕ
-words_in parts f b = (block_end parts f b - (block_at parts f b).address) / 4
-
 -- ---- words
 
--- where word i of a block is
-unfoldable pub address_of : Parts → ℕ → ℕ → ℕ → ℕ
-address_of parts f b i = (block_at parts f b).address + 4 * i
-
+-- word i of a block
 unfoldable pub word_of_place : Parts → ℕ → ℕ → ℕ → ℕ
 word_of_place parts f b i = slice_index parts.words ((address_of parts f b i - code_start) / 4)
 

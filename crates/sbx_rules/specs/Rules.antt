@@ -33,7 +33,8 @@ use Rattle.sbx_rules.specs.declared.cause.Cause.{Cause}
 use Rattle.sbx_rules.specs.declared.cause.Cause.TheVariants.{NotAnInstruction, NotAdmitted, BadShape, BadBranch, BadCall, UndefinedRead, ReservedRegister, Misaligned, OutOfBounds, ZeroDivisor, TagOverflow, UndeclaredService, UnkeptCells, OutOfFuel, OutOfStack, RunsPastEnd, UnkeptResults, BadEntry, NoMemory}
 use Rattle.sbx_rules.specs.Fuel.{IsEnough, IsPaid, IsWithinBudget}
 use Rattle.sbx_rules.specs.Operations.{Access, access_of, frame_word_read, is_call, is_framed, is_framed_return, is_reserved, is_restore, is_return, is_save, is_transfer, is_trap, may_write, reads_codes, reads_of, reads_y, writes_of}
-use Rattle.sbx_rules.specs.Places.{block_at, callee_at, callee_before, ends_run, function_at, op_at, op_before, service_asked, word_of_place, words_in}
+use Rattle.sbx_image.specs.Order.{block_at, function_at, words_in}
+use Rattle.sbx_rules.specs.Places.{callee_at, callee_before, ends_run, op_at, op_before, service_asked, word_of_place}
 use Rattle.sbx_rules.specs.Ways.{Back, Past, To, Visit, Way, after_visit, branch_way, cells_at, fuel_at, names_cell, state_at, visits_at, weight_to}
 
 -- ---- words for the rule of shape

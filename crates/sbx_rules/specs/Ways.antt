@@ -19,7 +19,8 @@ use Rattle.sbx_domain.specs.Forms.{Form}
 use Rattle.sbx_domain.specs.Known.{Known, started}
 use Rattle.sbx_domain.specs.Refining.{refined}
 use Rattle.sbx_domain.specs.Transfer.{called, transferred}
-use Rattle.sbx_rules.specs.Places.{address_of, block_at, callee_before, ends_run, find_block, function_at, op_at, words_in}
+use Rattle.sbx_image.specs.Order.{address_of, block_at, function_at, words_in}
+use Rattle.sbx_rules.specs.Places.{callee_before, ends_run, find_block, op_at}
 
 -- ---- what is known before a word
 

@@ -8,7 +8,7 @@ use Rattle.v8_board.specs.Start.{pages_of}
 use Rattle.sbx_flat.specs.Parts.{Parts}
 use Rattle.sbx_flat.specs.Registers.{Registers, Words, with_word, written}
 use Rattle.sbx_flat.specs.States.{State}
-use Rattle.sbx_shows.specs.Calls.{cell, depth, slot}
+use Rattle.sbx_flat.specs.Calls.{cell, depth, slot}
 use Rattle.sbx_shows.specs.Shows.{Shows}
 use Rattle.sbx_shows.proofs.Users.{device_kept}
 use Rattle.sbx_shows.proofs.Writing.{SameCalls, cell_ins, cell_local, cell_out, flat_globals, flat_shape, global_cell, saved_same, slots_same, stacked_same, written_global, written_zero}

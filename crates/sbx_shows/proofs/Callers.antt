@@ -26,8 +26,9 @@ use Rattle.sbx_flat.specs.Registers.{Frame, Fresh, IsFresh, Registers, popped, p
 use Rattle.sbx_flat.specs.States.{Goes, State, advanced, reg, with_reg as flat_with_reg}
 use Rattle.sbx_flat.specs.Turns.{IsWrong}
 use Rattle.sbx_flat.specs.declared.path.Wrong.TheVariants.{BadFrame, NoCaller, StackPointer}
-use Rattle.sbx_shows.specs.Calls.{base, cell}
-use Rattle.sbx_shows.specs.Shows.{IsStacked, Shows, ShowsCalls, ShowsSaved, ShowsSlots}
+use Rattle.sbx_flat.specs.Calls.{base, cell}
+use Rattle.sbx_flat.specs.WellFormed.{IsStacked}
+use Rattle.sbx_shows.specs.Shows.{Shows, ShowsCalls, ShowsSaved, ShowsSlots}
 use Rattle.sbx_shows.specs.Steps.{OneTurn, Stands}
 use Rattle.sbx_shows.proofs.Distances.{below_is}
 use Rattle.sbx_shows.proofs.Fields.{ThreeIn}

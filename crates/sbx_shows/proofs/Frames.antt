@@ -11,8 +11,9 @@ use Rattle.v8_services.proofs.Frames.{file_moved}
 use Rattle.v8_loaded.proofs.Stack.{word_in, word_there}
 use Rattle.v8_loaded.proofs.Windows.{below_within}
 use Rattle.sbx_flat.specs.Registers.{Frame, Fresh, IsFresh, Registers, is_slot, pushed}
-use Rattle.sbx_shows.specs.Calls.{base, cell, depth, slot}
-use Rattle.sbx_shows.specs.Shows.{window, ShowsCalls, IsStacked, ShowsSaved, ShowsSlot, ShowsSlots, HasStack}
+use Rattle.sbx_flat.specs.Calls.{base, cell, depth, slot}
+use Rattle.sbx_flat.specs.WellFormed.{IsStacked}
+use Rattle.sbx_shows.specs.Shows.{window, ShowsCalls, ShowsSaved, ShowsSlot, ShowsSlots, HasStack}
 use Rattle.sbx_shows.proofs.Distances.{below_is, same_distance, window_above, window_below, window_here}
 use Rattle.sbx_shows.proofs.Writing.{mask_kept}
 

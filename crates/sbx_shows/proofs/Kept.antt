@@ -10,8 +10,9 @@ use Rattle.v8_loaded.proofs.Turns.{marked_byte}
 use Rattle.sbx_flat.specs.Parts.{Parts}
 use Rattle.sbx_flat.specs.Memory.{Bytes}
 use Rattle.sbx_flat.specs.Registers.{Registers}
-use Rattle.sbx_shows.specs.Calls.{base}
-use Rattle.sbx_shows.specs.Shows.{IsStacked, ShowsSaved, ShowsSlots, ShowsData, HasStack, data_area}
+use Rattle.sbx_flat.specs.Calls.{base}
+use Rattle.sbx_flat.specs.WellFormed.{IsStacked}
+use Rattle.sbx_shows.specs.Shows.{ShowsSaved, ShowsSlots, ShowsData, HasStack, data_area}
 
 pub record SameAbove (old new : List ℕ) : Type 0 where
   pub words : (p : ℕ) → TABLES_END ≤ p → entry_of new p ≡ entry_of old p

@@ -25,8 +25,9 @@ use Rattle.sbx_flat.specs.Parts.{Parts}
 use Rattle.sbx_flat.specs.Memory.{Bytes, byte_of, followed_by, number_at, with_number}
 use Rattle.sbx_flat.specs.Registers.{Registers}
 use Rattle.sbx_shows.specs.Marks.{OwnMarks}
-use Rattle.sbx_shows.specs.Calls.{base}
-use Rattle.sbx_shows.specs.Shows.{Fits, IsStacked, ShowsSaved, ShowsSlots, ShowsData, ShowsByte, HasStack, data_area}
+use Rattle.sbx_flat.specs.Calls.{base}
+use Rattle.sbx_flat.specs.WellFormed.{IsStacked}
+use Rattle.sbx_shows.specs.Shows.{Fits, ShowsSaved, ShowsSlots, ShowsData, ShowsByte, HasStack, data_area}
 
 -- ---- numbers of bytes
 

@@ -5,7 +5,7 @@ use Rattle.std.proofs.lemmas.Bool.Decides.{nat_tests}
 use Rattle.v8_core.specs.Windows.{Windows, IsFile, above, can_enter, is_masked, reg_of, word_at}
 use Rattle.v8_loaded.proofs.Windows.{not_masked}
 use Rattle.sbx_flat.specs.Registers.{Frame, Registers, Words, ins_of, word_in}
-use Rattle.sbx_shows.specs.Calls.{cell, cell_in}
+use Rattle.sbx_flat.specs.Calls.{cell, cell_in}
 use Rattle.sbx_shows.specs.Shows.{window, ShowsCalls}
 use Rattle.sbx_shows.proofs.Distances.{same_distance, window_here, window_within}
 

@@ -27,8 +27,8 @@ use Rattle.sbx_flat.specs.Parts.{Parts}
 use Rattle.sbx_flat.specs.States.{State}
 use Rattle.sbx_flat.specs.Traffic.{after_operation}
 use Rattle.sbx_shows.specs.Advances.{Advances, IsMoment, counts_by, more, so_many}
-use Rattle.sbx_shows.specs.Calls.{base, depth}
-use Rattle.sbx_shows.specs.Shows.{IsStacked}
+use Rattle.sbx_flat.specs.Calls.{base, depth}
+use Rattle.sbx_flat.specs.WellFormed.{IsStacked}
 use Rattle.sbx_shows.specs.Steps.{OneTurn, Stands}
 use Rattle.sbx_shows.specs.Turns.{IsOwnEvent, IsOwnTurn, ReachesCall, StandsAtMove, StaysBeside, moves_window}
 use Rattle.sbx_shows.proofs.Advancing.{counted_is, counts_are, not_ended, one_own, one_ran, one_shows, step_of, traffic_of}

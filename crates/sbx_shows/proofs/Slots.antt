@@ -18,9 +18,10 @@ use Rattle.sbx_flat.specs.Parts.{Parts}
 use Rattle.sbx_flat.specs.Registers.{Registers, with_slot}
 use Rattle.sbx_flat.specs.States.{State}
 use Rattle.sbx_flat.specs.Traffic.{is_own_data_page}
-use Rattle.sbx_shows.specs.Calls.{base, cell, slot}
+use Rattle.sbx_flat.specs.Calls.{base, cell, slot}
 use Rattle.sbx_shows.specs.Marks.{is_own_page}
-use Rattle.sbx_shows.specs.Shows.{Fits, HasStack, IsSlot, IsStacked, Shows, ShowsSaved, ShowsSlots, data_area}
+use Rattle.sbx_flat.specs.WellFormed.{IsSlot, IsStacked}
+use Rattle.sbx_shows.specs.Shows.{Fits, HasStack, Shows, ShowsSaved, ShowsSlots, data_area}
 use Rattle.sbx_shows.proofs.Kept.{marked_same}
 use Rattle.sbx_shows.proofs.Pages.{mark_own, own_by}
 use Rattle.sbx_shows.proofs.Stacks.{stack_own}

@@ -15,8 +15,9 @@ use Rattle.sbx_flat.specs.Traffic.{is_own_data_page}
 use Rattle.sbx_shows.specs.Marks.{is_own_page}
 use Rattle.sbx_shows.specs.Marks.{OwnMarks}
 use Rattle.sbx_shows.proofs.Pages.{code_own}
-use Rattle.sbx_shows.specs.Calls.{base, depth}
-use Rattle.sbx_shows.specs.Shows.{Fits, IsStacked, IsSlot}
+use Rattle.sbx_flat.specs.Calls.{base, depth}
+use Rattle.sbx_flat.specs.WellFormed.{IsStacked, IsSlot}
+use Rattle.sbx_shows.specs.Shows.{Fits}
 
 pub stack_count : (parts : Parts) → Fits parts → (pages_of parts).stack_count ≡ parts.stack_pages
 unfolding pages_of

@@ -54,7 +54,7 @@ use Rattle.sbx_flat.specs.Traffic.{is_own_data_page}
 use Rattle.sbx_flat.specs.Turns.{IsWrong}
 use Rattle.sbx_flat.specs.declared.path.Wrong.TheVariants.{Misaligned, OutsideData, StackPointer}
 use Rattle.sbx_flat.proofs.Law.{still_is_fresh}
-use Rattle.sbx_shows.specs.Calls.{slot}
+use Rattle.sbx_flat.specs.Calls.{slot}
 use Rattle.sbx_shows.specs.Shows.{Shows, data_area}
 use Rattle.sbx_shows.specs.Steps.{OneTurn, Stands}
 use Rattle.sbx_shows.proofs.Data.{data_at, data_entry_place, data_marks, data_own, data_room, data_stored_shows}

@@ -20,7 +20,7 @@ use Rattle.v8_board.specs.Start.{pages_of}
 use Rattle.v8_board.proofs.Placed.{pages_few}
 use Rattle.sbx_flat.specs.Parts.{Parts}
 use Rattle.sbx_flat.specs.States.{State}
-use Rattle.sbx_shows.specs.Calls.{base, cell, depth}
+use Rattle.sbx_flat.specs.Calls.{base, cell, depth}
 use Rattle.sbx_shows.specs.Shows.{HasStack, Shows, ShowsCalls, ShowsControl, ShowsData, ShowsDevice, ShowsSaved, ShowsSlots, window, data_area}
 use Rattle.sbx_shows.specs.Steps.{Stands}
 use Rattle.sbx_shows.proofs.Distances.{below_is, same_distance, window_above}

@@ -8,8 +8,9 @@ use Rattle.v8_core.specs.Ram.{entry_of}
 use Rattle.v8_core.specs.Windows.{Windows, IsFile, above, with_reg, word_at}
 use Rattle.v8_windows.proofs.AfterWrites.{written_at, written_current}
 use Rattle.sbx_flat.specs.Registers.{Frame, Registers, Words, with_in, with_word as with_number, written}
-use Rattle.sbx_shows.specs.Calls.{base, cell, depth, slot}
-use Rattle.sbx_shows.specs.Shows.{window, ShowsCalls, IsStacked, ShowsSaved, ShowsSlots}
+use Rattle.sbx_flat.specs.Calls.{base, cell, depth, slot}
+use Rattle.sbx_flat.specs.WellFormed.{IsStacked}
+use Rattle.sbx_shows.specs.Shows.{window, ShowsCalls, ShowsSaved, ShowsSlots}
 use Rattle.sbx_shows.proofs.Distances.{window_here, window_test}
 
 -- ---- the flat machine

@@ -1,5 +1,4 @@
 pub mod Marks
-pub mod Calls
 pub mod Shows
 pub mod Turns
 pub mod Steps

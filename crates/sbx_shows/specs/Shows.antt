@@ -15,8 +15,9 @@ use Rattle.sbx_flat.specs.Memory.{Bytes}
 use Rattle.sbx_flat.specs.Registers.{Registers}
 use Rattle.sbx_flat.specs.Runs.{AreBytes}
 use Rattle.sbx_flat.specs.States.{State}
+use Rattle.sbx_flat.specs.WellFormed.{IsSlot, IsStacked}
 use Rattle.sbx_shows.specs.Marks.{OwnMarks}
-use Rattle.sbx_shows.specs.Calls.{cell, depth, base, slot}
+use Rattle.sbx_flat.specs.Calls.{cell, depth, base, slot}
 
 -- what an image that is accepted keeps
 pub record Fits (parts : Parts) : Type 0 where
@@ -39,24 +40,10 @@ pub record ShowsCalls (n : ℕ) (v : Windows) (file : Registers) (r : ℕ) : Typ
   pub outs : (k j : ℕ) → k ≤ r → j < 8 → word_at v (window n v.current k) j ≡ cell file k j
   pub locals : (k j : ℕ) → k < r → 8 ≤ j → j < 16 → word_at v (window n v.current k) j ≡ cell file k j
 
--- Each call has 64 bytes from its base on, a multiple of 8, in the stack's pages, and below those of every older call.
-pub record IsStacked (pages : ℕ) (file : Registers) : Type 0 where
-  pub aligned : (k : ℕ) → k < depth file → base file k % 8 ≡ 0
-  pub low : (k : ℕ) → k < depth file → STACK_END ≤ base file k + PAGE * pages
-  pub high : (k : ℕ) → k < depth file → base file k + 64 ≤ STACK_END
-  pub apart : (k i : ℕ) → k < i → i < depth file → base file k + 64 ≤ base file i
-
 -- The calls from the r-th on, that have no window of their own, have their locals and ins in their 64 bytes.
 pub record ShowsSaved (file : Registers) (r : ℕ) (ram : List ℕ) : Type 0 where
   pub locals : (k j : ℕ) → r ≤ k → k < depth file → j < 8 → entry_of ram (area_of (base file k) + 4 * j) ≡ Some (cell file k (8 + j))
   pub ins : (k j : ℕ) → r ≤ k → k < depth file → j < 8 → entry_of ram (area_of (base file k) + 32 + 4 * j) ≡ Some (cell file (suc k) j)
-
--- where a call has its slots: above its 64 bytes, and below every older call's
-pub record IsSlot (file : Registers) (k a : ℕ) : Type 0 where
-  pub aligned : a % 4 ≡ 0
-  pub low : base file k + 64 ≤ a
-  pub high : a + 4 ≤ STACK_END
-  pub below : (i : ℕ) → k < i → i < depth file → a + 4 ≤ base file i
 
 -- A slot is the word of RAM at its address.
 pub record ShowsSlot (file : Registers) (ram : List ℕ) (k a w : ℕ) : Type 0 where

@@ -15,7 +15,7 @@ use Rattle.sbx_flat.specs.Registers.{Registers}
 use Rattle.sbx_flat.specs.States.{State}
 use Rattle.sbx_flat.specs.Traffic.{is_own_code_page, is_own_data_page}
 use Rattle.sbx_flat.specs.Turns.{asked, word_at}
-use Rattle.sbx_shows.specs.Calls.{base, depth}
+use Rattle.sbx_flat.specs.Calls.{base, depth}
 
 -- window overflow, window underflow, and the calls of the services that the image declares
 abbrev pub is_own_trap : Parts → ℕ → Bool

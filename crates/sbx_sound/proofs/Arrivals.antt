@@ -19,7 +19,8 @@ use Rattle.sbx_rules.specs.Fits.{Fits, HasAlignment, HasForm, HasInterval}
 use Rattle.sbx_rules.specs.Known.{Known, range_of_entry, form_of_entry}
 use Rattle.sbx_rules.specs.Forms.{form_value}
 use Rattle.sbx_rules.specs.Ways.{Next, Past, To, Visit, Way, after_call, after_word, budget_of_callee, cells_at, falls, falls_to, fuel_at, state_at, visits_after, visits_at, weight_of_place, weight_to}
-use Rattle.sbx_rules.specs.Places.{IsPlace, address_of, callee_at, callee_before, callee_of, ends_run, function_at, op_at, op_before, words_in}
+use Rattle.sbx_image.specs.Order.{address_of, function_at, words_in}
+use Rattle.sbx_rules.specs.Places.{IsPlace, callee_at, callee_before, callee_of, ends_run, op_at, op_before}
 use Rattle.sbx_sound.proofs.Running.{After, At, Follows, GoesTo, IsThere, IsVisit, bytes_of, left_to_all, straight_visit}
 use Rattle.sbx_form.specs.Forms.{Cells}
 use Rattle.sbx_sound.proofs.Shared.{AreStored, Open, Shared}

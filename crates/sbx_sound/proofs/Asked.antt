@@ -16,7 +16,8 @@ use Rattle.sbx_rules.specs.declared.cause.Cause.{Cause}
 use Rattle.sbx_rules.specs.declared.cause.Cause.TheVariants.{NotAdmitted, BadShape, BadBranch, BadCall, UndefinedRead, ReservedRegister, Misaligned, OutOfBounds, ZeroDivisor, TagOverflow, UndeclaredService, UnkeptCells, OutOfFuel, OutOfStack, UnkeptResults, BadEntry}
 use Rattle.sbx_rules.specs.Fuel.{IsWithinBudget}
 use Rattle.sbx_rules.specs.Operations.{access_of, is_call, is_framed, is_framed_return, is_restore, is_return, is_save, is_transfer, is_trap}
-use Rattle.sbx_rules.specs.Places.{IsPlace, address_of, callee_at, callee_before, ends_run, function_at, op_at, op_before, service_asked, words_in}
+use Rattle.sbx_image.specs.Order.{address_of, function_at, words_in}
+use Rattle.sbx_rules.specs.Places.{IsPlace, callee_at, callee_before, ends_run, op_at, op_before, service_asked}
 use Rattle.sbx_rules.specs.Rules.{Holds, branches_badly, enters_well, has_bad_shape, has_cells, has_outs, is_aligned_access, is_back, is_declared, is_entry, is_inner_edge, is_last, is_later, is_placed_access, lacks_room, may_divide_by_zero, may_overflow, misses_params, now, params_of, reads_undefined, room_of_callee, runs_with, same_test, suits, touches_reserved}
 use Rattle.sbx_rules.specs.Verdicts.{Checked}
 use Rattle.sbx_rules.specs.Ways.{Visit, branch_way, fuel_at, state_at, visits_at}

@@ -18,7 +18,8 @@ use Rattle.sbx_rules.specs.Fits.{HasForm, HasInterval}
 use Rattle.sbx_rules.specs.Forms.{Form, form_of_location}
 use Rattle.sbx_rules.specs.Known.{cell_entry, form_of_entry, is_location, range_of_entry, started}
 use Rattle.sbx_rules.specs.Fuel.{InCells}
-use Rattle.sbx_rules.specs.Places.{IsPlace, words_in}
+use Rattle.sbx_image.specs.Order.{words_in}
+use Rattle.sbx_rules.specs.Places.{IsPlace}
 use Rattle.sbx_rules.specs.Verdicts.{Checked}
 use Rattle.sbx_rules.specs.Ways.{Visit, cells_at, state_at}
 use Rattle.sbx_sound.specs.Positive.{FuelStaysPositive, IsPositive}

@@ -19,7 +19,8 @@ use Rattle.sbx_rules.specs.Entry.{Entry}
 use Rattle.sbx_rules.specs.Forms.{form_of_location, form_value}
 use Rattle.sbx_rules.specs.Known.{cell_entry, entry_of_cell, is_location, range_of_entry, started}
 use Rattle.sbx_rules.specs.Fuel.{InCells}
-use Rattle.sbx_rules.specs.Places.{block_at, callee_before, op_at}
+use Rattle.sbx_image.specs.Order.{block_at}
+use Rattle.sbx_rules.specs.Places.{callee_before, op_at}
 use Rattle.sbx_rules.specs.Ways.{budget_of_callee, cells_at, counted, form_term, fuel_at, names_cell, state_at, weight_to}
 use Rattle.sbx_sound.specs.Positive.{left_at}
 use Rattle.sbx_sound.proofs.Limits.{IsGoodCell, IsGoodRange, block_good, cells_good, function_good}

@@ -17,7 +17,8 @@ use Rattle.sbx_rules.specs.Fits.{Fits}
 use Rattle.sbx_rules.specs.Known.{Known}
 use Rattle.sbx_rules.specs.Rules.{is_defined, is_some}
 use Rattle.sbx_rules.specs.Ways.{Visit, Way, branch_way, falls, state_at, taken_visit, untaken_visit, visit_if, visits_after, visits_at, way_to}
-use Rattle.sbx_rules.specs.Places.{address_of, find_block, function_at, op_at, or_block}
+use Rattle.sbx_image.specs.Order.{address_of, function_at, or_block}
+use Rattle.sbx_rules.specs.Places.{find_block, op_at}
 use Rattle.sbx_range.specs.Refining.{opposite}
 use Rattle.sbx_sound.proofs.Running.{At, Follows, IsVisit, straight_visit}
 use Rattle.sbx_form.specs.Forms.{Cells}

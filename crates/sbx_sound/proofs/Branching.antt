@@ -14,7 +14,8 @@ use Rattle.sbx_rules.specs.Refining.{refined}
 use Rattle.sbx_rules.specs.Transfer.{transferred}
 use Rattle.sbx_rules.specs.Fuel.{IsPaid}
 use Rattle.sbx_rules.specs.Operations.{is_call, is_framed, is_framed_return, is_restore, is_return, is_save, is_transfer, is_trap}
-use Rattle.sbx_rules.specs.Places.{IsPlace, ends_run, function_at, op_at, words_in}
+use Rattle.sbx_image.specs.Order.{function_at, words_in}
+use Rattle.sbx_rules.specs.Places.{IsPlace, ends_run, op_at}
 use Rattle.sbx_rules.specs.Rules.{has_cells, is_entry, is_inner_edge, is_last, now, same_test}
 use Rattle.sbx_rules.specs.Verdicts.{Checked}
 use Rattle.sbx_rules.specs.Ways.{Past, To, Visit, Way, after_word, branch_way, cells_at, falls, fuel_at, state_at, weight_to}

@@ -14,7 +14,8 @@ use Rattle.sbx_rules.specs.Operations.{is_call, is_framed}
 use Rattle.sbx_rules.specs.Known.{Known, started, with_entry}
 use Rattle.sbx_rules.specs.Rules.{is_defined, is_some}
 use Rattle.sbx_rules.specs.Ways.{Visit, cells_at, state_at}
-use Rattle.sbx_rules.specs.Places.{address_of, callee_at, function_at, op_at, op_before}
+use Rattle.sbx_image.specs.Order.{address_of, function_at}
+use Rattle.sbx_rules.specs.Places.{callee_at, op_at, op_before}
 use Rattle.sbx_sound.specs.Positive.{left_at}
 use Rattle.sbx_sound.proofs.Running.{At, straight_visit, tests, window_of}
 use Rattle.sbx_form.specs.Forms.{Cells}

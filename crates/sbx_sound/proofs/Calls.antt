@@ -14,7 +14,8 @@ use Rattle.sbx_rules.specs.Fits.{Fits, HasAlignment, HasForm, HasInterval}
 use Rattle.sbx_rules.specs.Known.{Known, range_at, form_at, range_of_entry, form_of_entry}
 use Rattle.sbx_rules.specs.Forms.{form_value}
 use Rattle.sbx_rules.specs.Ways.{Way, after_call, budget_of_callee, cells_at, falls, fuel_at, state_at, weight_to}
-use Rattle.sbx_rules.specs.Places.{address_of, callee_at, callee_before, function_at, op_at}
+use Rattle.sbx_image.specs.Order.{address_of, function_at}
+use Rattle.sbx_rules.specs.Places.{callee_at, callee_before, op_at}
 use Rattle.sbx_sound.specs.Positive.{left_at}
 use Rattle.sbx_sound.proofs.Running.{At, Follows, GoesTo, IsOpen, IsThere, entry_of, left_to_all, straight_visit}
 use Rattle.sbx_form.specs.Forms.{Cells}

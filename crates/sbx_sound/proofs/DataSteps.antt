@@ -35,7 +35,7 @@ use Rattle.sbx_fits.specs.Held.{Held, with_pairs}
 use Rattle.sbx_fits.proofs.Entries.{operand_has, operand_multiple, operand_word, register_has, register_multiple}
 use Rattle.sbx_fits.proofs.Memory.{data_keeps_fitting}
 use Rattle.sbx_rules.specs.Operations.{Access, access_of, address_reads, frame_offset, is_framed, is_reserved, moved_reads, moved_writes, reads_of, second_reads, writes_of}
-use Rattle.sbx_rules.specs.Places.{function_at}
+use Rattle.sbx_image.specs.Order.{function_at}
 use Rattle.sbx_rules.specs.Rules.{is_aligned_access, is_aligned_at, is_defined, is_placed_access, is_placed_at, is_some, reads_undefined, touches_reserved}
 use Rattle.sbx_sound.proofs.LowFields.{LowThree}
 use Rattle.sbx_sound.proofs.Running.{tests, window_of}

@@ -21,7 +21,7 @@ use Rattle.sbx_flat.specs.Runs.{AreBytes, reached_by}
 use Rattle.sbx_flat.specs.declared.path.Wrong.TheVariants.{Misaligned, NoService}
 use Rattle.sbx_flat.specs.States.{State, Turn, Goes, Fails, advanced, reg}
 use Rattle.sbx_rules.specs.Fits.{Fits}
-use Rattle.sbx_rules.specs.Places.{function_at}
+use Rattle.sbx_image.specs.Order.{function_at}
 use Rattle.sbx_sound.proofs.Running.{tests, window_of}
 use Rattle.sbx_sound.proofs.Shared.{KnownParts, Shared, Shows, Window, with_location}
 use Rattle.sbx_rules.specs.Transfer.{transferred}

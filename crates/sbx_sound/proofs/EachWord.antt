@@ -9,7 +9,8 @@ use Rattle.sbx_image.specs.Parts.{Parts}
 use Rattle.sbx_flat.specs.Effects.{service_of}
 use Rattle.sbx_form.specs.Forms.{Cells}
 use Rattle.sbx_rules.specs.Operations.{is_call, is_framed, is_framed_return, is_restore, is_return, is_save, is_transfer}
-use Rattle.sbx_rules.specs.Places.{ends_run, function_at, is_exit, op_at, op_before}
+use Rattle.sbx_image.specs.Order.{function_at}
+use Rattle.sbx_rules.specs.Places.{ends_run, is_exit, op_at, op_before}
 use Rattle.sbx_rules.specs.Rules.{is_entry, same_test}
 use Rattle.sbx_rules.specs.Verdicts.{Checked}
 use Rattle.sbx_sound.proofs.Order.{IsOrdered}

@@ -23,7 +23,7 @@ use Rattle.sbx_rules.specs.Transfer.{frame_word_of, offset_from_sp, transferred,
 use Rattle.sbx_fits.specs.Held.{Held}
 use Rattle.sbx_fits.proofs.Memory.{frame_words_keep_fitting}
 use Rattle.sbx_rules.specs.Operations.{Access, access_of, address_reads, frame_offset, frame_word_read, is_framed, moved_reads, reads_of, writes_of}
-use Rattle.sbx_rules.specs.Places.{function_at}
+use Rattle.sbx_image.specs.Order.{function_at}
 use Rattle.sbx_rules.specs.Rules.{is_aligned_access, is_aligned_at, is_defined, is_placed_access, is_placed_at, is_undefined_word, reads_undefined, touches_reserved}
 use Rattle.sbx_sound.proofs.LowFields.{LowOperand, LowThree}
 use Rattle.sbx_sound.proofs.Running.{bytes_of, tests, window_of}

@@ -13,7 +13,7 @@ use Rattle.sbx_flat.specs.declared.path.Wrong.TheVariants.{Misaligned}
 use Rattle.sbx_flat.specs.States.{State, Turn, Goes, Fails, advanced, reg}
 use Rattle.sbx_rules.specs.Fits.{Fits}
 use Rattle.sbx_rules.specs.Rules.{is_defined}
-use Rattle.sbx_rules.specs.Places.{function_at}
+use Rattle.sbx_image.specs.Order.{function_at}
 use Rattle.sbx_sound.proofs.Running.{tests, window_of}
 use Rattle.sbx_sound.proofs.Shared.{KnownParts, Open, Own, Shared, Shows, ShowsCalls, base_below, slot_word, with_location}
 use Rattle.sbx_rules.specs.Transfer.{transferred}

@@ -11,7 +11,8 @@ use Rattle.sbx_rules.specs.Fuel.{IsEnough, IsPaid}
 use Rattle.sbx_rules.specs.Known.{Known}
 use Rattle.sbx_rules.specs.Forms.{Form}
 use Rattle.sbx_rules.specs.Ways.{To, Visit, cells_at, fuel_at, state_at, visits_at, weight_to}
-use Rattle.sbx_rules.specs.Places.{ends_run, function_at, op_at, words_in, address_of}
+use Rattle.sbx_image.specs.Order.{function_at, words_in, address_of}
+use Rattle.sbx_rules.specs.Places.{ends_run, op_at}
 use Rattle.sbx_sound.proofs.Running.{IsVisit}
 use Rattle.sbx_sound.proofs.Tests.{at_most}
 

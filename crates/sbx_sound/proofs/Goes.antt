@@ -3,7 +3,8 @@ use Rattle.std.proofs.Common.{◌≡◌, ℕ, suc, ◌+◌, ◌<◌, Bool, true,
 use Rattle.std.specs.Prelude.{◌⊎◌, nat_lt, if◌then◌else◌}
 use Rattle.sbx_image.specs.Parts.{Parts}
 use Rattle.sbx_rules.specs.Operations.{is_call}
-use Rattle.sbx_rules.specs.Places.{IsPlace, ends_run, function_at, op_at, op_before, words_in}
+use Rattle.sbx_image.specs.Order.{function_at, words_in}
+use Rattle.sbx_rules.specs.Places.{IsPlace, ends_run, op_at, op_before}
 use Rattle.sbx_rules.specs.Rules.{is_past}
 use Rattle.sbx_rules.specs.Verdicts.{Checked}
 use Rattle.sbx_rules.specs.Ways.{Next, Past, To, Way, falls, falls_to, state_at}

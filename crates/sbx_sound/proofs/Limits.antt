@@ -8,7 +8,6 @@ use Rattle.std.proofs.lemmas.Int.{ints}
 use Rattle.v8_alu.specs.Results.{signed}
 use Rattle.sbx_image.specs.Rules.{block_keeps, cell_keeps, code_start, each, function_keeps, is_fuel, parts_keep, range_keeps, ranges_keep, Place}
 use Rattle.sbx_image.specs.Spelling.{IsTyped, IsTypedBlock, IsTypedCell, IsTypedFunction, IsTypedRange, IsTypedTerm}
-use Rattle.sbx_image.specs.Order as order
 use Rattle.sbx_image.specs.ImageFault.{ImageFault}
 use Rattle.sbx_image.specs.Next.{Next}
 use Rattle.sbx_image.specs.Next.TheVariants.{Exactly}
@@ -23,7 +22,7 @@ use Rattle.sbx_image.proofs.Ordered.{in_order}
 use Rattle.sbx_range.proofs.Words.{signed-written, written-below}
 use Rattle.sbx_range.specs.Ranges.{InInterval}
 use Rattle.sbx_rules.specs.Known.{is_location}
-use Rattle.sbx_rules.specs.Places.{address_of, block_at, function_at, no_block, no_function, or_block, or_function, words_in}
+use Rattle.sbx_image.specs.Order.{address_of, block_at, function_at, no_block, no_function, or_block, or_function, words_in}
 use Rattle.sbx_rules.specs.Ways.{cells_at, out_cells}
 use Rattle.sbx_sound.proofs.Order.{IsOrdered}
 use Rattle.sbx_sound.proofs.Onward.{HaveResults}
@@ -181,13 +180,13 @@ module _ (parts : Parts) (kept : parts_keep parts ≡ Ok tt) (typed : IsTyped pa
   -- ---- the order of the code
 
   pub ordered : IsOrdered parts
-  unfolding address_of words_in order.address_of order.words_in
+  unfolding address_of words_in
   ordered =
       let o = in_order parts kept in
       record {
         first = o.first.1;
         entries = λ f h. ((o.entries f h).0.1, (o.entries f h).1);
-        blocks = λ f b h g. (let w = o.blocks f b (h, g) in record { some = w.some; ends = w.ends; each = w.each });
+        blocks = λ f b h g. o.blocks f b (h, g);
         small = o.small;
       }
 

@@ -39,7 +39,7 @@ use Rattle.sbx_fits.specs.Held.{Held, IsOperand, tagged_value}
 use Rattle.sbx_fits.proofs.Entries.{Has, operand_has, operand_multiple, operand_word, register_has, register_multiple}
 use Rattle.sbx_fits.proofs.Others.{moves_keep_fitting, quotients_keep_fitting, tagged_results_keep_fitting}
 use Rattle.sbx_rules.specs.Operations.{is_framed, reads_of, second_reads, writes_of}
-use Rattle.sbx_rules.specs.Places.{function_at}
+use Rattle.sbx_image.specs.Order.{function_at}
 use Rattle.sbx_rules.specs.Rules.{holds_zero, is_defined, is_some, may_divide_by_zero, may_overflow, reads_undefined, tagged_ranges_fit, touches_reserved}
 use Rattle.sbx_sound.proofs.LowFields.{LowOperand, LowThree}
 use Rattle.sbx_sound.proofs.Running.{tests, window_of}

@@ -15,7 +15,8 @@ use Rattle.sbx_image.specs.Parts.{Parts}
 use Rattle.sbx_rules.specs.Known.{Known}
 use Rattle.sbx_rules.specs.Transfer.{offset_from_sp}
 use Rattle.sbx_rules.specs.Operations.{access_of, frame_offset, is_framed, is_restore, is_save, is_transfer, moves_word}
-use Rattle.sbx_rules.specs.Places.{ends_run, function_at, op_at, service_asked, word_of_place}
+use Rattle.sbx_image.specs.Order.{function_at}
+use Rattle.sbx_rules.specs.Places.{ends_run, op_at, service_asked, word_of_place}
 use Rattle.sbx_rules.specs.Rules.{is_aligned_access, is_declared, is_entry, is_frame_size, is_placed_access, is_save_of, may_divide_by_zero, may_overflow, reads_undefined, touches_reserved}
 use Rattle.sbx_rules.specs.Verdicts.{Checked}
 use Rattle.sbx_sound.proofs.LowFields.{LowFields, low_fields}

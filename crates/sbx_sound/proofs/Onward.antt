@@ -17,7 +17,8 @@ use Rattle.sbx_rules.specs.Fits.{HasInterval, Near}
 use Rattle.sbx_rules.specs.Known.{Known, range_at, range_of_entry, started}
 use Rattle.sbx_fits.proofs.Branches.{refinement_keeps_fitting, starts_fit}
 use Rattle.sbx_rules.specs.Operations.{is_call, is_transfer}
-use Rattle.sbx_rules.specs.Places.{IsPlace, address_of, callee_before, ends_run, find_block, function_at, op_at, op_before, word_of_place, words_in}
+use Rattle.sbx_image.specs.Order.{address_of, function_at, words_in}
+use Rattle.sbx_rules.specs.Places.{IsPlace, callee_before, ends_run, find_block, op_at, op_before, word_of_place}
 use Rattle.sbx_rules.specs.Rules.{has_cells, is_back, is_inner_edge, is_past, now}
 use Rattle.sbx_rules.specs.Verdicts.{Checked}
 use Rattle.sbx_rules.specs.Ways.{Past, To, Visit, Way, after_call, after_word, branch_way, cells_at, falls, state_at, way_to}

@@ -9,9 +9,11 @@ use Rattle.sbx_image.specs.Block.{Block}
 use Rattle.sbx_image.specs.Parts.{Parts}
 use Rattle.sbx_flat.specs.Turns.{word_at}
 use Rattle.sbx_flat.proofs.Turns.{word_at_place}
-use Rattle.sbx_rules.specs.Places.{IsPlace, address_of, address_or_end, block_at, ends_run, function_at, function_end, no_block, op_at, or_block, word_of_place, words_in}
+use Rattle.sbx_image.specs.Order.{address_of, address_or_end, block_at, function_at, function_end, no_block, or_block, words_in}
+use Rattle.sbx_rules.specs.Places.{IsPlace, ends_run, op_at, word_of_place}
 use Rattle.sbx_rules.specs.Ways.{Next, Past, To, falls, falls_to}
-use Rattle.sbx_sound.proofs.Order.{HasWords, IsOrdered}
+use Rattle.sbx_image.specs.Order.{HasWords}
+use Rattle.sbx_sound.proofs.Order.{IsOrdered}
 use Rattle.sbx_sound.proofs.Running.{Follows}
 use Rattle.sbx_sound.proofs.Tests.{less_of}
 

@@ -26,7 +26,8 @@ use Rattle.sbx_rules.specs.Operations.{is_call, is_framed, is_return}
 use Rattle.sbx_rules.specs.Known.{Known}
 use Rattle.sbx_rules.specs.Forms.{form_value}
 use Rattle.sbx_rules.specs.Ways.{To, Visit, cells_at, falls, fuel_at, weight_to, state_at}
-use Rattle.sbx_rules.specs.Places.{address_of, function_at, op_at, op_before}
+use Rattle.sbx_image.specs.Order.{address_of, function_at}
+use Rattle.sbx_rules.specs.Places.{op_at, op_before}
 use Rattle.sbx_range.specs.Refining.{opposite}
 use Rattle.sbx_sound.proofs.Running.{After, AreOpen, At, Follows, IsThere, bytes_of, left_to_all, stack_bottom, straight_visit, tests, window_of}
 use Rattle.sbx_form.specs.Forms.{Cells}

@@ -25,7 +25,7 @@ use Rattle.sbx_rules.specs.Fits.{Fits}
 use Rattle.sbx_rules.specs.Known.{Known, with_entry, with_y}
 use Rattle.sbx_rules.specs.Relation.{Relation}
 use Rattle.sbx_rules.specs.Rules.{is_defined, is_some}
-use Rattle.sbx_rules.specs.Places.{function_at}
+use Rattle.sbx_image.specs.Order.{function_at}
 use Rattle.sbx_sound.proofs.Running.{tests, window_of}
 use Rattle.sbx_sound.proofs.Shared.{KnownParts, Shows, Window, with_location}
 use Rattle.sbx_rules.specs.Results.{register_entry, operand_entry, result_of}

@@ -16,7 +16,7 @@ use Rattle.sbx_flat.specs.States.{State, reg}
 use Rattle.sbx_rules.specs.Known.{Known}
 use Rattle.sbx_fits.specs.Held.{IsOperand}
 use Rattle.sbx_rules.specs.Operations.{frame_word_read, is_framed, is_reserved, may_write, reads_codes, reads_of, reads_y, second_reads, writes_of}
-use Rattle.sbx_rules.specs.Places.{function_at}
+use Rattle.sbx_image.specs.Order.{function_at}
 use Rattle.sbx_rules.specs.Rules.{is_defined, is_some, is_undefined_word, reads_undefined, touches_reserved}
 use Rattle.sbx_sound.proofs.LowFields.{LowOperand, LowThree}
 use Rattle.sbx_sound.proofs.Running.{tests, window_of}

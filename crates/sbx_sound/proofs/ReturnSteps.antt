@@ -23,7 +23,8 @@ use Rattle.sbx_rules.specs.Operations.{is_call, is_framed}
 use Rattle.sbx_rules.specs.Fits.{Fits, HasAlignment, HasInterval}
 use Rattle.sbx_rules.specs.Known.{Known, range_at}
 use Rattle.sbx_rules.specs.Ways.{Next, To, Way, cells_at, falls, fuel_at, state_at, weight_to}
-use Rattle.sbx_rules.specs.Places.{address_of, function_at, op_at, op_before}
+use Rattle.sbx_image.specs.Order.{address_of, function_at}
+use Rattle.sbx_rules.specs.Places.{op_at, op_before}
 use Rattle.sbx_sound.proofs.Running.{After, AreOpen, At, Follows, IsOpen, IsThere, known_after, straight_visit, tests, window_of}
 use Rattle.sbx_form.specs.Forms.{Cells}
 use Rattle.sbx_sound.proofs.Shared.{KnownParts, Lent, Open, Own, Shared, Shows, ShowsFile, Window, with_location}

@@ -20,7 +20,8 @@ use Rattle.sbx_rules.specs.Transfer.{is_out, transferred}
 use Rattle.sbx_fits.proofs.Frames.{frames_keep_fitting}
 use Rattle.sbx_fits.specs.Held.{AreRestored, Held}
 use Rattle.sbx_rules.specs.Operations.{is_call, is_framed, is_framed_return, is_restore, is_return, is_save, is_transfer, is_trap, may_write, reads_of, second_reads, writes_of}
-use Rattle.sbx_rules.specs.Places.{IsPlace, address_of, callee_at, callee_of, ends_run, function_at, op_at, op_before, word_of_place, words_in}
+use Rattle.sbx_image.specs.Order.{address_of, function_at, words_in}
+use Rattle.sbx_rules.specs.Places.{IsPlace, callee_at, callee_of, ends_run, op_at, op_before, word_of_place}
 use Rattle.sbx_rules.specs.Rules.{has_outs, is_defined, is_entry, reads_undefined, same_test, suits, touches_reserved}
 use Rattle.sbx_rules.specs.Verdicts.{Checked}
 use Rattle.sbx_rules.specs.Ways.{Next, Past, To, falls, falls_to, state_at}

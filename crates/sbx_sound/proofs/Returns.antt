@@ -16,7 +16,8 @@ use Rattle.sbx_rules.specs.Fits.{Fits, HasAlignment, HasForm, HasInterval, Relat
 use Rattle.sbx_rules.specs.Known.{Known, range_at, form_at}
 use Rattle.sbx_rules.specs.Forms.{form_value}
 use Rattle.sbx_rules.specs.Ways.{Visit, Way, after_call, falls, fuel_at, state_at, weight_to}
-use Rattle.sbx_rules.specs.Places.{address_of, callee_at, function_at, op_at}
+use Rattle.sbx_image.specs.Order.{address_of, function_at}
+use Rattle.sbx_rules.specs.Places.{callee_at, op_at}
 use Rattle.sbx_sound.proofs.Running.{After, AreOpen, At, Follows, GoesTo, IsOpen, back_of, known_after, left_to, left_to_all}
 use Rattle.sbx_form.specs.Forms.{Cells}
 use Rattle.sbx_sound.proofs.Shared.{AreStored, Open, Shared}

@@ -10,7 +10,8 @@ use Rattle.sbx_rules.specs.Fits.{Fits, HasAlignment, HasForm, HasInterval}
 use Rattle.sbx_rules.specs.Known.{Known, form_at, range_at}
 use Rattle.sbx_rules.specs.Rules.{is_defined, is_some}
 use Rattle.sbx_rules.specs.Ways.{Next, To, Visit, Way, falls, state_at, visits_at}
-use Rattle.sbx_rules.specs.Places.{IsPlace, address_of, callee_at, callee_before, function_at, op_before}
+use Rattle.sbx_image.specs.Order.{address_of, function_at}
+use Rattle.sbx_rules.specs.Places.{IsPlace, callee_at, callee_before, op_before}
 use Rattle.sbx_form.specs.Forms.{Cells}
 use Rattle.sbx_sound.specs.Positive.{left_at}
 use Rattle.sbx_sound.proofs.Shared.{AreStored, KnownParts, Lent, Open, Own, Shared, Window, base_below}

@@ -11,7 +11,8 @@ use Rattle.sbx_flat.proofs.Law.{Keeps, Moves, safe, still_is_fresh}
 use Rattle.sbx_flat.proofs.Turns.{weighs_some}
 use Rattle.sbx_rules.specs.Operations.{is_call}
 use Rattle.sbx_rules.specs.Ways.{Visit}
-use Rattle.sbx_rules.specs.Places.{function_at, op_before}
+use Rattle.sbx_image.specs.Order.{function_at}
+use Rattle.sbx_rules.specs.Places.{op_before}
 use Rattle.sbx_sound.specs.Positive.{left_at}
 use Rattle.sbx_sound.proofs.Running.{At, left_to_all, tests, window_of}
 use Rattle.sbx_form.specs.Forms.{Cells}

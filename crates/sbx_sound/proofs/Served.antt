@@ -19,7 +19,8 @@ use Rattle.sbx_rules.specs.Transfer.{served, transferred}
 use Rattle.sbx_fits.specs.Held.{Held, Keeps, with_location}
 use Rattle.sbx_fits.proofs.Branches.{services_keep_fitting}
 use Rattle.sbx_rules.specs.Operations.{is_framed, reads_of, service_reads}
-use Rattle.sbx_rules.specs.Places.{function_at, is_exit}
+use Rattle.sbx_image.specs.Order.{function_at}
+use Rattle.sbx_rules.specs.Places.{is_exit}
 use Rattle.sbx_rules.specs.Rules.{is_declared, reads_undefined, touches_reserved}
 use Rattle.sbx_sound.proofs.Running.{window_of}
 use Rattle.sbx_sound.proofs.Shared.{Lent}

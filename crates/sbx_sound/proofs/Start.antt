@@ -15,7 +15,8 @@ use Rattle.sbx_rules.specs.Known.{Known, cell_entry, form_of_entry, is_location,
 use Rattle.sbx_rules.specs.Entry.{Entry}
 use Rattle.sbx_rules.specs.Rules.{is_defined, is_some}
 use Rattle.sbx_rules.specs.Forms.{form_value}
-use Rattle.sbx_rules.specs.Places.{IsPlace, address_of, function_at}
+use Rattle.sbx_image.specs.Order.{address_of, function_at}
+use Rattle.sbx_rules.specs.Places.{IsPlace}
 use Rattle.sbx_rules.specs.Ways.{cells_at, falls, fuel_at, state_at, weight_to}
 use Rattle.sbx_sound.specs.Positive.{IsPositive, left_at}
 use Rattle.sbx_sound.proofs.Running.{At, Follows, straight_visit, tests}

@@ -21,7 +21,8 @@ use Rattle.sbx_rules.specs.Operations.{is_call, is_return}
 use Rattle.sbx_rules.specs.Fits.{Fits}
 use Rattle.sbx_rules.specs.Known.{Known, started, range_of_entry}
 use Rattle.sbx_rules.specs.Ways.{Next, To, cells_at, fuel_at, state_at, weight_to}
-use Rattle.sbx_rules.specs.Places.{address_of, function_at, op_at, op_before, word_of_place}
+use Rattle.sbx_image.specs.Order.{address_of, function_at}
+use Rattle.sbx_rules.specs.Places.{op_at, op_before, word_of_place}
 use Rattle.sbx_sound.proofs.Running.{After, IsThere, straight_visit, tests, window_of, bytes_of}
 use Rattle.sbx_sound.proofs.Shared.{AreStored, KnownParts, Shared, Shows, Window}
 use Rattle.sbx_rules.specs.Transfer.{transferred}

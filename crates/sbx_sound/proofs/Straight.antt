@@ -13,7 +13,8 @@ use Rattle.sbx_flat.specs.Effects.{declares, service_of}
 use Rattle.sbx_range.specs.Refining.{opposite}
 use Rattle.sbx_range.proofs.Kept.{one_edge_is_left}
 use Rattle.sbx_rules.specs.Operations.{is_call, is_framed, is_return, is_save, is_transfer, reads_of, service_reads}
-use Rattle.sbx_rules.specs.Places.{IsPlace, callee_at, ends_run, function_at, is_exit, op_at, op_before, service_asked, words_in}
+use Rattle.sbx_image.specs.Order.{function_at, words_in}
+use Rattle.sbx_rules.specs.Places.{IsPlace, callee_at, ends_run, is_exit, op_at, op_before, service_asked}
 use Rattle.sbx_rules.specs.Fuel.{IsPaid}
 use Rattle.sbx_rules.specs.Rules.{has_cells, is_declared, is_entry, is_frame_size, is_later, is_save_of, reads_undefined, touches_reserved}
 use Rattle.sbx_rules.specs.Verdicts.{Checked}

@@ -16,7 +16,8 @@ use Rattle.sbx_rules.specs.Fits.{Fits, HasAlignment, HasForm, HasInterval}
 use Rattle.sbx_rules.specs.Known.{Known, with_entry, range_of_entry, form_of_entry}
 use Rattle.sbx_rules.specs.Forms.{form_value}
 use Rattle.sbx_rules.specs.Ways.{Back, Next, Visit, Way, falls, fuel_at, state_at, visits_after, visits_at, weight_to}
-use Rattle.sbx_rules.specs.Places.{address_of, callee_at, callee_before, callee_of, find_entry, function_at, op_at, op_before, or_function}
+use Rattle.sbx_image.specs.Order.{address_of, function_at, or_function}
+use Rattle.sbx_rules.specs.Places.{callee_at, callee_before, callee_of, find_entry, op_at, op_before}
 use Rattle.sbx_sound.specs.Positive.{left_at}
 use Rattle.sbx_sound.proofs.Running.{At, Follows, GoesTo, back_of, bytes_of, entry_of, left_to_all, straight_visit}
 use Rattle.sbx_form.specs.Forms.{Cells}

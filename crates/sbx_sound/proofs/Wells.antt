@@ -14,7 +14,8 @@ use Rattle.sbx_flat.specs.Runs.{AreBytes, budget_of}
 use Rattle.sbx_rules.specs.Transfer.{saved, transferred}
 use Rattle.sbx_rules.specs.Fuel.{IsWithinBudget}
 use Rattle.sbx_rules.specs.Operations.{is_call, is_framed, is_transfer}
-use Rattle.sbx_rules.specs.Places.{IsPlace, address_of, callee_at, callee_of, ends_run, find_entry, function_at, op_at, or_function}
+use Rattle.sbx_image.specs.Order.{address_of, function_at, or_function}
+use Rattle.sbx_rules.specs.Places.{IsPlace, callee_at, callee_of, ends_run, find_entry, op_at}
 use Rattle.sbx_rules.specs.Rules.{enters_well, has_cells, is_frame_size, is_minus, is_save_of, params_of, room_of_callee, suits}
 use Rattle.sbx_rules.specs.Verdicts.{Checked}
 use Rattle.sbx_rules.specs.Ways.{falls, fuel_at, out_cells, state_at}

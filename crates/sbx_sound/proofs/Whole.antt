@@ -4,7 +4,7 @@ use Rattle.sbx_image.specs.Parts.{Parts}
 use Rattle.sbx_image.proofs.Fields.{is_between}
 use Rattle.sbx_image.proofs.Limits.{bytes_within, functions_within, parts_kept}
 use Rattle.sbx_flat.specs.Runs.{FlatSafe}
-use Rattle.sbx_rules.specs.Places.{function_at}
+use Rattle.sbx_image.specs.Order.{function_at}
 use Rattle.sbx_rules.specs.Verdicts.{Checked}
 use Rattle.sbx_sound.specs.Law.{CheckedIsSafe, IsFormed}
 use Rattle.sbx_sound.proofs.Order.{IsOrdered}

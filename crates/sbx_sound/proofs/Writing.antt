@@ -13,7 +13,7 @@ use Rattle.sbx_rules.specs.Entry.{Entry}
 use Rattle.sbx_rules.specs.Fits.{Fits}
 use Rattle.sbx_rules.specs.Known.{Known, with_entry}
 use Rattle.sbx_rules.specs.Transfer.{transferred}
-use Rattle.sbx_rules.specs.Places.{function_at}
+use Rattle.sbx_image.specs.Order.{function_at}
 use Rattle.sbx_rules.specs.Rules.{is_defined, is_some}
 use Rattle.sbx_sound.proofs.Running.{tests, window_of}
 use Rattle.sbx_sound.proofs.Shared.{AreStored, KnownParts, Shared, Shows, Window, with_location}

@@ -3,12 +3,12 @@ use Rattle.std.proofs.Common.{◌≡◌, ℕ, ◌+◌, ◌*◌, ◌<◌, ◌≤�
 use Rattle.std.specs.Prelude.{◌⊎◌}
 use Rattle.std.proofs.lemmas.Bool.{cases_lt}
 use Rattle.sbx_image.specs.Parts.{Parts}
-use Rattle.sbx_image.specs.Order.{address_of as image_address, block_end as image_end, words_in as image_words}
+use Rattle.sbx_image.specs.Order.{address_of, block_end, words_in}
 use Rattle.sbx_image.specs.Rules.{parts_keep}
 use Rattle.sbx_image.proofs.Ordered.{in_order}
 use Rattle.sbx_pass.specs.Cause.{Cause}
 use Rattle.sbx_pass.specs.Refusal.{Refusal}
-use Rattle.sbx_pass.specs.Places.{IsPlace, address_of, words_in}
+use Rattle.sbx_pass.specs.Places.{IsPlace}
 use Rattle.sbx_pass.specs.Rules.{Holds}
 use Rattle.sbx_pass.specs.Verdicts.{Breaks, Checked, IsFirst}
 use Rattle.sbx_walk.specs.Walks.{IsFirstOfFunction, IsQuietFunction}
@@ -19,33 +19,22 @@ module _ (parts : Parts) (keeps : parts_keep parts ≡ Ok tt) where
   abbrev Address : ℕ → ℕ → ℕ → ℕ
   Address f b i = address_of parts f b i
 
-  same_address : (f b i : ℕ) → image_address parts f b i ≡ address_of parts f b i
-  unfolding image_address address_of
-  same_address f b i = refl
-
-  same_words : (f b : ℕ) → image_words parts f b ≡ words_in parts f b
-  unfolding image_words words_in
-  same_words f b = refl
-
   at_word : (f b i : ℕ) → address_of parts f b i ≡ address_of parts f b 0 + 4 * i
   unfolding address_of
   at_word f b i = omega arith
 
   -- a word ends where its block does, or before
-  ends : (f b i : ℕ) → IsPlace parts f b i → address_of parts f b i + 4 ≤ image_end parts f b
+  ends : (f b i : ℕ) → IsPlace parts f b i → address_of parts f b i + 4 ≤ block_end parts f b
   ends f b i place =
       let words = (in_order parts keeps).blocks f b (place.function, place.block) in
       let e = words.ends in
-      let s = same_address f b (image_words parts f b) in
-      let n = same_words f b in
-      let m = ap (λ k. address_of parts f b k) n in
       let p = at_word f b i in
       let q = at_word f b (words_in parts f b) in
       let within = place.word in
       omega arith
 
-  starts : (g c j : ℕ) → image_address parts g c 0 ≤ address_of parts g c j
-  starts g c j = let s = same_address g c 0 in let p = at_word g c j in omega arith
+  starts : (g c j : ℕ) → address_of parts g c 0 ≤ address_of parts g c j
+  starts g c j = let p = at_word g c j in omega arith
 
   later_function : (f g b c i j : ℕ) → f < g → IsPlace parts f b i → IsPlace parts g c j → address_of parts f b i < address_of parts g c j
   later_function f g b c i j less p q =

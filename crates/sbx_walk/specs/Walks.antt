@@ -2,7 +2,7 @@
 use Rattle.std.specs.Prelude.{◌≡◌, ℕ, ◌<◌, length}
 use Rattle.sbx_image.specs.Parts.{Parts}
 use Rattle.sbx_pass.specs.Refusal.{Refusal}
-use Rattle.sbx_pass.specs.Places.{address_of, function_at}
+use Rattle.sbx_image.specs.Order.{address_of, function_at}
 use Rattle.sbx_pass.specs.Firsts.{IsFirstOfBlock, IsQuiet}
 
 -- no word of a function breaks a rule

@@ -26,8 +26,9 @@ use Rattle.sbx_flat.specs.Parts.{Parts}
 use Rattle.sbx_flat.specs.Registers.{Registers}
 use Rattle.sbx_flat.specs.Runs.{AreBytes, IsStart as IsFlatStart, data_at}
 use Rattle.sbx_flat.specs.States.{State}
-use Rattle.sbx_shows.specs.Calls.{base, cell, slot}
-use Rattle.sbx_shows.specs.Shows.{Fits, HasStack, IsStacked, Shows, ShowsByte, ShowsCalls, ShowsData, ShowsSlots, window, data_area}
+use Rattle.sbx_flat.specs.Calls.{base, cell, slot}
+use Rattle.sbx_flat.specs.WellFormed.{IsStacked}
+use Rattle.sbx_shows.specs.Shows.{Fits, HasStack, Shows, ShowsByte, ShowsCalls, ShowsData, ShowsSlots, window, data_area}
 use Rattle.sbx_shows.proofs.Files.{file_written}
 use Rattle.sbx_shows.proofs.Pages.{placed_own}
 use Rattle.sbx_shows.proofs.Stacks.{stack_count}

@@ -49,9 +49,9 @@ impl Counts {
     {
         self.turns = counted(self.turns);
         if let Event::Trapped(trap) = event {
-            match trap.number() {
-                5 => self.overflows = counted(self.overflows),
-                6 => self.underflows = counted(self.underflows),
+            match *trap {
+                TrapType::WINDOW_OVERFLOW => self.overflows = counted(self.overflows),
+                TrapType::WINDOW_UNDERFLOW => self.underflows = counted(self.underflows),
                 _ => {}
             }
         }

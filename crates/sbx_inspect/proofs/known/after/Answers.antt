@@ -1,6 +1,7 @@
 use Rattle.std.proofs.Common.{ℕ, Option, refl, sym, ap, ◌∙◌}
 use Rattle.sbx_domain.specs.Known.{known}
-use Rattle.sbx_rules.specs.Places.{function_at, op_at}
+use Rattle.sbx_image.specs.Order.{function_at}
+use Rattle.sbx_rules.specs.Places.{op_at}
 use Rattle.sbx_rules.specs.Ways.{after_call}
 use Rattle.sbx_known.specs.Courses.{runs}
 use Rattle.sbx_known.proofs.Stepping.{arrivals_are, performed}

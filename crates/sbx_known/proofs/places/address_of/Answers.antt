@@ -1,6 +1,6 @@
 use Rattle.std.proofs.Common.{arith, ap, ◌+◌, ◌*◌}
 use Rattle.sbx_image.specs.Block.{Block}
-use Rattle.sbx_rules.specs.Places.{address_of}
+use Rattle.sbx_image.specs.Order.{address_of}
 use Rattle.sbx_known.proofs.InOrder.{fits_low, lies_low}
 use Rattle.sbx_known.proofs.places.address_of.Goals as goal
 

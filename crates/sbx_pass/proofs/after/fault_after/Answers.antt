@@ -4,7 +4,7 @@ use Rattle.std.specs.List.{list_any}
 use Rattle.sbx_rules.specs.Known.{known}
 use Rattle.sbx_rules.specs.declared.cause.Cause.{Cause}
 use Rattle.sbx_rules.specs.declared.cause.Cause.TheVariants.{UnkeptCells, OutOfFuel}
-use Rattle.sbx_rules.specs.Places.{block_at, function_at}
+use Rattle.sbx_image.specs.Order.{block_at, function_at}
 use Rattle.sbx_rules.specs.Rules.{Holds, leaves_to, lists_badly, misses_cells, misses_params}
 use Rattle.sbx_rules.specs.Ways.{visits_at}
 use Rattle.sbx_known.specs.Courses.{arrived, misses_at}

@@ -7,7 +7,8 @@ use Rattle.sbx_rules.specs.Known.{known}
 use Rattle.sbx_rules.specs.declared.cause.Cause.{Cause}
 use Rattle.sbx_rules.specs.declared.cause.Cause.TheVariants.{OutOfStack, RunsPastEnd, UnkeptResults, BadEntry}
 use Rattle.sbx_rules.specs.Operations.{is_return}
-use Rattle.sbx_rules.specs.Places.{function_at, op_at}
+use Rattle.sbx_image.specs.Order.{function_at}
+use Rattle.sbx_rules.specs.Places.{op_at}
 use Rattle.sbx_rules.specs.Rules.{Holds, has_outs, is_back, is_entry, is_past, lacks_room, now}
 use Rattle.sbx_rules.specs.Ways.{Visit, visits_at}
 use Rattle.sbx_known.specs.Courses.{arrived, listed}

@@ -2,7 +2,7 @@ use Rattle.std.proofs.Common.{List, sym, ap, ◌∙◌}
 use Rattle.sbx_image.specs.Function.{Function}
 use Rattle.sbx_image.specs.Range.{Range}
 use Rattle.sbx_rules.specs.Known.{known}
-use Rattle.sbx_rules.specs.Places.{function_at}
+use Rattle.sbx_image.specs.Order.{function_at}
 use Rattle.sbx_rules.specs.Rules.{has_cells, has_outs}
 use Rattle.sbx_pass.proofs.Params.{cells_first, outs_are_cells}
 use Rattle.sbx_pass.proofs.after.keeps_cells.Goals as goal

@@ -4,7 +4,8 @@ use Rattle.std.specs.List.{list_any}
 use Rattle.v8_meaning.specs.declared.operation.Operation.{Operation}
 use Rattle.sbx_rules.specs.Known.{known}
 use Rattle.sbx_rules.specs.Fuel.{IsEnough, IsWithinBudget}
-use Rattle.sbx_rules.specs.Places.{ends_run, function_at}
+use Rattle.sbx_image.specs.Order.{function_at}
+use Rattle.sbx_rules.specs.Places.{ends_run}
 use Rattle.sbx_rules.specs.Rules.{HasUnpaidEdge, ends_here, is_back, is_entry, names_strange}
 use Rattle.sbx_rules.specs.Ways.{Visit, fuel_at, state_at, visits_at, weight_to}
 use Rattle.sbx_known.specs.Courses.{arrived, listed}

@@ -6,7 +6,8 @@ use Rattle.sbx_rules.specs.Known.{known}
 use Rattle.sbx_rules.specs.declared.cause.Cause.{Cause}
 use Rattle.sbx_rules.specs.declared.cause.Cause.TheVariants.{UndefinedRead, ReservedRegister, Misaligned, OutOfBounds, ZeroDivisor, TagOverflow}
 use Rattle.sbx_rules.specs.Operations.{access_of}
-use Rattle.sbx_rules.specs.Places.{function_at, op_at}
+use Rattle.sbx_image.specs.Order.{function_at}
+use Rattle.sbx_rules.specs.Places.{op_at}
 use Rattle.sbx_rules.specs.Rules.{Holds, is_aligned_access, is_placed_access, may_divide_by_zero, may_overflow, reads_undefined, runs_with, touches_reserved}
 use Rattle.sbx_rules.specs.Ways.{Visit, visits_at}
 use Rattle.sbx_known.specs.Courses.{listed}

@@ -1,6 +1,7 @@
 use Rattle.std.proofs.Common.{◌≡◌, ◌+◌, ◌<◌, ℕ, suc, false, refl, ap, ◌∙◌, subst, arith}
 use Rattle.sbx_rules.specs.Known.{known}
-use Rattle.sbx_rules.specs.Places.{callee_at, callee_before, op_at, op_before, words_in}
+use Rattle.sbx_image.specs.Order.{words_in}
+use Rattle.sbx_rules.specs.Places.{callee_at, callee_before, op_at, op_before}
 use Rattle.sbx_rules.specs.Rules.{Holds, has_bad_shape}
 use Rattle.sbx_rules.specs.Ways.{state_at, weight_of_place, weight_to}
 use Rattle.sbx_pass.specs.Firsts.{AreKept, Tells}

@@ -2,7 +2,8 @@ use Rattle.std.proofs.Common.{◌≡◌, ℕ, false, Option, sym, ap, ◌∙◌,
 use Rattle.std.specs.Prelude.{not}
 use Rattle.std.specs.List.{list_any}
 use Rattle.sbx_rules.specs.Known.{known}
-use Rattle.sbx_rules.specs.Places.{function_at, op_at, op_before}
+use Rattle.sbx_image.specs.Order.{function_at}
+use Rattle.sbx_rules.specs.Places.{op_at, op_before}
 use Rattle.sbx_rules.specs.Rules.{has_cells, misses_params, params_of}
 use Rattle.sbx_rules.specs.Ways.{after_call, visits_at}
 use Rattle.sbx_known.specs.Courses.{IsStraight, is_branch, runs}
