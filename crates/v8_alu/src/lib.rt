@@ -110,6 +110,7 @@ fn tagged(both: (u32, Icc), a: u32, b: u32) -> (u32, Icc)
 /// What an operation on `a` and `b` gives, by the condition codes and Y before it. Codes and Y that it leaves alone are
 /// given as they were (appendix B).
 #[tactic(auto, unfolding(crate::specs::Outcomes::outcome))]
+#[inline(always)]
 pub fn alu(op: Op, a: u32, b: u32, icc: Icc, y: u32) -> AluOut
     ensures { result ≡ outcome op a b icc y }
 {

@@ -2,8 +2,8 @@
 #![tactic(auto)]
 
 mod access;
+mod execution;
 mod machine;
-mod runs;
 mod step;
 mod turn;
 

@@ -1,4 +1,5 @@
 pub mod Operations
+pub mod Words
 pub mod Operands
 pub mod Spaces
 pub mod Transfers

@@ -8,7 +8,8 @@ use crate::operation::{
 use v8_alu::{Division, Op, TaggedOp};
 use v8_formats::{Alternate, Instr, Operand, Place, Size, Three};
 
-fn normal(fields: Three) -> MemoryOperand
+#[inline(always)]
+pub fn normal(fields: Three) -> MemoryOperand
     ensures { result ≡ normal fields }
 {
     MemoryOperand {

@@ -21,3 +21,4 @@ pub use Rattle.v8_meaning.specs.AluOut
 pub use Rattle.v8_meaning.specs.Division
 pub use Rattle.v8_meaning.specs.Op
 pub use Rattle.v8_meaning.specs.TaggedOp
+pub use Rattle.v8_meaning.specs.Words

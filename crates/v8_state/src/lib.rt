@@ -7,8 +7,10 @@ mod registers;
 mod state;
 mod transfers;
 mod traps;
+mod words;
 
 pub use state::{Control, Cpu};
 pub use v8_meaning::{
-    MemoryOperand, Operation, Space, Transfer, bytes_in, is_code_space, is_user_space, operation_of,
+    Direct, MemoryOperand, Operation, Space, Transfer, bytes_in, direct_of, is_code_space,
+    is_user_space, normal, operation_of, three_of,
 };

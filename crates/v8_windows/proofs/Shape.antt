@@ -1,12 +1,12 @@
 -- A register file keeps its shape.
-use Rattle.std.proofs.Common.{◌≡◌, ◌≢◌, ℕ, ◌^◌, ◌<◌, ◌≤◌, ◌⊎◌, inl, inr, Bool, true, false, List, [], length, get_or, replicate, refl, sym, ◌∙◌, subst, arith, lit<}
+use Rattle.std.proofs.Common.{◌≡◌, ◌≢◌, ℕ, ◌^◌, ◌<◌, Bool, true, false, List, [], length, get_or, refl, sym, ◌∙◌, subst, arith}
 use Rattle.std.specs.Prelude.{slice_index, slice_set, ◌==◌}
 use Rattle.std.proofs.lemmas.Bool.Decides.{nat_tests}
-use Rattle.std.proofs.lemmas.List.{get_or-set_same, get_or-set_other, length-set, get_or-replicate, length-replicate, get_or_past}
+use Rattle.std.proofs.lemmas.List.{get_or-set_same, get_or-set_other, length-set}
 use Rattle.v8_windows.specs.Windows.{AreGlobals, AreRows}
 
 -- words stay words
-fit_written : (xs : List ℕ) (k x i : ℕ) → ((j : ℕ) → slice_index xs j < 2 ^ 32) → k < length xs → x < 2 ^ 32 → slice_index (slice_set xs k x) i < 2 ^ 32
+pub fit_written : (xs : List ℕ) (k x i : ℕ) → ((j : ℕ) → slice_index xs j < 2 ^ 32) → k < length xs → x < 2 ^ 32 → slice_index (slice_set xs k x) i < 2 ^ 32
 fit_written xs k x i fit there small = by_place (i == k) refl
   where
     by_place : (t : Bool) → (i == k) ≡ t → slice_index (slice_set xs k x) i < 2 ^ 32
@@ -48,40 +48,4 @@ rows_written n words w k x h less room small =
       fit = λ v i. row_by n words w k x v (λ row. slice_index row i < 2 ^ 32) there (fit_written (get_or words w []) k x i (h.fit w) within small) (h.fit v i);
     }
 
-abbrev zero_words : ℕ → List ℕ
-zero_words n = replicate n 0
-
-zeros_length : (n : ℕ) → length (zero_words n) ≡ n
-zeros_length n = length-replicate {A = ℕ} n 0
-
-zeros : (n i : ℕ) → slice_index (zero_words n) i < 2 ^ 32
-zeros n i =
-    let split : (i < n) ⊎ (n ≤ i) = search arith in
-    elim split [
-      | inl less ↦ let is : slice_index (zero_words n) i ≡ 0 = get_or-replicate {A = ℕ} n i 0 0 less in rw is (lit< tt)
-      | inr past ↦
-          let end : length (zero_words n) ≤ i = omega (arith, zeros_length n) in
-          let is : slice_index (zero_words n) i ≡ 0 = get_or_past (zero_words n) i 0 end in rw is (lit< tt)
-    ]
-
-pub globals_new : AreGlobals (replicate 8 0)
-globals_new = record { count = zeros_length 8; fit = λ i. zeros 8 i }
-
-row_new : (n w : ℕ) (P : List ℕ → Type 0) → P (zero_words 16) → (n ≤ w → P []) → P (get_or (replicate n (zero_words 16)) w [])
-row_new n w P inside outside =
-    let split : (w < n) ⊎ (n ≤ w) = search arith in
-    elim split [
-      | inl less ↦ subst P (sym (get_or-replicate n w (zero_words 16) [] less)) inside
-      | inr past ↦
-          let end : length (replicate n (zero_words 16)) ≤ w = omega (arith, length-replicate n (zero_words 16)) in
-          subst P (sym (get_or_past (replicate n (zero_words 16)) w [] end)) (outside past)
-    ]
-
-pub rows_new : (n : ℕ) → AreRows n (replicate n (replicate 16 0))
-rows_new n = record {
-  count = length-replicate n (zero_words 16);
-  each = λ w less. row_new n w (λ row. length row ≡ 16) (zeros_length 16) (λ past. absurd (omega arith));
-  fit = λ w i. row_new n w (λ row. slice_index row i < 2 ^ 32) (zeros 16 i) (λ past. lit< tt);
-}
-
-pub ruleset shapes = (globals_written, rows_written, globals_new, rows_new)
+pub ruleset shapes = (globals_written, rows_written)

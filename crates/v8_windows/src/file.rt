@@ -2,28 +2,35 @@
 ghost use Rattle.std.specs.Prelude.{if◌then◌else◌, ◌≡◌, ℕ, ◌+◌, ◌-◌, ◌%◌, ◌^◌, ◌<◌, ◌≤◌, ◌↔◌, IsTrue, not, replicate, [], ◌∷◌, length};
 ghost use Rattle.v8_windows.specs.Windows.{IsFile, reg_of, with_reg, below, above, can_enter, is_masked, moved, trapped};
 
+use crate::halves::{half, whole};
 use std::marker::Model;
 use v8_word::Reg;
 
 /// The integer registers of `N` windows, 4 to 32, with the current window (CWP) and the window invalid mask (WIM) of the
 /// manual's chapter 4. Contracts see the map from window and register to words.
+///
+/// The windows lie in two rings, of outs and of locals: the ins of a window are the outs of the window above. The registers of
+/// the current window stand apart, in the order of their numbers, and are written back to the rings when another window becomes
+/// the current one. Until then what the rings have of them is out of date.
 #[derive(Drop)]
 pub struct RegFile<const N: usize> {
-    globals: [u32; 8],
-    words: [[u32; 16]; N],
+    outs: [[u32; 8]; N],
+    locals: [[u32; 8]; N],
+    registers: [u32; 32],
     current: usize,
     mask: u32,
 }
 
 impl<const N: usize> Model for RegFile<N> {
     ghost use Rattle.std.specs.Prelude.{◌≤◌, ◌<◌, ◌^◌};
-    ghost use Rattle.v8_windows.specs.Windows.{Windows, AreGlobals, AreRows};
+    ghost use Rattle.v8_windows.specs.Windows.{Windows};
+    ghost use Rattle.v8_windows.specs.Halves.{shown, AreHalves, AreRegisters};
 
     ghost Value = { Windows };
 
-    ghost view = { λ f. record { globals = f.globals; words = f.words; current = f.current; mask = f.mask } };
+    ghost view = { λ f. shown N f.outs f.locals f.registers f.current f.mask };
 
-    ghost invariant = { λ f. (4 ≤ N) × (N ≤ 32) × (f.current < N) × (f.mask < 2 ^ N) × AreGlobals f.globals × AreRows N f.words };
+    ghost invariant = { λ f. (4 ≤ N) × (N ≤ 32) × (f.current < N) × (f.mask < 2 ^ N) × AreRegisters f.registers × AreHalves N f.outs × AreHalves N f.locals };
 }
 
 impl<const N: usize> RegFile<N> {
@@ -39,8 +46,9 @@ impl<const N: usize> RegFile<N> {
         } }
     {
         RegFile {
-            globals: [0; 8],
-            words: [[0; 16]; N],
+            outs: [[0; 8]; N],
+            locals: [[0; 8]; N],
+            registers: [0; 32],
             current: 0,
             mask: 0,
         }
@@ -63,7 +71,7 @@ impl<const N: usize> RegFile<N> {
     {
         let window = window as usize;
         if window < N {
-            self.current = window;
+            self.enter(window);
             true
         } else {
             false
@@ -88,35 +96,19 @@ impl<const N: usize> RegFile<N> {
     }
 
     /// A register of the current window.
-    #[tactic(auto, unfolding(crate::specs::Windows::reg_of))]
     pub fn get(&self, r: Reg) -> u32
         ensures { result ≡ reg_of N self.now r }
     {
-        let n = r.number() as usize;
-        if n == 0 {
-            0
-        } else if n < 8 {
-            self.globals[n]
-        } else if n < 24 {
-            self.words[self.current][n - 8]
-        } else {
-            self.words[self.window_above()][n - 24]
-        }
+        self.registers[r.number() as usize]
     }
 
     /// Writes a register of the current window; register 0 ignores it.
-    #[tactic(auto, unfolding(crate::specs::Windows::with_reg))]
     pub fn set(&mut self, r: Reg, x: u32)
         ensures { self.new ≡ with_reg N self.old r x }
     {
         let n = r.number() as usize;
-        if n == 0 {} else if n < 8 {
-            self.globals[n] = x;
-        } else if n < 24 {
-            self.words[self.current][n - 8] = x;
-        } else {
-            let neighbour = self.window_above();
-            self.words[neighbour][n - 24] = x;
+        if n != 0 {
+            self.registers[n] = x;
         }
     }
 
@@ -128,7 +120,7 @@ impl<const N: usize> RegFile<N> {
     {
         let below = self.window_below();
         if Self::allows(self.mask, below) {
-            self.current = below;
+            self.enter(below);
             true
         } else {
             false
@@ -143,7 +135,7 @@ impl<const N: usize> RegFile<N> {
     {
         let above = self.window_above();
         if Self::allows(self.mask, above) {
-            self.current = above;
+            self.enter(above);
             true
         } else {
             false
@@ -155,9 +147,9 @@ impl<const N: usize> RegFile<N> {
         ensures { self.new ≡ trapped N self.old pc npc }
     {
         let entered = self.window_below();
-        self.current = entered;
-        self.words[entered][9] = pc;
-        self.words[entered][10] = npc;
+        self.enter(entered);
+        self.set(Reg::L1, pc);
+        self.set(Reg::L2, npc);
     }
 
     /// Goes to the window above, as RETT does; false, with nothing changed, where the mask forbids that window.
@@ -180,13 +172,41 @@ impl<const N: usize> RegFile<N> {
         }
     }
 
-    #[tactic(auto, using(crate::proofs::Neighbours::above_last, crate::proofs::Neighbours::above_next))]
     fn window_above(&self) -> usize
         ensures value { result ≡ above N self.now.current }
         ensures in_range { result < N }
     {
-        let next = self.current + 1;
+        Self::next(self.current)
+    }
+
+    /// The window above.
+    #[tactic(auto, using(crate::proofs::Neighbours::above_last, crate::proofs::Neighbours::above_next))]
+    fn next(window: usize) -> usize
+        requires few { 4 ≤ N }
+        requires here { window < N }
+        ensures value { result ≡ above N window }
+        ensures in_range { result < N }
+    {
+        let next = window + 1;
         if next == N { 0 } else { next }
+    }
+
+    /// Writes the current window's registers back to the rings, and makes another window the current one.
+    fn enter(&mut self, window: usize)
+        requires { window < N }
+        ensures { self.new ≡ moved self.old window }
+    {
+        let left = self.current;
+        let above_left = Self::next(left);
+        self.outs[left] = half(&self.registers, 8);
+        self.locals[left] = half(&self.registers, 16);
+        self.outs[above_left] = half(&self.registers, 24);
+        let globals = half(&self.registers, 0);
+        let outs = self.outs[window];
+        let locals = self.locals[window];
+        let ins = self.outs[Self::next(window)];
+        self.registers = whole(&globals, &outs, &locals, &ins);
+        self.current = window;
     }
 
     fn allows(mask: u32, window: usize) -> bool

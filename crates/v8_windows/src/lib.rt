@@ -2,6 +2,7 @@
 #![tactic(auto)]
 
 mod file;
+mod halves;
 pub mod laws;
 
 pub use file::RegFile;
