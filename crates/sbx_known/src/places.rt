@@ -54,7 +54,7 @@ fn block_end(image: &Image, function: usize, block: usize) -> u32
 }
 
 /// How many words a block has.
-#[tactic(auto, unfolding(sbx_image::specs::Order::words_in))]
+#[tactic(auto, unfolding(sbx_parts::specs::Order::words_in))]
 pub fn words_in(image: &Image, function: usize, block: usize) -> usize
     requires { IsBlock image.now function block }
     ensures { result ≡ words_in image.now function block }
@@ -66,7 +66,7 @@ pub fn words_in(image: &Image, function: usize, block: usize) -> usize
 }
 
 /// The address of a word, in bytes.
-#[tactic(auto, unfolding(sbx_image::specs::Order::address_of))]
+#[tactic(auto, unfolding(sbx_parts::specs::Order::address_of))]
 pub fn address_of(image: &Image, function: usize, block: usize, number: usize) -> u32
     requires keeps { parts_keep image.now ≡ Ok tt }
     requires place { IsPlace image.now function block number }
