@@ -6,7 +6,7 @@ use crate::moved::splits_pair;
 use crate::operation::Operation;
 use crate::spaces::is_normal;
 use crate::transfer::{is_always, is_never};
-use v8_formats::{Operand, Three, Trap};
+use v8_formats::{Operand, Reg, Three, Trap};
 
 fn is_immediate_of(number: u32, operand: &Operand) -> bool
     ensures { result ≡ is_immediate_of number operand.now }
@@ -27,21 +27,21 @@ fn is_immediate(operand: &Operand) -> bool
 pub fn is_ret(fields: &Three) -> bool
     ensures { result ≡ is_ret fields.now }
 {
-    fields.rd.number() == 0 && fields.rs1.number() == 31 && is_immediate_of(8, &fields.operand2)
+    fields.rd == Reg::G0 && fields.rs1 == Reg::I7 && is_immediate_of(8, &fields.operand2)
 }
 
 /// Whether a JMPL is `retl`, the return of a function without a window: `jmpl %o7+8,%g0` (appendix A, "Synthetic Instructions").
 pub fn is_retl(fields: &Three) -> bool
     ensures { result ≡ is_retl fields.now }
 {
-    fields.rd.number() == 0 && fields.rs1.number() == 15 && is_immediate_of(8, &fields.operand2)
+    fields.rd == Reg::G0 && fields.rs1 == Reg::O7 && is_immediate_of(8, &fields.operand2)
 }
 
 /// Whether a Ticc calls a service: `ta n`, whose number is the immediate alone.
 pub fn is_service_call(trap: &Trap) -> bool
     ensures { result ≡ is_service_call trap.now }
 {
-    is_always(trap.cond) && trap.rs1.number() == 0 && is_immediate(&trap.operand2)
+    is_always(trap.cond) && trap.rs1 == Reg::G0 && is_immediate(&trap.operand2)
 }
 
 /// Whether sandboxed code may ask for the operation. Not admitted: privileged and alternate-space forms, FLUSH, STBAR, BN,
