@@ -1,6 +1,6 @@
 //! Runs of accepted images on a board of the caller's.
-ghost use Rattle.std.specs.Prelude.{◌≡◌, ◌≤◌, IfErr, IfOk, OnErr};
-ghost use Rattle.v8_mmu.specs.Answers.{Rose};
+ghost use Rattle.std.specs.Prelude.{◌≡◌, IfErr, IfOk, OnErr};
+ghost use Rattle.v8_mmu.specs.Answers.{failed_after};
 ghost use Rattle.v8_loaded.specs.States.{IsState};
 ghost use Rattle.v8_board.specs.Contains.{Contains};
 ghost use Rattle.sbx_run.specs.Answer.{EndsOn, StandsOn};
@@ -25,7 +25,7 @@ pub struct Ended {
 /// Loads an accepted image into a board and runs it to its end, on the input that the board's port has to give: whatever the board's
 /// registers, its stack and the image before left. The image exits within its budget, as every run on the flat machine does, and the
 /// board stands where the last turn left it. On a fault of the port it stands after the last whole turn, and `Board::run` goes on with
-/// the turns that are left of the budget.
+/// the turns that are left of the budget; the port's count of failures rose by one, as it does nowhere else.
 pub fn run_board<const N: usize, P: Port>(
     board: &mut Board<N, P>,
     accepted: &Accepted,
@@ -34,8 +34,7 @@ pub fn run_board<const N: usize, P: Port>(
     ensures stands { OnErr result (StandsOn N accepted.now board.old.state board.new.state) }
     ensures state { IsState N board.new.state.mmu board.new.state.world }
     ensures contained { Contains N accepted.now board.new.state }
-    ensures count { board.old.failed ≤ board.new.failed }
-    ensures cause { OnErr result (Rose board.old.failed board.new.failed) }
+    ensures count { board.new.failed ≡ failed_after result board.old.failed }
     ensures own { IfErr result (λ fault. board.new.fault ≡ fault) }
 {
     let image = accepted.image();

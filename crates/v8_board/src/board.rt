@@ -1,7 +1,7 @@
 //! The board: the machine over its memory, with the counts of a run.
 ghost use Rattle.std.specs.Prelude.{◌≡◌, ℕ, ◌+◌, ◌-◌, ◌*◌, ◌%◌, ◌^◌, ◌<◌, ◌≤◌, IfErr, IfOk, OnErr, IsSome, Option, Some, None, List};
 ghost use Rattle.std.specs.Borrow.{Lends, sem};
-ghost use Rattle.v8_core.specs.Answers.{Grows, Rose};
+ghost use Rattle.v8_core.specs.Answers.{Grows, failed_after};
 ghost use Rattle.v8_core.specs.Calls.{calls_by, most_calls};
 ghost use Rattle.v8_contained.specs.Board.{board};
 ghost use Rattle.v8_core.specs.Ram.{entry_of};
@@ -129,8 +129,7 @@ impl<const N: usize, P: Port> Board<N, P> {
         requires { ending_of N self.old.state.world ≡ None }
         ensures turn { IfOk result (λ turn. turned N self.old.state ≡ (turn, self.new.state)) }
         ensures state { OnErr result (self.new.state ≡ self.old.state) }
-        ensures count { self.old.failed ≤ self.new.failed }
-        ensures cause { OnErr result (Rose self.old.failed self.new.failed) }
+        ensures count { self.new.failed ≡ failed_after result self.old.failed }
         ensures calls { Grows (most_calls (λ turn. calls_by board self.old.state.world.memory.device turn.access) result) self.old.calls self.new.calls }
         ensures own { IfErr result (λ fault. self.new.fault ≡ fault) }
     {
@@ -149,8 +148,7 @@ impl<const N: usize, P: Port> Board<N, P> {
         requires { IsSome (ending_of N self.old.state.world) }
         ensures turn { IfOk result (λ turn. turned N self.old.state ≡ (turn, self.new.state)) }
         ensures state { OnErr result (self.new.state ≡ self.old.state) }
-        ensures count { self.old.failed ≤ self.new.failed }
-        ensures cause { OnErr result (Rose self.old.failed self.new.failed) }
+        ensures count { self.new.failed ≡ failed_after result self.old.failed }
         ensures calls { Grows (most_calls (λ turn. calls_by board self.old.state.world.memory.device turn.access) result) self.old.calls self.new.calls }
         ensures own { IfErr result (λ fault. self.new.fault ≡ fault) }
     {
@@ -158,15 +156,14 @@ impl<const N: usize, P: Port> Board<N, P> {
     }
 
     /// One turn, which is counted unless the machine has ended. On a fault of the port nothing has changed, page bits included, and
-    /// the port's count of failures rose. A loaded image stays contained, so no word of the page tables changes but in R and M, and
+    /// the port's count of failures rose by one, as it does nowhere else. A loaded image stays contained, so no word of the page tables changes but in R and M, and
     /// addresses translate as before: that is the law `v8_layout::laws::tables_stay`.
     pub fn step(&mut self) -> Result<Turn, PortFault>
         ensures turn { IfOk result (λ turn. turned N self.old.state ≡ (turn, self.new.state)) }
         ensures contained { Keeps N self.old.state self.new.state }
         ensures turn_is { IfOk result (λ turn. KeepsBy N self.old.state turn self.new.state) }
         ensures state { OnErr result (self.new.state ≡ self.old.state) }
-        ensures count { self.old.failed ≤ self.new.failed }
-        ensures cause { OnErr result (Rose self.old.failed self.new.failed) }
+        ensures count { self.new.failed ≡ failed_after result self.old.failed }
         ensures calls { Grows (most_calls (λ turn. calls_by board self.old.state.world.memory.device turn.access) result) self.old.calls self.new.calls }
         ensures own { IfErr result (λ fault. self.new.fault ≡ fault) }
     {
@@ -196,15 +193,14 @@ impl<const N: usize, P: Port> Board<N, P> {
 
     /// Runs to an end, but at most so many turns. After an end it tells that end again. On a fault of the port the board stands
     /// after the last whole turn, with fewer turns made than were allowed and no end met; with the turns that are left it goes on
-    /// as if nothing was. The port's count of failures rose. A loaded image stays contained.
+    /// as if nothing was. The port's count of failures rose by one, as it does nowhere else. A loaded image stays contained.
     pub fn run(&mut self, limit: u64) -> Result<Outcome, PortFault>
         ensures run { IfOk result (λ told. IsRun N limit self.old.state self.new.state) }
         ensures told { IfOk result (λ told. told ≡ outcome_of N self.new.state) }
         ensures contained { Keeps N self.old.state self.new.state }
         ensures stands { OnErr result (IsCutShort N limit self.old.state self.new.state) }
         ensures goes_on { OnErr result (GoesOn N limit self.old.state self.new.state) }
-        ensures count { self.old.failed ≤ self.new.failed }
-        ensures cause { OnErr result (Rose self.old.failed self.new.failed) }
+        ensures count { self.new.failed ≡ failed_after result self.old.failed }
         ensures own { IfErr result (λ fault. self.new.fault ≡ fault) }
     {
         for done in 0..limit {

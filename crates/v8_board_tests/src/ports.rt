@@ -1,6 +1,6 @@
 //! A port that fails when it is told to.
-ghost use Rattle.std.specs.Prelude.{◌≡◌, ℕ, ◌<◌, ◌≤◌};
-ghost use Rattle.v8_mmu.specs.Answers.{Rose, one_more};
+ghost use Rattle.std.specs.Prelude.{◌≡◌, ℕ};
+ghost use Rattle.v8_mmu.specs.Answers.{one_more};
 ghost use Rattle.v8_mmu.specs.Ram.{AreBytes};
 
 use v8_memory::Port;
@@ -41,8 +41,7 @@ impl Probe<'_> {
         ensures kept { self.new.kept ≡ self.old.kept }
         ensures calls { self.new.calls ≡ self.old.calls }
         ensures last { self.new.last ≡ fault }
-        ensures count { self.old.failures ≤ self.new.failures }
-        ensures rose { Rose self.old.failures self.new.failures }
+        ensures count { self.new.failures ≡ one_more self.old.failures }
     {
         self.failures = self.failures.saturating_add(1);
         self.last = fault;

@@ -1,7 +1,7 @@
 //! The machine: a processor and an MMU on a bus.
 ghost use Rattle.std.specs.Prelude.{◌≡◌, ℕ, ◌+◌, ◌*◌, ◌/◌, ◌%◌, ◌^◌, ◌<◌, ◌≤◌, ◌↔◌, IsTrue, IfErr, IfOk, IfSome, OnErr, if◌then◌else◌};
 ghost use Rattle.std.specs.Borrow.{Lends, sem};
-ghost use Rattle.v8_mmu.specs.Answers.{Grows, Rose};
+ghost use Rattle.v8_mmu.specs.Answers.{Grows, failed_after};
 ghost use Rattle.v8_mmu.specs.Paths.{LeadsTo};
 ghost use Rattle.v8_mmu.specs.Walked.{root_of};
 ghost use Rattle.v8_state.specs.Windows.{IsFile, reg_of, with_reg};
@@ -74,7 +74,7 @@ impl<const N: usize, B: Bus> Machine<N, B> {
     /// One turn (chapters 5 to 7). A machine that has stopped or is in error mode tells that again, without a word or an
     /// access, and changes nothing. The port is called at most once: by the access that is told of, where the bus's meaning says
     /// that it may be, or by the one that it failed. On its fault nothing has changed, page bits included, and its count of failures
-    /// rose, which never falls; the fault is the one that the port answered.
+    /// rose by one, as it does nowhere else; the fault is the one that the port answered.
     #[tactic(auto, unfolding(crate::specs::Steps::next))]
     #[inline(always)]
     pub fn step(&mut self) -> Result<Turn, PortFault>
@@ -85,8 +85,7 @@ impl<const N: usize, B: Bus> Machine<N, B> {
         ensures cpu { OnErr result (self.new.cpu ≡ self.old.cpu) }
         ensures ram { OnErr result (B.ram self.new.bus ≡ B.ram self.old.bus) }
         ensures device { OnErr result (B.device self.new.bus ≡ B.device self.old.bus) }
-        ensures count { B.failed self.old.bus ≤ B.failed self.new.bus }
-        ensures cause { OnErr result (Rose (B.failed self.old.bus) (B.failed self.new.bus)) }
+        ensures count { B.failed self.new.bus ≡ failed_after result (B.failed self.old.bus) }
         ensures calls { Grows (most_calls (λ turn. calls_by B.meaning (B.device self.old.bus) turn.access) result) (B.calls self.old.bus) (B.calls self.new.bus) }
         ensures own { IfErr result (λ fault. B.fault self.new.bus ≡ fault) }
     {

@@ -1,7 +1,7 @@
 //! RAM and the device, as a bus.
 ghost use Rattle.std.specs.Prelude.{◌≡◌, ℕ, ◌+◌, ◌*◌, ◌%◌, ◌-◌, ◌^◌, ◌<◌, ◌≤◌, ◌==◌, not, [], length, IfErr, IfOk, OnOk, OnErr, None, false, Option};
 ghost use Rattle.std.specs.Borrow.{sem};
-ghost use Rattle.v8_mmu.specs.Answers.{Grows, IfPort, OnPort, OnUnanswered, Rose, call_if, calls_of};
+ghost use Rattle.v8_mmu.specs.Answers.{Grows, IfPort, OnUnanswered, bus_failed_after, call_if, calls_of, failed_after};
 ghost use Rattle.v8_map.specs.declared.TheConstants.{RAM};
 ghost use Rattle.v8_memory.specs.Placing.{HasWords, HasBytesOf};
 ghost use Rattle.v8_mmu.specs.Ram.{AreBytes, entry_of};
@@ -118,8 +118,7 @@ impl<P: Port> Memory<P> {
         ensures stopped { self.new.stopped ≡ self.old.stopped }
         ensures input { OnErr result (P.input self.new.port ≡ P.input self.old.port) }
         ensures output { P.output self.new.port ≡ P.output self.old.port }
-        ensures count { P.failed self.old.port ≤ P.failed self.new.port }
-        ensures cause { OnErr result (Rose (P.failed self.old.port) (P.failed self.new.port)) }
+        ensures count { P.failed self.new.port ≡ failed_after result (P.failed self.old.port) }
         ensures calls { Grows (call_if (not self.old.ended)) (P.calls self.old.port) (P.calls self.new.port) }
         ensures own { IfErr result (λ fault. P.fault self.new.port ≡ fault) }
     {
@@ -147,8 +146,7 @@ impl<P: Port> Memory<P> {
         ensures stopped { OnErr result (self.new.stopped ≡ self.old.stopped) }
         ensures input { P.input self.new.port ≡ P.input self.old.port }
         ensures output { OnErr result (P.output self.new.port ≡ P.output self.old.port) }
-        ensures count { P.failed self.old.port ≤ P.failed self.new.port }
-        ensures cause { OnPort result (Rose (P.failed self.old.port) (P.failed self.new.port)) }
+        ensures count { P.failed self.new.port ≡ bus_failed_after result (P.failed self.old.port) }
         ensures calls { Grows (calls_of (place == 4) result) (P.calls self.old.port) (P.calls self.new.port) }
         ensures own { IfPort result (λ fault. P.fault self.new.port ≡ fault) }
     {

@@ -6,8 +6,8 @@ use v8_mmu::PortFault;
 /// An implementor says which bytes it has yet to give, which it was given, how often it was called and has failed, and which
 /// fault it answered last.
 pub trait Port: Drop {
-    ghost use Rattle.std.specs.Prelude.{◌≡◌, ℕ, ◌≤◌, List, [], ◌∷◌, ◌++◌, IfErr, IfOk, OnOk, OnErr};
-    ghost use Rattle.v8_mmu.specs.Answers.{Rose, one_more};
+    ghost use Rattle.std.specs.Prelude.{◌≡◌, ℕ, List, [], ◌∷◌, ◌++◌, IfErr, IfOk, OnOk, OnErr};
+    ghost use Rattle.v8_mmu.specs.Answers.{failed_after, one_more};
     ghost use Rattle.v8_mmu.specs.Ram.{AreBytes};
     ghost use Rattle.v8_mmu.specs.declared.bus.PortFault.{PortFault};
     ghost use Rattle.v8_memory.specs.Input.{next_byte};
@@ -27,23 +27,21 @@ pub trait Port: Drop {
     /// The fault that it answered last, once it has failed.
     ghost fault: { Self → PortFault };
 
-    /// The next byte, or None at the end of the input. A fault leaves input and output as they were.
+    /// The next byte, or None at the end of the input. A fault leaves input and output as they were, and is counted; nothing else is.
     fn get(&mut self) -> Result<Option<u8>, PortFault>
         ensures byte { IfOk result (λ byte. next_byte (input self.old) ≡ (byte, input self.new)) }
         ensures input { OnErr result (input self.new ≡ input self.old) }
         ensures output { output self.new ≡ output self.old }
-        ensures count { failed self.old ≤ failed self.new }
-        ensures cause { OnErr result (Rose (failed self.old) (failed self.new)) }
+        ensures count { failed self.new ≡ failed_after result (failed self.old) }
         ensures calls { calls self.new ≡ one_more (calls self.old) }
         ensures own { IfErr result (λ f. fault self.new ≡ f) };
 
-    /// Puts a byte out. A fault leaves input and output as they were.
+    /// Puts a byte out. A fault leaves input and output as they were, and is counted; nothing else is.
     fn put(&mut self, byte: u8) -> Result<(), PortFault>
         ensures ok { OnOk result (output self.new ≡ output self.old ++ byte ∷ []) }
         ensures output { OnErr result (output self.new ≡ output self.old) }
         ensures input { input self.new ≡ input self.old }
-        ensures count { failed self.old ≤ failed self.new }
-        ensures cause { OnErr result (Rose (failed self.old) (failed self.new)) }
+        ensures count { failed self.new ≡ failed_after result (failed self.old) }
         ensures calls { calls self.new ≡ one_more (calls self.old) }
         ensures own { IfErr result (λ f. fault self.new ≡ f) };
 

@@ -1,5 +1,5 @@
 -- Facts for each kind of a bus's answer, and the counts of a port's calls and failures.
-use Rattle.std.specs.Prelude.{ℕ, ◌+◌, ◌-◌, ◌^◌, ◌<◌, ◌≤◌, ◌==◌, Bool, true, false, Result, Ok, Err, if◌then◌else◌}
+use Rattle.std.specs.Prelude.{ℕ, ◌+◌, ◌-◌, ◌^◌, ◌≤◌, ◌==◌, Bool, true, false, Result, Ok, Err, if◌then◌else◌}
 use Rattle.v8_mmu.specs.declared.bus.PortFault.{PortFault}
 use Rattle.v8_mmu.specs.declared.bus.BusFault.{BusFault}
 use Rattle.v8_mmu.specs.declared.bus.BusFault.TheVariants.{Unanswered, Port}
@@ -9,12 +9,6 @@ abbrev pub OnUnanswered : {T : Type 0} → Result T BusFault → Type 0 → Type
 OnUnanswered (Ok x) P = Unit {0}
 OnUnanswered (Err Unanswered) P = P
 OnUnanswered (Err (Port p)) P = Unit {0}
-
--- where the port failed
-abbrev pub OnPort : {T : Type 0} → Result T BusFault → Type 0 → Type 0
-OnPort (Ok x) P = Unit {0}
-OnPort (Err Unanswered) P = Unit {0}
-OnPort (Err (Port p)) P = P
 
 -- a fact of the port's fault
 abbrev pub IfPort : {T : Type 0} → Result T BusFault → (PortFault → Type 0) → Type 0
@@ -41,6 +35,13 @@ calls_of asks (Ok x) = call_if asks
 calls_of asks (Err Unanswered) = 0
 calls_of asks (Err (Port p)) = call_if asks
 
--- a count of failures rose, unless it stood at the greatest number of 64 bits
-abbrev pub Rose : ℕ → ℕ → Type 0
-Rose old new = old < 2 ^ 64 - 1 → old < new
+-- a count of failures after an answer: one more where the answer is a fault of the port, and what it was anywhere else
+abbrev pub failed_after : {T : Type 0} → Result T PortFault → ℕ → ℕ
+failed_after (Ok x) before = before
+failed_after (Err fault) before = one_more before
+
+-- the same of a bus's answer: nothing fails where nothing answers
+abbrev pub bus_failed_after : {T : Type 0} → Result T BusFault → ℕ → ℕ
+bus_failed_after (Ok x) before = before
+bus_failed_after (Err Unanswered) before = before
+bus_failed_after (Err (Port p)) before = one_more before

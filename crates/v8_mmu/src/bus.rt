@@ -28,13 +28,14 @@ pub enum Stop {
 ///
 /// An implementor says what its RAM holds, what state its device is in, how often its port was called and has failed, which
 /// fault the port answered last, and, as its `meaning`, what loads, stores and exchanges do with RAM and device, and which of
-/// them may call the port. An access calls the port at most once, and writes no byte of RAM but those that it stores.
+/// them may call the port. An access calls the port at most once, counts one failure where it answers the port's fault and none
+/// elsewhere, and writes no byte of RAM but those that it stores.
 pub trait Bus {
     ghost use Rattle.v8_mmu.specs.Meaning.{Meaning, bytes_in, limit_of};
     ghost use Rattle.v8_mmu.specs.Ram.{entry_of, with_entry, HasBytes, KeepsWords};
-    ghost use Rattle.v8_mmu.specs.Answers.{Grows, IfPort, OnUnanswered, OnPort, Rose, calls_of};
+    ghost use Rattle.v8_mmu.specs.Answers.{Grows, IfPort, OnUnanswered, bus_failed_after, calls_of};
     ghost use Rattle.v8_mmu.specs.declared.bus.PortFault.{PortFault};
-    ghost use Rattle.std.specs.Prelude.{◌≡◌, ℕ, ◌<◌, ◌≤◌, List, Option, Some, None, true, false, IsSome, IfOk, OnOk, OnErr};
+    ghost use Rattle.std.specs.Prelude.{◌≡◌, ℕ, ◌<◌, List, Option, Some, None, true, false, IsSome, IfOk, OnOk, OnErr};
 
     /// What the device's state is.
     ghost Device: { Type 0 };
@@ -78,9 +79,8 @@ pub trait Bus {
         ensures refused { OnUnanswered result (meaning.load (ram self.old) (device self.old) pa size ≡ None) }
         ensures ram { ram self.new ≡ ram self.old }
         ensures device { OnErr result (device self.new ≡ device self.old) }
-        ensures count { failed self.old ≤ failed self.new }
+        ensures count { failed self.new ≡ bus_failed_after result (failed self.old) }
         ensures calls { Grows (calls_of (meaning.asks (device self.old) pa size false) result) (calls self.old) (calls self.new) }
-        ensures port { OnPort result (Rose (failed self.old) (failed self.new)) }
         ensures own { IfPort result (λ f. fault self.new ≡ f) };
 
     /// Writes a number to the bytes of this size at `pa`.
@@ -91,9 +91,8 @@ pub trait Bus {
         ensures elsewhere { KeepsWords (ram self.old) (ram self.new) pa (bytes_in size) }
         ensures ram { OnErr result (ram self.new ≡ ram self.old) }
         ensures device { OnErr result (device self.new ≡ device self.old) }
-        ensures count { failed self.old ≤ failed self.new }
+        ensures count { failed self.new ≡ bus_failed_after result (failed self.old) }
         ensures calls { Grows (calls_of (meaning.asks (device self.old) pa size true) result) (calls self.old) (calls self.new) }
-        ensures port { OnPort result (Rose (failed self.old) (failed self.new)) }
         ensures own { IfPort result (λ f. fault self.new ≡ f) };
 
     /// Writes a number to the bytes of this size at `pa` and gives the number that was there, as one access.
@@ -105,9 +104,8 @@ pub trait Bus {
         ensures elsewhere { KeepsWords (ram self.old) (ram self.new) pa (bytes_in size) }
         ensures ram { OnErr result (ram self.new ≡ ram self.old) }
         ensures device { OnErr result (device self.new ≡ device self.old) }
-        ensures count { failed self.old ≤ failed self.new }
+        ensures count { failed self.new ≡ bus_failed_after result (failed self.old) }
         ensures calls { Grows (calls_of (meaning.asks (device self.old) pa size true) result) (calls self.old) (calls self.new) }
-        ensures port { OnPort result (Rose (failed self.old) (failed self.new)) }
         ensures own { IfPort result (λ f. fault self.new ≡ f) };
 
     /// What stopped the machine, once something has.

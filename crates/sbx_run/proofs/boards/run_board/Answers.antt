@@ -1,5 +1,4 @@
 use Rattle.std.proofs.Common.{◌∙◌, ap, inl, inr, subst, sym, rules}
-use Rattle.v8_mmu.specs.Answers.{Rose}
 use Rattle.v8_memory.specs.Board.{Device}
 use Rattle.v8_board.specs.Contains.{Contains}
 use Rattle.v8_board.specs.Runs.{IsCutShort, IsRun}
@@ -27,9 +26,6 @@ returns-in-Err-clause-state g c =
 pub returns-in-Err-clause-contained : goal.returns-in-Err-clause-contained
 returns-in-Err-clause-contained g c =
     c.in-Err.ensures.contained c.args.accepted.now (subst (λ (p : Parts). Contains g.row.N p c.load.new.self.state) c.image-image.ensures.image c.load.ensures.contained)
-
-pub returns-in-Err-clause-cause : goal.returns-in-Err-clause-cause
-returns-in-Err-clause-cause g c = subst (λ k. Rose k c.run.new.self.failed) c.load.ensures.failed c.in-Err.ensures.cause
 
 pub unreachable-requires : goal.unreachable-requires
 unreachable-requires g c =

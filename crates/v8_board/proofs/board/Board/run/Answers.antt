@@ -1,16 +1,16 @@
-use Rattle.std.proofs.Common.{sym, ◌∙◌, arith}
+use Rattle.std.proofs.Common.{refl, sym, ◌∙◌, arith}
 use Rattle.v8_board.proofs.Running.{no_turns, one_turn_more, ended_run, whole_run, cut_short}
 use Rattle.v8_board.proofs.Joined.{goes_on}
 use Rattle.v8_board.proofs.Contained.{run_kept, cut_kept}
 use Rattle.v8_board.proofs.board.Board.run.Goals as goal
 
 pub loop-done-init : goal.loop-done-init
-loop-done-init g c = (no_turns _ _, omega arith)
+loop-done-init g c = (no_turns _ _, refl)
 
 pub loop-done-preserved : goal.loop-done-preserved
 loop-done-preserved g c = (
   one_turn_more g.row.N c.loop-done.done c.args.self.now.state c.loop-done.self.state c.turn.new.self.state c.in-Ok._turn c.loop-done.invariant.0 (sym c.ending.ensures ∙ c.in-None.is) c.in-Ok.ensures.turn,
-  omega (arith, c.loop-done.invariant.1, c.turn.ensures.count),
+  c.in-Ok.ensures.count ∙ c.loop-done.invariant.1,
 )
 
 pub returns-in_default-clause-run : goal.returns-in_default-clause-run

@@ -7,13 +7,10 @@ unfolding turned
 returns-in-Ok-clause-turn g c = search rules
 
 pub returns-in-Ok-clause-count : goal.returns-in-Ok-clause-count
-returns-in-Ok-clause-count g c = rw (sym (ap (λ (s : Seen g.row.N). s.failed) c.self.view_is)) c.step.ensures.count
+returns-in-Ok-clause-count g c = rw (sym (ap (λ (s : Seen g.row.N). s.failed) c.self.view_is)) c.in-Ok.ensures.count
 
 pub returns-in-Err-clause-count : goal.returns-in-Err-clause-count
-returns-in-Err-clause-count g c = rw (sym (ap (λ (s : Seen g.row.N). s.failed) c.self.view_is)) c.step.ensures.count
-
-pub returns-in-Err-clause-cause : goal.returns-in-Err-clause-cause
-returns-in-Err-clause-cause g c = rw (sym (ap (λ (s : Seen g.row.N). s.failed) c.self.view_is)) c.in-Err.ensures.cause
+returns-in-Err-clause-count g c = rw (sym (ap (λ (s : Seen g.row.N). s.failed) c.self.view_is)) c.in-Err.ensures.count
 
 pub returns-in-Err-clause-state : goal.returns-in-Err-clause-state
 returns-in-Err-clause-state g c =
