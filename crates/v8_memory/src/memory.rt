@@ -194,6 +194,7 @@ impl<P: Port> Bus for Memory<P> {
         self.ram.set_entry(pa, word);
     }
 
+    #[inline(always)]
     fn read(&mut self, pa: u64, size: Size) -> Result<u64, BusFault> {
         if pa < DEVICE_PLACE {
             return match self.ram.read(pa, size) {
@@ -215,6 +216,7 @@ impl<P: Port> Bus for Memory<P> {
         }
     }
 
+    #[inline(always)]
     fn write(&mut self, pa: u64, size: Size, value: u64) -> Result<(), BusFault> {
         if pa < DEVICE_PLACE {
             return if self.ram.write(pa, size, value) {
