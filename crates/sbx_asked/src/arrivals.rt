@@ -36,15 +36,34 @@ fn push_declared(
     )
 }
 
-fn push_cells(out: &mut String, cells: &[Cell], state: &State) -> Result<(), AllocError> {
+/// The cells of the block at an address, if it has any.
+fn push_cells(
+    out: &mut String,
+    address: u32,
+    cells: &[Cell],
+    state: &State,
+) -> Result<(), AllocError> {
+    if cells.is_empty() {
+        return Ok(());
+    }
+    writeln!(out, "\nafter it, where the block at {address:08X} begins:")?;
     for cell in cells {
         push_declared(out, cell.location, cell.range, state.range(cell.location))?;
     }
     Ok(())
 }
 
-/// Parameters or results, which stand in %o0 and on.
-fn push_outs(out: &mut String, ranges: &[Range], state: &State) -> Result<(), AllocError> {
+/// Parameters or results, which stand in %o0 and on, under a heading, if there are any.
+fn push_outs(
+    out: &mut String,
+    heading: &str,
+    ranges: &[Range],
+    state: &State,
+) -> Result<(), AllocError> {
+    if ranges.is_empty() {
+        return Ok(());
+    }
+    writeln!(out, "\nafter it, {heading}:")?;
     let mut location = 8u16;
     for range in ranges {
         push_declared(out, location, *range, state.range(location))?;
@@ -64,14 +83,12 @@ fn push_begins(
     requires function { function < length image.now.functions }
     requires well { IsWell image.now function (Going.To block) }
 {
-    let declared = block_at(image, function, block);
-    let address = declared.address;
-    writeln!(out, "\nafter it, where the block at {address:08X} begins:")?;
     if block == 0 {
-        push_outs(out, function_at(image, function).params.as_slice(), after)
-    } else {
-        push_cells(out, declared.cells.as_slice(), after)
+        let params = function_at(image, function).params.as_slice();
+        return push_outs(out, "where the function begins", params, after);
     }
+    let declared = block_at(image, function, block);
+    push_cells(out, declared.address, declared.cells.as_slice(), after)
 }
 
 /// Where a way leads to another block, what that begins with, beside what is known after the word.
@@ -113,12 +130,8 @@ fn push_return(
                 ..
             },
         ) => {
-            out.push_str("\nafter it, back in the caller:\n")?;
-            push_outs(
-                out,
-                function_at(image, spot.function).results.as_slice(),
-                after,
-            )
+            let results = function_at(image, spot.function).results.as_slice();
+            push_outs(out, "back in the caller", results, after)
         }
         _ => Ok(()),
     }
@@ -130,8 +143,13 @@ fn push_call(out: &mut String, image: &Image, spot: &Spot, state: &State) -> Res
 {
     match spot.called {
         Some(callee) => {
-            out.push_str("\nafter it, where the function that is called begins:\n")?;
-            push_outs(out, function_at(image, callee).params.as_slice(), state)
+            let params = function_at(image, callee).params.as_slice();
+            push_outs(
+                out,
+                "where the function that is called begins",
+                params,
+                state,
+            )
         }
         None => Ok(()),
     }

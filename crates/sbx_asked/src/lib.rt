@@ -2,9 +2,8 @@
 #![tactic(auto)]
 
 mod arrivals;
-mod fuel;
 mod room;
 
 pub use arrivals::push_arrivals;
-pub use fuel::push_fuel;
 pub use room::push_room;
+pub use sbx_worked::push_fuel;

@@ -5,9 +5,14 @@ use sbx_image::Image;
 use sbx_inspect::{RoomSides, Sight, call_room, entry_room, stack_room};
 use std::alloc::AllocError;
 
+/// The two sides; an arrow marks where the room isn't enough.
 fn push_sides(out: &mut String, sides: RoomSides, asker: &str) -> Result<(), AllocError> {
     let RoomSides { room, needed } = sides;
-    writeln!(out, "  {room} bytes, and {needed} are asked for {asker}")
+    let mark = if needed > room { "   <-" } else { "" };
+    writeln!(
+        out,
+        "  {room} bytes, and {needed} are asked for {asker}{mark}"
+    )
 }
 
 /// The two sides of the rule of stack room: at the function's entry, at that of function 0, and at a call.

@@ -1,6 +1,7 @@
 //! Runs of an image that is accepted. At a want of memory each call is asked once more, and then has to give what it gives with ample
 //! memory; any other fault fails the test.
 
+use sbx_batch::{Batch, run_batch};
 use sbx_image::{Image, ImageFault, parse, write};
 use sbx_run::{
     Accepted, Cause, Ending, Finished, Raw, RunFault, run_accepted, run_raw, run_windows, trace,
@@ -143,6 +144,41 @@ fn runs_on_four(alloc: Global) -> bool {
 #[test]
 fn a_run_on_a_count_of_windows_ends(rt: HostRuntime) {
     assert!(rt; runs_on_four(rt.alloc()));
+}
+
+/// The runs of an image on an input of one byte and on none, on one board of four windows; none where a fault is told that isn't want
+/// of memory.
+fn answers_of(alloc: Global, image: &Accepted) -> Option<Vec<Finished>> {
+    let batch = [Batch { image, input: b"A" }, Batch { image, input: b"" }];
+    match run_batch::<4>(alloc, &batch) {
+        Ok(answers) => Some(answers),
+        Err(RunFault::Memory(_)) => run_batch::<4>(alloc, &batch).ok(),
+        Err(_) => None,
+    }
+}
+
+/// Whether there are two, each as it has to be.
+fn are_finished(answers: &[Finished]) -> bool {
+    match answers {
+        [first, second] => is_finished(first) && is_finished(second),
+        _ => false,
+    }
+}
+
+/// Whether the runs on one board are as they have to be.
+fn runs_twice(alloc: Global) -> bool {
+    let Some(accepted) = accepted(alloc) else {
+        return false;
+    };
+    match answers_of(alloc, &accepted) {
+        Some(answers) => are_finished(answers.as_slice()),
+        None => false,
+    }
+}
+
+#[test]
+fn runs_on_one_board_end(rt: HostRuntime) {
+    assert!(rt; runs_twice(rt.alloc()));
 }
 
 /// Takes so many bytes, one a call, and then fails. Its room is its own, so that no refused growth is its.

@@ -5,5 +5,5 @@ mod reads;
 mod sights;
 mod values;
 
-pub use sights::{push_known, push_sight};
+pub use sights::{push_going, push_known, push_sight};
 pub use values::{Known, push_form};

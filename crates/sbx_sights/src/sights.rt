@@ -8,10 +8,11 @@ use crate::reads::{Registers, frame_word_read, reads_codes, reads_y, registers_r
 use crate::values::Known;
 use sbx_declare::Location;
 use sbx_domain::State;
-use sbx_image::{Image, Range};
+use sbx_image::{Function, Image, Range};
 use sbx_inspect::Sight;
 use sbx_known::{Course, Going, Spot, block_at, function_at};
 use std::alloc::AllocError;
+use v8_meaning::Operation;
 
 /// Where a way leads.
 pub fn push_going(
@@ -100,6 +101,15 @@ fn push_reads(out: &mut String, image: &Image, spot: &Spot, state: &State) -> Re
     push_flags(out, codes, y, state)
 }
 
+/// Whether an operation reads nothing that has a range, nor the condition codes: so SAVE, CALL and the returns, which read %sp, %i7 or
+/// %o7 alone.
+fn reads_nothing(function: &Function, operation: &Operation) -> bool {
+    registers_read(function, operation).is_empty()
+        && frame_word_read(function, operation).is_none()
+        && !reads_codes(operation)
+        && !reads_y(operation)
+}
+
 /// A way on which a word runs, with what is known before the word of what it reads.
 fn push_course(
     out: &mut String,
@@ -118,6 +128,9 @@ fn push_course(
     push_going(out, image, spot.function, course.going)?;
     if course.annulled {
         return out.push_str(" the word is annulled\n");
+    }
+    if reads_nothing(function_at(image, spot.function), &spot.operation) {
+        return out.push_str(" it reads nothing that has a range\n");
     }
     out.push_str(" it reads what is known so:\n")?;
     push_reads(out, image, spot, state)

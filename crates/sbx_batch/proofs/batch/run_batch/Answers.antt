@@ -1,0 +1,43 @@
+use Rattle.std.proofs.Common.{List, ◌+◌, drop, subst, sym}
+use Rattle.v8_board.specs.Start.{IsNew}
+use Rattle.sbx_raw.specs.Ports.{Held}
+use Rattle.sbx_run.specs.declared.runner.Finished.{Finished}
+use Rattle.sbx_batch.proofs.Following.{Completes, all_done, one_more}
+use Rattle.sbx_batch.proofs.batch.run_batch.Goals as goal
+
+pub loop-each-init : goal.loop-each-init
+loop-each-init g c =
+    let board = c.in-Ok.board.state in
+    let batch = c.args.batch.now in (
+      c.in-Ok.ensures.state,
+      (
+        board,
+        subst (λ (h : Held). IsNew g.row.N h.input h.output board) c.new.ensures c.in-Ok.ensures.made,
+        subst (λ (done : List Finished). Completes g.row.N board batch done board batch) (sym c.new-answers.ensures.items) (λ more end rest. rest),
+      ),
+    )
+
+pub loop-each-preserved : goal.loop-each-preserved
+loop-each-preserved g c =
+    let (state, (made, new, completes)) = c.loop-each.invariant in
+    let batch = c.args.batch.now in
+    let i = c.loop-each.each-index in
+    let mid = c.run_next.new.board.state in (
+      c.in-Ok-run_next.ensures.state,
+      (
+        made,
+        new,
+        subst (λ (done : List Finished). Completes g.row.N made batch done mid (drop (i + 1) batch)) (sym c.in-Ok-push.ensures.items)
+            (one_more g.row.N made c.loop-each.board.state mid batch c.loop-each.answers.items i c.each-item.result c.in-Ok-run_next.finished c.loop-each-test.true c.each-item.is c.in-Ok-run_next.ensures.next completes),
+      ),
+    )
+
+pub returns-clause-answers : goal.returns-clause-answers
+returns-clause-answers g c =
+    let (state, (made, new, completes)) = c.loop-each.invariant in
+    record {
+      made = made;
+      end = c.loop-each.board.state;
+      new = new;
+      runs = all_done g.row.N made c.loop-each.board.state c.args.batch.now c.loop-each.answers.items c.loop-each.each-index c.loop-each-test.false completes;
+    }

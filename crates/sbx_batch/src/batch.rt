@@ -1,0 +1,87 @@
+//! Runs that follow one another on one board.
+ghost use Rattle.std.specs.Prelude.{◌≡◌, ◌≤◌, IfErr, IfOk, OnOk};
+ghost use Rattle.v8_loaded.specs.States.{IsState};
+ghost use Rattle.sbx_batch.specs.Batches.{AreAnswers, IsNext, with_input};
+ghost use Rattle.want.specs.Wants.{refused};
+
+use sbx_raw::{SlicePort, fault_of};
+use sbx_run::{Accepted, Finished, RunFault, run_board, tells_limits};
+use std::alloc::Global;
+use v8_board::Board;
+use want::Want;
+
+/// An accepted image, and the input that it is run on.
+#[derive(Clone, Copy)]
+pub struct Batch<'a> {
+    pub image: &'a Accepted,
+    pub input: &'a [u8],
+}
+
+/// Gives a board another input, and takes away what was put out. Registers, Y and RAM stay.
+fn set_back<'a, const N: usize>(alloc: Global, board: &mut Board<N, SlicePort<'a>>, input: &'a [u8])
+    ensures { board.new.state ≡ with_input board.old.state input.now }
+{
+    *board.port_mut() = SlicePort::new(alloc, input);
+}
+
+/// Runs an accepted image on an input to its end, on a board as an earlier run has left it. The only fault is `RunFault::Memory`.
+fn run_next<'a, const N: usize>(
+    alloc: Global,
+    board: &mut Board<N, SlicePort<'a>>,
+    accepted: &Accepted,
+    input: &'a [u8],
+) -> Result<Finished, RunFault>
+    requires { IsState N board.old.state.mmu board.old.state.world }
+    ensures next { IfOk result (λ finished. IsNext N accepted.now input.now finished board.old.state board.new.state) }
+    ensures state { OnOk result (IsState N board.new.state.mmu board.new.state.world) }
+    ensures fault { IfErr result (λ fault. fault ≡ RunFault.Memory refused) }
+{
+    tells_limits(accepted.image());
+    set_back(alloc, board, input);
+    let ended = match run_board(board, accepted) {
+        Ok(ended) => ended,
+        Err(fault) => return Err(fault_of(board, fault)),
+    };
+    let mut output = Vec::new(alloc);
+    match output.extend_from_slice(board.port().output()) {
+        Ok(()) => Ok(Finished {
+            status: ended.status,
+            output,
+            turns: ended.turns,
+            overflows: ended.overflows,
+            underflows: ended.underflows,
+            pages: ended.pages,
+        }),
+        Err(error) => Err(RunFault::from(error)),
+    }
+}
+
+/// Runs accepted images, each on its input and to its end, one after another on one board of `N` windows, 4 to 32, and gives what each
+/// run gave, in order. Between two of them the board is loaded, and nothing is cleared: registers, Y and the stack's bytes are what
+/// the run before left. Yet status, output, turns, overflows and underflows are those of `run_accepted` on the image and the input
+/// alone, and the pages are those of the run itself. The only fault is `RunFault::Memory`, and then nothing is given.
+pub fn run_batch<const N: usize>(
+    alloc: Global,
+    batch: &[Batch<'_>],
+) -> Result<Vec<Finished>, RunFault>
+    requires { (4 ≤ N) × (N ≤ 32) }
+    ensures answers { IfOk result (λ answers. AreAnswers N batch.now answers.items) }
+    ensures fault { IfErr result (λ fault. fault ≡ RunFault.Memory refused) }
+{
+    let mut board = match Board::<N, _>::new(alloc, SlicePort::new(alloc, b"")) {
+        Ok(board) => board,
+        Err(error) => return Err(RunFault::from(error)),
+    };
+    let mut answers = Vec::new(alloc);
+    for each in batch {
+        let finished = match run_next(alloc, &mut board, each.image, each.input) {
+            Ok(finished) => finished,
+            Err(fault) => return Err(fault),
+        };
+        match answers.push(finished) {
+            Ok(()) => {}
+            Err(failed) => return Err(RunFault::Memory(Want::from(failed))),
+        }
+    }
+    Ok(answers)
+}
