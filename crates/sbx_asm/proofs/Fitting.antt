@@ -1,5 +1,5 @@
 -- Each line keeps the numbers of a draft within their fields, and so the image of a source has no others.
-use Rattle.std.proofs.Common.{◌≡◌, ℕ, ◌+◌, ◌-◌, ◌*◌, ◌^◌, ◌<◌, ◌≤◌, Bool, true, false, ltb, leb, ℤ, pos, List, [], ◌∷◌, ◌++◌, length, map, drop, Option, None, Some, IfSome, Result, Ok, Err, IfOk, subst, arith}
+use Rattle.std.proofs.Common.{◌≡◌, ℕ, ◌+◌, ◌-◌, ◌*◌, ◌^◌, ◌<◌, ◌≤◌, Bool, true, false, ltb, leb, ℤ, pos, List, [], ◌∷◌, ◌++◌, length, map, drop, Option, None, Some, IfSome, Result, Ok, Err, IfOk, subst, ◌∙◌, arith}
 use Rattle.std.specs.Prelude.{replicate, not, ◌&&◌, FitsSigned}
 use Rattle.std.specs.Option.{is_some, unwrap_or}
 use Rattle.std.specs.Int.{w64}
@@ -43,14 +43,19 @@ use Rattle.sbx_asm.specs.declared.place.Place.{Place}
 use Rattle.sbx_asm.specs.declared.opening.Head.{Head}
 use Rattle.sbx_asm.specs.declared.opening.OpenBlock.{OpenBlock}
 use Rattle.sbx_asm.specs.declared.draft.Draft.{Draft}
-use Rattle.sbx_asm.specs.Places.{code_end, data_end, has_room, moved_on, padding, directed, place_after}
-use Rattle.sbx_asm.specs.Labels.{Values, Labels}
-use Rattle.sbx_asm.specs.Drafts.{block_of, function_of, is_code, noted_where, told_empty, with_block, close_block, with_function, close_headed, close_function, counted, fresh_block, open_block, headed, begin_function, begin_block_of, begin_block, malformed, takes_ranges, takes_annotations, param_if, add_param, result_if, add_result, cell_if, add_cell, term_if, add_term, fuel_if, fuel_by, add_fuel, services_by, add_services, stack_by, add_stack, data_checked, with_data, with_zeros, add_values, add_zeros, instruction_checked, with_words, directive_does, instruction_does, statement_does, behind_labels, draft_tokens, numbered_line, draft_line, empty_draft}
+use Rattle.sbx_asm.specs.Stages.Places.{code_end, data_end, has_room, moved_on, padding, directed, place_after}
+use Rattle.sbx_asm.specs.Rules.{Values, is_code}
+use Rattle.sbx_asm.specs.Stages.Labels.{Labels}
+use Rattle.sbx_asm.specs.Stages.Drafts.{block_of, function_of, noted_where, told_empty, with_block, close_block, with_function, close_headed, close_function, counted, fresh_block, open_block, headed, begin_function, begin_block_of, begin_block, malformed, takes_ranges, takes_annotations, param_if, add_param, result_if, add_result, cell_if, add_cell, term_if, add_term, fuel_if, fuel_by, add_fuel, services_by, add_services, stack_by, add_stack, data_checked, with_data, with_zeros, add_values, add_zeros, instruction_checked, with_words, directive_does, instruction_does, statement_does, behind_labels, draft_tokens, numbered_line, draft_line, empty_draft}
 use Rattle.sbx_asm.specs.Lines.{lines_of}
-use Rattle.sbx_asm.specs.Meaning.{all_lines, labels_in, draft_in, filled, parts_in, kept, judged, source_image}
+use Rattle.sbx_asm.specs.Items.{all_lines}
+use Rattle.sbx_asm.specs.Images.{filled}
+use Rattle.sbx_asm.specs.Meaning.{kept, judged, source_image}
+use Rattle.sbx_asm.specs.Stages.Whole.{labels_in, draft_in, parts_in, image_made}
 use Rattle.sbx_asm.specs.Laws.{MeantImagesFitTheirFields}
 use Rattle.sbx_asm.proofs.Wholes.{append_all, copies_all, fold_all}
 use Rattle.sbx_asm.proofs.StatementWords.{AreSpelled, source_spelled}
+use Rattle.sbx_asm.proofs.Agreement.{stages_agree}
 use Rattle.sbx_asm.proofs.Numbers.{Fits, StatementFits, statement_fits}
 use Rattle.sbx_asm.proofs.DataBytes.{Bytes, numbered_bytes, data_bytes}
 
@@ -110,12 +115,10 @@ place_within line ts statements.Instruction p h = moved_within code_end p.next_w
 -- ---- functions and blocks
 
 where_fits : (t : Bool) (cause : Cause) (d : Draft) → DraftFits d → DraftFits (noted_where t cause d)
-where_fits true cause d h = h
-where_fits false cause d h = h
+where_fits t cause d h = h
 
 told_fits : (t : Bool) (b : OpenBlock) (d : Draft) → DraftFits d → DraftFits (told_empty t b d)
-told_fits true b d h = h
-told_fits false b d h = h
+told_fits t b d h = h
 
 no_fuel : FitsSigned w64 (pos 0)
 no_fuel = record { sfits = omega (arith, ints) }
@@ -160,8 +163,7 @@ unfolding close_function
 close_function_fits d h = close_headed_fits d.function.head d h.1.head h
 
 counted_fits : (t : Bool) (d : Draft) → DraftFits d → DraftFits (counted t d)
-counted_fits true d h = h
-counted_fits false d h = h
+counted_fits t d h = h
 
 fresh_block_fits : (d : Draft) → DraftFits d → DraftFits (fresh_block d)
 fresh_block_fits d h = let within = h.0.next in (h.0, h.1, record { address = omega arith; fuel = no_fuel; cells = h.2.cells; terms = h.2.terms })
@@ -201,8 +203,7 @@ unfolding add_param
 add_param_fits r d fits h = by (takes_ranges d.function d.block)
   where
     by : (t : Bool) → DraftFits (param_if t r d)
-    by true = where_fits (leb 6 (length d.function.params)) causes.Limit _
-        (h.0, record { head = h.1.head; params = append_all IsTypedRange d.function.params (r ∷ []) h.1.params (fits, tt); results = h.1.results; blocks = h.1.blocks }, h.2)
+    by true = (h.0, record { head = h.1.head; params = append_all IsTypedRange d.function.params (r ∷ []) h.1.params (fits, tt); results = h.1.results; blocks = h.1.blocks }, h.2)
     by false = h
 
 add_result_fits : (r : Range) (d : Draft) → IsTypedRange r → DraftFits d → DraftFits (add_result r d)
@@ -210,8 +211,7 @@ unfolding add_result
 add_result_fits r d fits h = by (takes_ranges d.function d.block)
   where
     by : (t : Bool) → DraftFits (result_if t r d)
-    by true = where_fits (leb 6 (length d.function.results)) causes.Limit _
-        (h.0, record { head = h.1.head; params = h.1.params; results = append_all IsTypedRange d.function.results (r ∷ []) h.1.results (fits, tt); blocks = h.1.blocks }, h.2)
+    by true = (h.0, record { head = h.1.head; params = h.1.params; results = append_all IsTypedRange d.function.results (r ∷ []) h.1.results (fits, tt); blocks = h.1.blocks }, h.2)
     by false = h
 
 add_cell_fits : (c : Cell) (d : Draft) → IsTypedCell c → DraftFits d → DraftFits (add_cell c d)
@@ -219,8 +219,7 @@ unfolding add_cell
 add_cell_fits c d fits h = by (takes_annotations d.function d.block)
   where
     by : (t : Bool) → DraftFits (cell_if t c d)
-    by true = where_fits (leb c.location d.block.last_cell) causes.Directive _ (where_fits (leb 64 (length d.block.cells)) causes.Limit _
-        (h.0, h.1, record { address = h.2.address; fuel = h.2.fuel; cells = append_all IsTypedCell d.block.cells (c ∷ []) h.2.cells (fits, tt); terms = h.2.terms }))
+    by true = (h.0, h.1, record { address = h.2.address; fuel = h.2.fuel; cells = append_all IsTypedCell d.block.cells (c ∷ []) h.2.cells (fits, tt); terms = h.2.terms })
     by false = h
 
 add_term_fits : (t : Term) (d : Draft) → IsTypedTerm t → DraftFits d → DraftFits (add_term t d)
@@ -228,8 +227,7 @@ unfolding add_term
 add_term_fits x d fits h = by (takes_annotations d.function d.block)
   where
     by : (t : Bool) → DraftFits (term_if t x d)
-    by true = where_fits (leb x.location d.block.last_term) causes.Directive _ (where_fits (leb 8 (length d.block.terms)) causes.Limit _
-        (h.0, h.1, record { address = h.2.address; fuel = h.2.fuel; cells = h.2.cells; terms = append_all IsTypedTerm d.block.terms (x ∷ []) h.2.terms (fits, tt) }))
+    by true = (h.0, h.1, record { address = h.2.address; fuel = h.2.fuel; cells = h.2.cells; terms = append_all IsTypedTerm d.block.terms (x ∷ []) h.2.terms (fits, tt) })
     by false = h
 
 add_fuel_fits : (z : ℤ) (d : Draft) → FitsSigned w64 z → DraftFits d → DraftFits (add_fuel z d)
@@ -387,8 +385,11 @@ judged_fits : (after : ℕ) (o : Option AsmFault) (p parts : Parts) → PartsFit
 judged_fits after (Some f) p parts h e = absurd (cc)
 judged_fits after None p parts h e = kept_fits after p parts (parts_keep p) h e
 
-pub meant_images_fit : MeantImagesFitTheirFields
-unfolding source_image
-meant_images_fit source parts told =
+made_images_fit : (source : List ℕ) (parts : Parts) → image_made source ≡ Ok parts → PartsFit parts
+unfolding image_made
+made_images_fit source parts told =
     let d : Draft = close_function (draft_in (labels_in source) source) in
     judged_fits (length (lines_of source) + 1) d.fault (parts_in d) parts (parts_fit d (close_function_fits (draft_in (labels_in source) source) (draft_fits (labels_in source) source))) told
+
+pub meant_images_fit : MeantImagesFitTheirFields
+meant_images_fit source parts told = made_images_fit source parts (stages_agree source ∙ told)

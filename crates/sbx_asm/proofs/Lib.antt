@@ -7,4 +7,14 @@ mod Wholes
 mod StatementWords
 mod Numbers
 mod DataBytes
+mod Standing
+mod Labelling
+mod Following
+mod Orders
+mod Telling
+mod Turning
+mod Making
+mod Agreement
+mod Meanings
+mod Worked
 pub mod Fitting

@@ -3,7 +3,7 @@ use Rattle.std.proofs.Common.{◌≡◌, ℕ, suc, ◌-◌, ◌+◌, ◌≤◌, 
 use Rattle.std.specs.List.{fold}
 use Rattle.sbx_text.specs.declared.Token.{Token}
 use Rattle.v8_syntax.specs.Words.{bytes_between}
-use Rattle.sbx_asm.specs.Labels.{label_names}
+use Rattle.sbx_asm.specs.Items.{label_names}
 
 module _ {S : Type 0} (f : S → List ℕ → S) (line : List ℕ) (count i : ℕ) (s : S) (total : S) where
   pub at_tokens : (ts us : List Token) → ts ≡ us → fold f s (label_names line (count - i) ts) ≡ total → fold f s (label_names line (count - i) us) ≡ total

@@ -3,7 +3,8 @@ use Rattle.std.proofs.Common.{◌≡◌, ℕ, ◌+◌, ◌<◌, ◌≤◌, Bool,
 use Rattle.std.specs.Prelude.{◌==◌, ◌&&◌}
 use Rattle.std.specs.Option.{unwrap_or}
 use Rattle.std.proofs.lemmas.List.{append-nil, drop_more, drop_all, take_more, take_all}
-use Rattle.sbx_asm.specs.Lines.{starts_with, in_front, lines_of, after_end, up_to, first_line, after_line}
+use Rattle.sbx_asm.specs.Lines.{starts_with, in_front, lines_of}
+use Rattle.sbx_asm.specs.Stages.FirstLine.{after_end, up_to, first_line, after_line}
 
 -- LF behind a CR
 at_end : (bytes : List ℕ) → starts_with 10 bytes ≡ true → lines_of bytes ≡ [] ∷ lines_of (drop 1 bytes)

@@ -2,8 +2,9 @@
 use Rattle.std.proofs.Common.{◌≡◌, ℕ, ◌+◌, ◌≤◌, ◌<◌, List, [], ◌∷◌, length, refl, sym, ap, ◌∙◌, arith}
 use Rattle.std.specs.List.{fold}
 use Rattle.std.proofs.lemmas.List.{nil_from_length}
-use Rattle.sbx_asm.specs.Lines.{lines_of, first_line, after_line}
-use Rattle.sbx_asm.specs.Meaning.{numbered}
+use Rattle.sbx_asm.specs.Lines.{lines_of}
+use Rattle.sbx_asm.specs.Stages.FirstLine.{first_line, after_line}
+use Rattle.sbx_asm.specs.Items.{numbered}
 use Rattle.sbx_asm.proofs.Splits.{splits, shorter}
 
 -- the lines of a source that is not at its end

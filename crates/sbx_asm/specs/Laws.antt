@@ -1,9 +1,60 @@
--- What holds of each image that a source means.
-use Rattle.std.specs.Prelude.{◌≡◌, List, ℕ, Ok}
+-- What holds of the meaning of sources, as anyone knows assemblers.
+use Rattle.std.specs.Prelude.{◌≡◌, ℕ, ◌+◌, ◌≤◌, ◌⊎◌, Bool, false, List, [], ◌∷◌, ◌++◌, length, map, Option, None, Result, Ok, Err}
+use Rattle.std.specs.List.{AllByRecursion}
+use Rattle.sbx_text.specs.Tokens.{tokens_of}
 use Rattle.sbx_image.specs.Parts.{Parts}
 use Rattle.sbx_image.specs.Spelling.{IsTyped, IsBytes}
+use Rattle.sbx_directives.specs.declared.directive.Statement.TheVariants as statements
+use Rattle.sbx_asm.specs.declared.fault.AsmFault.{AsmFault}
+use Rattle.sbx_asm.specs.declared.fault.Cause.TheVariants as causes
+use Rattle.sbx_asm.specs.Faults.{at, is_earlier}
+use Rattle.sbx_asm.specs.Lines.{lines_of}
+use Rattle.sbx_asm.specs.Items.{Item, item_of, items_of, each, behind}
+use Rattle.sbx_asm.specs.Addresses.{Label, all_labels, worth_in, values_of}
+use Rattle.sbx_asm.specs.Rules.{duplicates, faults_of, least_of}
+use Rattle.sbx_asm.specs.Images.{words_at, image_of}
 use Rattle.sbx_asm.specs.Meaning.{source_image}
 
 -- each of its numbers is one that its field can hold, and its data are bytes
 abbrev pub MeantImagesFitTheirFields : Type 0
 MeantImagesFitTheirFields = (source : List ℕ) (parts : Parts) → source_image source ≡ Ok parts → IsTyped parts × IsBytes parts.bytes
+
+-- The code of a source without faults is the words of its statements, one after the other.
+abbrev pub CodeIsItsStatements : Type 0
+CodeIsItsStatements = (source : List ℕ) (parts : Parts) → source_image source ≡ Ok parts
+    → (faults_of (items_of source) ≡ []) × (parts.words ≡ each (words_at (values_of (items_of source))) [] (items_of source))
+
+-- Two sources that begin with the same lines, and whose labels are worth the same, begin with the same words: those that these lines mean
+-- with the labels' worth, whatever follows.
+abbrev pub WordsLookAheadByLabelsAlone : Type 0
+WordsLookAheadByLabelsAlone = (front after other : List Item) → values_of (front ++ after) ≡ values_of (front ++ other)
+    → ((image_of (front ++ after)).words ≡ each (words_at (values_of (front ++ after))) [] front ++ each (words_at (values_of (front ++ after))) (behind [] front) after)
+    × ((image_of (front ++ other)).words ≡ each (words_at (values_of (front ++ after))) [] front ++ each (words_at (values_of (front ++ after))) (behind [] front) other)
+
+-- a blank line or a comment has no label and says nothing
+abbrev pub BlankLinesSayNothing : Type 0
+BlankLinesSayNothing = (number : ℕ) (line : List ℕ) → tokens_of line ≡ Ok [] → ((item_of (number, line)).labels ≡ []) × ((item_of (number, line)).said ≡ Ok statements.Nothing)
+
+-- A line that says nothing may stand anywhere: the same fault is told, or the image is the same.
+abbrev pub BlankLinesChangeNothing : Type 0
+BlankLinesChangeNothing = (front after : List Item) (i : Item) → i.labels ≡ [] → i.said ≡ Ok statements.Nothing → i.number ≤ 1000000
+    → (least_of (faults_of (front ++ i ∷ after)) ≡ least_of (faults_of (front ++ after)))
+    × (least_of (faults_of (front ++ after)) ≡ None → image_of (front ++ i ∷ after) ≡ image_of (front ++ after))
+
+abbrev pub renamed : (List ℕ → List ℕ) → Label → Label
+renamed rename l = record l { name = rename l.name }
+
+-- Labels may be renamed one to one: each new name is worth what the old one was, and the same labels stand twice.
+abbrev pub LabelsMayBeRenamed : Type 0
+LabelsMayBeRenamed = (rename : List ℕ → List ℕ) → ((a b : List ℕ) → rename a ≡ rename b → a ≡ b) → (labels : List Label)
+    → ((name : List ℕ) → worth_in (map (renamed rename) labels) (rename name) ≡ worth_in labels name)
+    × (duplicates [] (map (renamed rename) labels) ≡ duplicates [] labels)
+
+-- one of some faults, of which no other is earlier
+abbrev pub IsLeastOf : AsmFault → List AsmFault → Type 0
+IsLeastOf f faults = ((front : List AsmFault) × (rest : List AsmFault) × (faults ≡ front ++ f ∷ rest)) × AllByRecursion (λ g. is_earlier g f ≡ false) faults
+
+-- What is told is a least fault of the lines; else they have none, and it is told of the whole at the line after the last.
+abbrev pub TheLeastFaultIsTold : Type 0
+TheLeastFaultIsTold = (source : List ℕ) (f : AsmFault) → source_image source ≡ Err f
+    → IsLeastOf f (faults_of (items_of source)) ⊎ ((faults_of (items_of source) ≡ []) × (f ≡ at (length (items_of source) + 1) causes.Directive))

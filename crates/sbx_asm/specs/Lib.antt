@@ -1,7 +1,10 @@
 pub mod Faults
 pub mod Lines
-pub mod Places
-pub mod Labels
-pub mod Drafts
+pub mod Items
+pub mod Addresses
+pub mod Rules
+pub mod Images
 pub mod Meaning
+pub mod Stages
 pub mod Laws
+pub mod Examples

@@ -2,9 +2,11 @@
 ghost use Rattle.std.specs.Prelude.{◌≡◌, ◌+◌, ◌≤◌, IfOk, length, None};
 ghost use Rattle.std.specs.List.{fold};
 ghost use Rattle.sbx_asm.specs.Lines.{lines_of};
-ghost use Rattle.sbx_asm.specs.Labels.{worth, labels_of};
-ghost use Rattle.sbx_asm.specs.Drafts.{empty_draft, draft_line, close_function};
-ghost use Rattle.sbx_asm.specs.Meaning.{labels_in, draft_in, all_lines, image_in, source_image, Gives};
+ghost use Rattle.sbx_asm.specs.Stages.Labels.{worth, labels_of};
+ghost use Rattle.sbx_asm.specs.Stages.Drafts.{empty_draft, draft_line, close_function};
+ghost use Rattle.sbx_asm.specs.Items.{all_lines};
+ghost use Rattle.sbx_asm.specs.Stages.Whole.{labels_in, draft_in, image_in, image_made};
+ghost use Rattle.sbx_asm.specs.Meaning.{source_image, Gives};
 
 use crate::draft::Draft;
 use crate::fault::AsmFault;
@@ -55,7 +57,7 @@ fn draft_lines(
 }
 
 /// The draft of a source with its last function ended, and the number of its lines.
-#[tactic(auto, unfolding(crate::specs::Meaning::draft_in))]
+#[tactic(auto, unfolding(crate::specs::Stages::Whole::draft_in))]
 fn draft_of(alloc: Global, source: &[u8]) -> Result<(Draft, usize), AllocError>
     ensures draft { IfOk result (λ made. made.0 ≡ close_function (draft_in (labels_in source.now) source.now)) }
     ensures count { IfOk result (λ made. made.1 ≡ length (lines_of source.now)) }
@@ -67,17 +69,24 @@ fn draft_of(alloc: Global, source: &[u8]) -> Result<(Draft, usize), AllocError>
     Ok((draft, count))
 }
 
-/// The image that a source means.
-///
-/// # Errors
-/// The fault of the least line, there a cause of the text before one of the syntax before the others, and of these the one of least
-/// number; a fault of the whole at the line after the last. `Memory`, at line 0, may come in the place of any answer.
-#[tactic(auto, unfolding(crate::specs::Meaning::source_image))]
-pub fn assemble(alloc: Global, source: &[u8]) -> Result<Image, AsmFault>
-    ensures exact { Gives result (source_image source.now) }
+/// The image that the stages make of a source.
+#[tactic(auto, unfolding(crate::specs::Stages::Whole::image_made))]
+fn image_made(alloc: Global, source: &[u8]) -> Result<Image, AsmFault>
+    ensures { Gives result (image_made source.now) }
 {
     match draft_of(alloc, source) {
         Ok((draft, count)) => finish(count + 1, draft),
         Err(error) => Err(AsmFault::from(error)),
     }
+}
+
+/// The image that a source means.
+///
+/// # Errors
+/// The fault of the least line, there a cause of the text before one of the syntax before the others, and of these the one of least
+/// number; a fault of the whole at the line after the last. `Memory`, at line 0, may come in the place of any answer.
+pub fn assemble(alloc: Global, source: &[u8]) -> Result<Image, AsmFault>
+    ensures exact { Gives result (source_image source.now) }
+{
+    image_made(alloc, source)
 }

@@ -1,6 +1,6 @@
 //! The image that the lines so far make.
 ghost use Rattle.std.specs.Prelude.{◌≡◌, ◌*◌, IfOk};
-ghost use Rattle.sbx_asm.specs.Drafts.{empty_draft, noted_at, noted, noted_where, close_block, close_function, open_block, begin_function, begin_block, malformed, add_param, add_result, add_cell, add_term, add_fuel, add_services, add_stack};
+ghost use Rattle.sbx_asm.specs.Stages.Drafts.{empty_draft, noted_at, noted, noted_where, close_block, close_function, open_block, begin_function, begin_block, malformed, add_param, add_result, add_cell, add_term, add_fuel, add_services, add_stack};
 
 use crate::fault::{AsmFault, Cause, told};
 use crate::growing::Growing;
@@ -82,7 +82,7 @@ impl Draft {
         }
     }
 
-    #[tactic(auto, unfolding(crate::specs::Drafts::close_block))]
+    #[tactic(auto, unfolding(crate::specs::Stages::Drafts::close_block))]
     fn close_block(&mut self, alloc: Global) -> Result<(), AllocError>
         ensures { IfOk result (λ _. self.new ≡ close_block self.old) }
     {
@@ -94,7 +94,7 @@ impl Draft {
     }
 
     /// Ends the open function, if there is one. A block without an instruction is told where it begins.
-    #[tactic(auto, unfolding(crate::specs::Drafts::close_function))]
+    #[tactic(auto, unfolding(crate::specs::Stages::Drafts::close_function))]
     pub fn close_function(&mut self, alloc: Global) -> Result<(), AllocError>
         ensures { IfOk result (λ _. self.new ≡ close_function self.old) }
     {
@@ -108,7 +108,7 @@ impl Draft {
         }
     }
 
-    #[tactic(auto, unfolding(crate::specs::Drafts::open_block))]
+    #[tactic(auto, unfolding(crate::specs::Stages::Drafts::open_block))]
     fn open_block(&mut self)
         ensures { self.new ≡ open_block self.old }
     {
@@ -126,7 +126,7 @@ impl Draft {
     }
 
     /// A function's line: it ends the function before it, and begins its first block.
-    #[tactic(auto, unfolding(crate::specs::Drafts::begin_function))]
+    #[tactic(auto, unfolding(crate::specs::Stages::Drafts::begin_function))]
     pub fn begin_function(
         &mut self,
         alloc: Global,
@@ -152,7 +152,7 @@ impl Draft {
     }
 
     /// A block's line: it ends the block before it.
-    #[tactic(auto, unfolding(crate::specs::Drafts::begin_block))]
+    #[tactic(auto, unfolding(crate::specs::Stages::Drafts::begin_block))]
     pub fn begin_block(&mut self, alloc: Global) -> Result<(), AllocError>
         ensures { IfOk result (λ _. self.new ≡ begin_block self.old) }
     {
@@ -193,7 +193,7 @@ impl Draft {
     }
 
     /// A parameter's range.
-    #[tactic(auto, unfolding(crate::specs::Drafts::add_param))]
+    #[tactic(auto, unfolding(crate::specs::Stages::Drafts::add_param))]
     pub fn add_param(&mut self, range: Range) -> Result<(), AllocError>
         ensures { IfOk result (λ _. self.new ≡ add_param range self.old) }
     {
@@ -208,7 +208,7 @@ impl Draft {
     }
 
     /// A result's range.
-    #[tactic(auto, unfolding(crate::specs::Drafts::add_result))]
+    #[tactic(auto, unfolding(crate::specs::Stages::Drafts::add_result))]
     pub fn add_result(&mut self, range: Range) -> Result<(), AllocError>
         ensures { IfOk result (λ _. self.new ≡ add_result range self.old) }
     {
@@ -223,7 +223,7 @@ impl Draft {
     }
 
     /// A cell of the open block.
-    #[tactic(auto, unfolding(crate::specs::Drafts::add_cell))]
+    #[tactic(auto, unfolding(crate::specs::Stages::Drafts::add_cell))]
     pub fn add_cell(&mut self, cell: Cell) -> Result<(), AllocError>
         ensures { IfOk result (λ _. self.new ≡ add_cell cell self.old) }
     {
@@ -241,7 +241,7 @@ impl Draft {
     }
 
     /// A term of the open block's fuel.
-    #[tactic(auto, unfolding(crate::specs::Drafts::add_term))]
+    #[tactic(auto, unfolding(crate::specs::Stages::Drafts::add_term))]
     pub fn add_term(&mut self, term: Term) -> Result<(), AllocError>
         ensures { IfOk result (λ _. self.new ≡ add_term term self.old) }
     {
@@ -259,7 +259,7 @@ impl Draft {
     }
 
     /// The open block's fuel.
-    #[tactic(auto, unfolding(crate::specs::Drafts::add_fuel))]
+    #[tactic(auto, unfolding(crate::specs::Stages::Drafts::add_fuel))]
     pub fn add_fuel(&mut self, fuel: i64)
         ensures { self.new ≡ add_fuel fuel self.old }
     {
@@ -276,7 +276,7 @@ impl Draft {
     }
 
     /// The services, once.
-    #[tactic(auto, unfolding(crate::specs::Drafts::add_services))]
+    #[tactic(auto, unfolding(crate::specs::Stages::Drafts::add_services))]
     pub fn add_services(&mut self, services: Services)
         ensures { self.new ≡ add_services services self.old }
     {
@@ -287,7 +287,7 @@ impl Draft {
     }
 
     /// Pages of stack, once.
-    #[tactic(auto, unfolding(crate::specs::Drafts::add_stack))]
+    #[tactic(auto, unfolding(crate::specs::Stages::Drafts::add_stack))]
     pub fn add_stack(&mut self, pages: u16)
         ensures { self.new ≡ add_stack pages self.old }
     {

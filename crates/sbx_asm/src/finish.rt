@@ -1,7 +1,9 @@
 //! The image of a draft.
 ghost use Rattle.std.specs.Prelude.{◌≡◌, ◌++◌, IfOk, replicate, ◌%◌, ◌-◌, length};
 ghost use Rattle.sbx_image.specs.Rules.{parts_keep};
-ghost use Rattle.sbx_asm.specs.Meaning.{filled, parts_in, kept, image_in, Gives};
+ghost use Rattle.sbx_asm.specs.Images.{filled};
+ghost use Rattle.sbx_asm.specs.Meaning.{kept, Gives};
+ghost use Rattle.sbx_asm.specs.Stages.Whole.{parts_in, image_in};
 
 use crate::draft::Draft;
 use crate::fault::{AsmFault, Cause};
@@ -17,7 +19,7 @@ fn fill(bytes: &mut Growing<u8>) -> Result<(), AllocError>
     bytes.push_copies(count, 0)
 }
 
-#[tactic(auto, unfolding(crate::specs::Meaning::parts_in))]
+#[tactic(auto, unfolding(crate::specs::Stages::Whole::parts_in))]
 fn parts_of(draft: Draft) -> Result<Parts, AllocError>
     ensures { IfOk result (λ parts. parts ≡ parts_in draft) }
 {

@@ -1,7 +1,43 @@
-//! What holds of the source meaning itself. It is the contract of a function that does nothing.
-ghost use Rattle.sbx_asm.specs.Laws.{MeantImagesFitTheirFields};
+//! What holds of the source meaning itself. Each law is the contract of a function that does nothing.
+ghost use Rattle.sbx_asm.specs.Laws.{MeantImagesFitTheirFields, CodeIsItsStatements, WordsLookAheadByLabelsAlone, BlankLinesSayNothing, BlankLinesChangeNothing, LabelsMayBeRenamed, TheLeastFaultIsTold};
+ghost use Rattle.sbx_asm.specs.Examples.{KnownSourcesHaveTheirMeanings};
 
 /// Of each image that a source means, each number is one that its field can hold, and the data are bytes.
 pub fn meant_images_fit_their_fields()
     ensures { MeantImagesFitTheirFields }
+{}
+
+/// The code of a source without faults is the words of its statements, one after the other.
+#[tactic(auto, using(crate::proofs::Meanings::code_is))]
+pub fn code_is_its_statements()
+    ensures { CodeIsItsStatements }
+{}
+
+/// What follows a line changes its words by the labels' worth alone.
+#[tactic(auto, using(crate::proofs::Meanings::words_look))]
+pub fn words_look_ahead_by_labels_alone()
+    ensures { WordsLookAheadByLabelsAlone }
+{}
+
+/// A blank line or a comment has no label and says nothing, and such a line changes the numbers of lines alone.
+pub fn blank_lines_change_numbers_alone()
+    ensures nothing { BlankLinesSayNothing }
+    ensures anywhere { BlankLinesChangeNothing }
+{}
+
+/// Labels may be renamed one to one.
+pub fn labels_may_be_renamed()
+    ensures { LabelsMayBeRenamed }
+{}
+
+/// What is told is the least of the lines' faults; where they have none, it is told of the whole.
+#[tactic(auto, using(crate::proofs::Meanings::least_told))]
+pub fn the_least_fault_is_told()
+    ensures { TheLeastFaultIsTold }
+{}
+
+/// What an empty source and a short program mean, worked out from the definitions.
+#[tactic(auto, using(crate::proofs::Worked::known_meanings))]
+pub fn known_sources_have_their_meanings()
+    ensures { KnownSourcesHaveTheirMeanings }
 {}

@@ -1,6 +1,7 @@
 //! The lines of a source.
 ghost use Rattle.std.specs.Prelude.{◌≡◌, ◌<◌, length, MatchOption, None, Some};
-ghost use Rattle.sbx_asm.specs.Lines.{starts_with, after_end, first_line, after_line};
+ghost use Rattle.sbx_asm.specs.Lines.{starts_with};
+ghost use Rattle.sbx_asm.specs.Stages.FirstLine.{after_end, first_line, after_line};
 
 fn starts_with(byte: u8, bytes: &[u8]) -> bool
     ensures { result ≡ starts_with byte bytes.now }

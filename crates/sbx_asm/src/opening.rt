@@ -1,7 +1,7 @@
 //! The function and the block that are open.
 ghost use Rattle.std.specs.Prelude.{◌≡◌, [], ◌∷◌, ◌++◌, None, length, not, ◌&&◌, ◌==◌};
 ghost use Rattle.std.specs.Option.{is_some};
-ghost use Rattle.sbx_asm.specs.Drafts.{block_of, function_of, no_block, no_function, takes_ranges, takes_annotations};
+ghost use Rattle.sbx_asm.specs.Stages.Drafts.{block_of, function_of, no_block, no_function, takes_ranges, takes_annotations};
 
 use crate::growing::Growing;
 use sbx_image::{Block, Cell, Function, Kind, Range, Term};
@@ -108,7 +108,7 @@ impl OpenFunction {
     pub fn takes_ranges(&self, block: &OpenBlock) -> bool
         ensures { result ≡ takes_ranges self.now block.now }
     {
-        self.head.is_some() && self.blocks.len() == 0 && !block.begun
+        self.takes_annotations(block) && self.blocks.len() == 0
     }
 
     /// Whether a cell, a term or fuel may stand next.

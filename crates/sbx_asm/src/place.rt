@@ -1,7 +1,7 @@
 //! Places of a source: how far the code and the data have come.
 ghost use Rattle.std.specs.Prelude.{◌≡◌, ◌*◌, ◌≤◌};
 ghost use Rattle.sbx_directives.specs.Data.{bytes_of_width};
-ghost use Rattle.sbx_asm.specs.Places.{start, code_end, data_end, has_room, moved_on, with_code, with_data, address, padding, directed, place_after};
+ghost use Rattle.sbx_asm.specs.Stages.Places.{start, code_end, data_end, has_room, moved_on, with_code, with_data, address, padding, directed, place_after};
 
 use sbx_directives::{Directive, Statement, Width, byte_len};
 use sbx_text::Token;
@@ -136,7 +136,7 @@ impl Place {
     }
 
     /// Where the next line stands: behind the statement of `tokens`.
-    #[tactic(auto, unfolding(crate::specs::Places::place_after))]
+    #[tactic(auto, unfolding(crate::specs::Stages::Places::place_after))]
     pub fn after(self, line: &[u8], tokens: &[Token], statement: Statement) -> Place
         ensures { result ≡ place_after line.now tokens.now statement self }
     {

@@ -3,8 +3,9 @@ ghost use Rattle.std.specs.Prelude.{◌≡◌, ◌*◌, ◌++◌, IfOk, Ok, Err,
 ghost use Rattle.v8_formats.specs.Spelling.{spelling};
 ghost use Rattle.v8_syntax.specs.Statements.{source_meaning};
 ghost use Rattle.sbx_directives.specs.Data.{data_of};
-ghost use Rattle.sbx_asm.specs.Labels.{worth};
-ghost use Rattle.sbx_asm.specs.Drafts.{is_code, data_checked, with_zeros, add_values, add_zeros, directive_does, instruction_checked, begun, with_words, instruction_does, statement_does, behind_labels, draft_tokens, numbered_line, draft_line};
+ghost use Rattle.sbx_asm.specs.Rules.{is_code};
+ghost use Rattle.sbx_asm.specs.Stages.Labels.{worth};
+ghost use Rattle.sbx_asm.specs.Stages.Drafts.{data_checked, with_zeros, add_values, add_zeros, directive_does, instruction_checked, begun, with_words, instruction_does, statement_does, behind_labels, draft_tokens, numbered_line, draft_line};
 
 use crate::draft::Draft;
 use crate::fault::Cause;
@@ -52,7 +53,7 @@ impl Draft {
         self.note_where(!room, Cause::Limit);
     }
 
-    #[tactic(auto, unfolding(crate::specs::Drafts::add_values))]
+    #[tactic(auto, unfolding(crate::specs::Stages::Drafts::add_values))]
     fn add_values(
         &mut self,
         table: &Table<'_>,
@@ -77,7 +78,7 @@ impl Draft {
         Ok(())
     }
 
-    #[tactic(auto, unfolding(crate::specs::Drafts::add_zeros))]
+    #[tactic(auto, unfolding(crate::specs::Stages::Drafts::add_zeros))]
     fn add_zeros(&mut self, count: u64) -> Result<(), AllocError>
         ensures { IfOk result (λ _. self.new ≡ add_zeros count self.old) }
     {
@@ -135,7 +136,7 @@ impl Draft {
         self.note_where(!room, Cause::Limit);
     }
 
-    #[tactic(auto, unfolding(crate::specs::Drafts::instruction_does))]
+    #[tactic(auto, unfolding(crate::specs::Stages::Drafts::instruction_does))]
     fn instruction_does(
         &mut self,
         table: &Table<'_>,
@@ -157,7 +158,7 @@ impl Draft {
         Ok(())
     }
 
-    #[tactic(auto, unfolding(crate::specs::Drafts::statement_does))]
+    #[tactic(auto, unfolding(crate::specs::Stages::Drafts::statement_does))]
     fn statement_does(
         &mut self,
         alloc: Global,
@@ -178,7 +179,7 @@ impl Draft {
         }
     }
 
-    #[tactic(auto, unfolding(crate::specs::Drafts::behind_labels))]
+    #[tactic(auto, unfolding(crate::specs::Stages::Drafts::behind_labels))]
     fn behind_labels(
         &mut self,
         alloc: Global,
@@ -195,7 +196,7 @@ impl Draft {
         Ok(())
     }
 
-    #[tactic(auto, unfolding(crate::specs::Drafts::numbered_line))]
+    #[tactic(auto, unfolding(crate::specs::Stages::Drafts::numbered_line))]
     fn begin_line(&mut self, number: usize)
         ensures { self.new ≡ numbered_line number self.old }
     {
@@ -204,7 +205,7 @@ impl Draft {
     }
 
     /// One more line, of that number.
-    #[tactic(auto, unfolding(crate::specs::Drafts::draft_line))]
+    #[tactic(auto, unfolding(crate::specs::Stages::Drafts::draft_line))]
     pub fn add_line(
         &mut self,
         alloc: Global,

@@ -1,7 +1,8 @@
 //! Where each label stands.
 ghost use Rattle.std.specs.Prelude.{◌≡◌, IfOk, List};
 ghost use Rattle.std.specs.List.{fold};
-ghost use Rattle.sbx_asm.specs.Labels.{no_lines, labels_of, add, add_here, name_it, names_of, label_names, survey_statement, survey_line};
+ghost use Rattle.sbx_asm.specs.Items.{label_names};
+ghost use Rattle.sbx_asm.specs.Stages.Labels.{no_lines, labels_of, add, add_here, name_it, names_of, survey_statement, survey_line};
 
 use crate::fault::{AsmFault, Cause, told};
 use crate::place::Place;
@@ -33,7 +34,7 @@ impl<'a> Survey<'a> {
     }
 
     /// A label at an address. Where it has a value already, that stays and a fault is told at the line of that number.
-    #[tactic(auto, unfolding(crate::specs::Labels::add))]
+    #[tactic(auto, unfolding(crate::specs::Stages::Labels::add))]
     fn add(&mut self, number: usize, name: &'a [u8], address: u32) -> Result<(), AllocError>
         ensures { IfOk result (λ _. labels_of self.new ≡ add number name.now address (labels_of self.old)) }
     {
@@ -108,7 +109,7 @@ impl<'a> Survey<'a> {
     }
 
     /// The name of a function or of a block, whatever its other operands.
-    #[tactic(auto, unfolding(crate::specs::Labels::names_of))]
+    #[tactic(auto, unfolding(crate::specs::Stages::Labels::names_of))]
     fn names_of(
         &mut self,
         number: usize,
@@ -129,7 +130,7 @@ impl<'a> Survey<'a> {
 }
 
 impl<'a> Survey<'a> {
-    #[tactic(auto, unfolding(crate::specs::Labels::survey_statement))]
+    #[tactic(auto, unfolding(crate::specs::Stages::Labels::survey_statement))]
     fn statement(
         &mut self,
         number: usize,
@@ -146,7 +147,7 @@ impl<'a> Survey<'a> {
     }
 
     /// One more line, of that number.
-    #[tactic(auto, unfolding(crate::specs::Labels::survey_line))]
+    #[tactic(auto, unfolding(crate::specs::Stages::Labels::survey_line))]
     pub fn add_line(
         &mut self,
         alloc: Global,

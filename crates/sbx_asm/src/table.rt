@@ -1,6 +1,6 @@
 //! What labels are worth.
 ghost use Rattle.std.specs.Prelude.{◌≡◌, IfOk};
-ghost use Rattle.sbx_asm.specs.Labels.{worth, no_labels, with_label};
+ghost use Rattle.sbx_asm.specs.Stages.Labels.{worth, no_labels, with_label};
 
 use std::alloc::{AllocError, Global};
 use std::collections::HashMap;

@@ -2,9 +2,9 @@ use Rattle.std.proofs.Common.{length, ap, arith}
 use Rattle.std.specs.List.{fold}
 use Rattle.sbx_asm.specs.declared.draft.Draft.{Draft}
 use Rattle.sbx_asm.specs.Lines.{lines_of}
-use Rattle.sbx_asm.specs.Labels.{worth}
-use Rattle.sbx_asm.specs.Drafts.{draft_line, empty_draft}
-use Rattle.sbx_asm.specs.Meaning.{numbered}
+use Rattle.sbx_asm.specs.Stages.Labels.{worth}
+use Rattle.sbx_asm.specs.Stages.Drafts.{draft_line, empty_draft}
+use Rattle.sbx_asm.specs.Items.{numbered}
 use Rattle.sbx_asm.proofs.Steps.{more, less, none, goes_on, is_done}
 use Rattle.sbx_asm.proofs.assembling.draft_lines.Goals as goal
 

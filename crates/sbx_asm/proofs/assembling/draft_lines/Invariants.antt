@@ -1,9 +1,9 @@
 use Rattle.std.proofs.Common.{◌≡◌, ◌+◌, ◌≤◌, length}
 use Rattle.std.specs.List.{fold}
 use Rattle.sbx_asm.specs.Lines.{lines_of}
-use Rattle.sbx_asm.specs.Labels.{worth}
-use Rattle.sbx_asm.specs.Drafts.{empty_draft, draft_line}
-use Rattle.sbx_asm.specs.Meaning.{numbered}
+use Rattle.sbx_asm.specs.Stages.Labels.{worth}
+use Rattle.sbx_asm.specs.Stages.Drafts.{empty_draft, draft_line}
+use Rattle.sbx_asm.specs.Items.{numbered}
 use Rattle.sbx_asm.proofs.assembling.draft_lines.Given as goal
 
 abbrev pub invariant-loop-rest : goal.invariant-loop-rest

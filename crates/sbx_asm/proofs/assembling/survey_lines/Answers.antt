@@ -1,8 +1,9 @@
 use Rattle.std.proofs.Common.{length, ap, arith}
 use Rattle.std.specs.List.{fold}
 use Rattle.sbx_asm.specs.Lines.{lines_of}
-use Rattle.sbx_asm.specs.Labels.{Labels, labels_of, survey_line}
-use Rattle.sbx_asm.specs.Meaning.{numbered, labels_in}
+use Rattle.sbx_asm.specs.Stages.Labels.{Labels, labels_of, survey_line}
+use Rattle.sbx_asm.specs.Items.{numbered}
+use Rattle.sbx_asm.specs.Stages.Whole.{labels_in}
 use Rattle.sbx_asm.proofs.Steps.{less, goes_on, is_done}
 use Rattle.sbx_asm.proofs.assembling.survey_lines.Goals as goal
 

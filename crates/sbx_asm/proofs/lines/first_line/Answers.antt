@@ -1,5 +1,5 @@
 use Rattle.std.proofs.Common.{ap, sym, ◌∙◌, arith}
-use Rattle.sbx_asm.specs.Lines.{after_end}
+use Rattle.sbx_asm.specs.Stages.FirstLine.{after_end}
 use Rattle.sbx_asm.proofs.Splits.{goes_on, ends, is_all}
 use Rattle.sbx_asm.proofs.lines.first_line.Goals as goal
 

@@ -1,5 +1,5 @@
 use Rattle.std.proofs.Common.{◌≡◌, ◌++◌, take, drop}
-use Rattle.sbx_asm.specs.Lines.{first_line, after_line}
+use Rattle.sbx_asm.specs.Stages.FirstLine.{first_line, after_line}
 use Rattle.sbx_asm.proofs.lines.first_line.Given as goal
 
 abbrev pub invariant-loop-at : goal.invariant-loop-at

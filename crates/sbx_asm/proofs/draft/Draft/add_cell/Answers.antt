@@ -1,4 +1,4 @@
-use Rattle.sbx_asm.specs.Drafts.{add_cell}
+use Rattle.sbx_asm.specs.Stages.Drafts.{add_cell}
 use Rattle.std.proofs.Common.{rules}
 use Rattle.sbx_asm.proofs.draft.Draft.add_cell.Goals as goal
 

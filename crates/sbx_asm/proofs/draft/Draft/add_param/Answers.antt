@@ -1,4 +1,4 @@
-use Rattle.sbx_asm.specs.Drafts.{add_param}
+use Rattle.sbx_asm.specs.Stages.Drafts.{add_param}
 use Rattle.std.proofs.Common.{rules}
 use Rattle.sbx_asm.proofs.draft.Draft.add_param.Goals as goal
 

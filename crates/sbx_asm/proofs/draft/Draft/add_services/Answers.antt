@@ -1,4 +1,4 @@
-use Rattle.sbx_asm.specs.Drafts.{add_services}
+use Rattle.sbx_asm.specs.Stages.Drafts.{add_services}
 use Rattle.std.proofs.Common.{rules}
 use Rattle.sbx_asm.proofs.draft.Draft.add_services.Goals as goal
 

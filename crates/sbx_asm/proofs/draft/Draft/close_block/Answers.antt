@@ -1,4 +1,4 @@
-use Rattle.sbx_asm.specs.Drafts.{close_block}
+use Rattle.sbx_asm.specs.Stages.Drafts.{close_block}
 use Rattle.std.proofs.Common.{rules}
 use Rattle.sbx_asm.proofs.draft.Draft.close_block.Goals as goal
 

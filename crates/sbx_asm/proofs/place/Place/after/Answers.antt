@@ -1,4 +1,4 @@
-use Rattle.sbx_asm.specs.Places.{place_after}
+use Rattle.sbx_asm.specs.Stages.Places.{place_after}
 use Rattle.std.proofs.Common.{rules}
 use Rattle.sbx_asm.proofs.place.Place.after.Goals as goal
 

@@ -1,4 +1,4 @@
-use Rattle.sbx_asm.specs.Labels.{add}
+use Rattle.sbx_asm.specs.Stages.Labels.{add}
 use Rattle.std.proofs.Common.{rules}
 use Rattle.sbx_asm.proofs.survey.Survey.add.Goals as goal
 

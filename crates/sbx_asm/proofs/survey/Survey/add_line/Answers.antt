@@ -1,4 +1,4 @@
-use Rattle.sbx_asm.specs.Labels.{survey_line}
+use Rattle.sbx_asm.specs.Stages.Labels.{survey_line}
 use Rattle.std.proofs.Common.{rules}
 use Rattle.sbx_asm.proofs.survey.Survey.add_line.Goals as goal
 

@@ -1,6 +1,6 @@
 use Rattle.std.proofs.Common.{[]}
 use Rattle.std.proofs.lemmas.List.{nil_from_length}
-use Rattle.sbx_asm.specs.Labels.{labels_of, add_here}
+use Rattle.sbx_asm.specs.Stages.Labels.{labels_of, add_here}
 use Rattle.sbx_asm.proofs.Names.{goes_on, ends, is_done, at_tokens}
 use Rattle.sbx_asm.proofs.survey.Survey.labels.Goals as goal
 

@@ -1,6 +1,7 @@
 use Rattle.std.proofs.Common.{◌≡◌, ◌-◌}
 use Rattle.std.specs.List.{fold}
-use Rattle.sbx_asm.specs.Labels.{labels_of, add_here, label_names}
+use Rattle.sbx_asm.specs.Items.{label_names}
+use Rattle.sbx_asm.specs.Stages.Labels.{labels_of, add_here}
 use Rattle.sbx_asm.proofs.survey.Survey.labels.Given as goal
 
 abbrev pub invariant-loop : goal.invariant-loop

@@ -1,6 +1,7 @@
 -- The image of a source: the fold over the lines, with the addresses of all labels known.
-use Rattle.std.specs.Prelude.{ℕ, ◌+◌, ◌*◌, ◌==◌, Bool, true, false, not, ◌&&◌, nat_lt, nat_le, ℤ, pos, List, [], ◌∷◌, ◌++◌, length, map, drop, replicate, Option, Some, None, Result, Ok, Err}
+use Rattle.std.specs.Prelude.{ℕ, ◌+◌, ◌*◌, ◌==◌, Bool, true, false, not, ◌&&◌, nat_lt, nat_le, if◌then◌else◌, ℤ, pos, List, [], ◌∷◌, ◌++◌, length, map, drop, replicate, Option, Some, None, Result, Ok, Err}
 use Rattle.std.specs.Option.{is_some, unwrap_or}
+use Rattle.std.specs.List.{fold}
 use Rattle.sbx_text.specs.declared.Token.{Token}
 use Rattle.sbx_text.specs.declared.fault.TextFault.{TextFault}
 use Rattle.sbx_text.specs.Tokens.{tokens_of}
@@ -31,15 +32,13 @@ use Rattle.sbx_directives.specs.Data.{data_of, bytes_of_width}
 use Rattle.sbx_asm.specs.declared.fault.AsmFault.{AsmFault}
 use Rattle.sbx_asm.specs.declared.fault.Cause.{Cause}
 use Rattle.sbx_asm.specs.declared.fault.Cause.TheVariants as causes
-use Rattle.sbx_asm.specs.declared.place.Section.{Section}
-use Rattle.sbx_asm.specs.declared.place.Section.TheVariants as sections
 use Rattle.sbx_asm.specs.declared.opening.Head.{Head}
 use Rattle.sbx_asm.specs.declared.opening.OpenBlock.{OpenBlock}
 use Rattle.sbx_asm.specs.declared.opening.OpenFunction.{OpenFunction}
 use Rattle.sbx_asm.specs.declared.draft.Draft.{Draft}
 use Rattle.sbx_asm.specs.Faults.{told, at}
-use Rattle.sbx_asm.specs.Places.{start, code_end, data_end, has_room, with_code, padding, place_after}
-use Rattle.sbx_asm.specs.Labels.{Values}
+use Rattle.sbx_asm.specs.Stages.Places.{start, code_end, data_end, has_room, with_code, padding, place_after}
+use Rattle.sbx_asm.specs.Rules.{Values, when, is_code}
 
 -- ---- faults
 
@@ -50,8 +49,7 @@ abbrev pub noted : Cause → Draft → Draft
 noted cause d = noted_at d.line cause d
 
 abbrev pub noted_where : Bool → Cause → Draft → Draft
-noted_where true cause d = noted cause d
-noted_where false cause d = d
+noted_where test cause d = record d { fault = fold told d.fault (map (at d.line) (when test cause)) }
 
 -- ---- the open function and its open block
 
@@ -70,8 +68,7 @@ no_block = record { line = 0; address = 0; fuel = None; begun = false; cells = [
 
 -- a block without an instruction is told where it begins
 abbrev pub told_empty : Bool → OpenBlock → Draft → Draft
-told_empty true b d = d
-told_empty false b d = noted_at b.line causes.Directive d
+told_empty begun b d = record d { fault = fold told d.fault (map (at b.line) (when (not begun) causes.Directive)) }
 
 abbrev pub with_block : Draft → Draft
 with_block d =
@@ -93,8 +90,7 @@ close_function d = close_headed d.function.head d
 
 -- at most 4,096 blocks in all
 abbrev pub counted : Bool → Draft → Draft
-counted true d = record d { block_count = d.block_count + 1 }
-counted false d = noted causes.Limit d
+counted room d = record (noted_where (not room) causes.Limit d) { block_count = if room then d.block_count + 1 else d.block_count }
 
 abbrev pub fresh_block : Draft → Draft
 fresh_block d = record d { block = record d.block { line = d.line; address = d.place.next_word; fuel = None; begun = false; last_cell = 0; last_term = 0 } }
@@ -142,13 +138,13 @@ malformed keywords.Align d = noted causes.Directive d
 
 -- ---- annotations
 
--- between a function's line and its first instruction or second block
-abbrev pub takes_ranges : OpenFunction → OpenBlock → Bool
-takes_ranges f b = is_some f.head && length f.blocks == 0 && not b.begun
-
 -- between a block's line and its first instruction
 abbrev pub takes_annotations : OpenFunction → OpenBlock → Bool
 takes_annotations f b = is_some f.head && not b.begun
+
+-- the same in the function's first block
+abbrev pub takes_ranges : OpenFunction → OpenBlock → Bool
+takes_ranges f b = takes_annotations f b && length f.blocks == 0
 
 abbrev pub param_if : Bool → Range → Draft → Draft
 param_if true r d = noted_where (nat_le 6 (length d.function.params)) causes.Limit (record d { function = record d.function { params = d.function.params ++ r ∷ [] } })
@@ -216,10 +212,6 @@ abbrev pub begun : Draft → Draft
 begun d = record d { block = record d.block { begun = true } }
 
 -- data stand in the data section, within its limit
-abbrev pub is_code : Section → Bool
-is_code sections.Code = true
-is_code sections.Data = false
-
 abbrev pub data_checked : ℕ → Draft → Draft
 data_checked n d = noted_where (not (has_room data_end d.place.next_byte n)) causes.Limit (noted_where (is_code d.place.section) causes.Directive d)
 

@@ -21,11 +21,9 @@ use Rattle.sbx_asm.specs.declared.place.Place.{Place}
 use Rattle.sbx_asm.specs.declared.table.Table.{Table}
 use Rattle.sbx_asm.specs.declared.survey.Survey.{Survey}
 use Rattle.sbx_asm.specs.Faults.{told, at}
-use Rattle.sbx_asm.specs.Places.{start, address, with_code, place_after}
-
--- the address of each label
-abbrev pub Values : Type 0
-Values = List ℕ → Option ℕ
+use Rattle.sbx_asm.specs.Items.{label_names}
+use Rattle.sbx_asm.specs.Rules.{Values}
+use Rattle.sbx_asm.specs.Stages.Places.{start, address, with_code, place_after}
 
 abbrev pub no_labels : Values
 no_labels name = None
@@ -54,12 +52,6 @@ added_to number name address s None = record s { values = with_label s.values na
 
 unfoldable pub add : ℕ → List ℕ → ℕ → Labels → Labels
 add number name address s = added_to number name address s (s.values name)
-
--- the names of so many labels, each with a sign behind it
-unfoldable pub label_names : List ℕ → ℕ → List Token → List (List ℕ)
-label_names line zero ts = []
-label_names line (suc n) [] = []
-label_names line (suc n) (t ∷ ts) = bytes_between line t.start t.stop ∷ label_names line n (drop 1 ts)
 
 -- a label of the line is the place in the current section
 abbrev pub add_here : ℕ → Labels → List ℕ → Labels

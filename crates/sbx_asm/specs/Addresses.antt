@@ -1,0 +1,120 @@
+-- Where the lines of a source stand, and what their labels are worth: the start of a section and the lengths before them.
+use Rattle.std.specs.Prelude.{ℕ, ◌+◌, ◌-◌, ◌*◌, ◌%◌, Bool, nat_lt, nat_le, ◌==◌, if◌then◌else◌, List, [], ◌∷◌, ◌++◌, map, Option, Some, None, Result, Ok, Err}
+use Rattle.std.specs.List.{list_any}
+use Rattle.std.specs.Str.{bytes_eq}
+use Rattle.v8_syntax.specs.Statements.{statement_length}
+use Rattle.sbx_directives.specs.declared.directive.Name.{Name}
+use Rattle.sbx_directives.specs.declared.directive.Directive.TheVariants as directives
+use Rattle.sbx_directives.specs.declared.directive.Statement.TheVariants as statements
+use Rattle.sbx_directives.specs.Lines.{text_of}
+use Rattle.sbx_directives.specs.Data.{bytes_of_width}
+use Rattle.sbx_asm.specs.declared.place.Section.{Section}
+use Rattle.sbx_asm.specs.declared.place.Section.TheVariants.{Code, Data}
+use Rattle.sbx_asm.specs.Items.{Item, Said, each}
+
+-- ---- lengths, in bytes
+
+-- a statement with a fault is as long as one without, and a line without tokens one word long
+abbrev pub code_length : Item → Said → ℕ
+code_length i (Ok statements.Instruction) = 4 * statement_length i.bytes i.tokens
+code_length i (Err f) = 4
+code_length i _ = 0
+
+-- up to a multiple of n
+abbrev pub padding_of : ℕ → ℕ → ℕ
+padding_of n size = if n == 0 then 0 else (n - size % n) % n
+
+-- behind so many bytes of the section
+abbrev pub data_length : ℕ → Said → ℕ
+data_length size (Ok (statements.Directive (directives.Values w n))) = bytes_of_width w * n
+data_length size (Ok (statements.Directive (directives.Skip n))) = n
+data_length size (Ok (statements.Directive (directives.Align n))) = padding_of n size
+data_length size _ = 0
+
+-- a section has room for 262,144 bytes, and ends there
+abbrev pub section_room : ℕ
+section_room = 0x40000
+
+abbrev pub up_to_room : ℕ → ℕ
+up_to_room size = if nat_le size section_room then size else section_room
+
+-- what so many bytes leave room for
+abbrev pub fits_behind : ℕ → ℕ → Bool
+fits_behind offset n = nat_le n (section_room - offset)
+
+-- the sums of the lengths of some items, the nearest first
+abbrev pub code_size : List Item → ℕ
+code_size [] = 0
+code_size (i ∷ before) = code_size before + code_length i i.said
+
+abbrev pub data_size : List Item → ℕ
+data_size [] = 0
+data_size (i ∷ before) = data_size before + data_length (up_to_room (data_size before)) i.said
+
+-- ---- addresses
+
+-- how far they fill their section
+abbrev pub code_offset : List Item → ℕ
+code_offset before = up_to_room (code_size before)
+
+abbrev pub data_offset : List Item → ℕ
+data_offset before = up_to_room (data_size before)
+
+-- the code begins at 00040000 and the data at 00080000
+abbrev pub code_address : List Item → ℕ
+code_address before = 0x40000 + code_offset before
+
+abbrev pub data_address : List Item → ℕ
+data_address before = 0x80000 + data_offset before
+
+abbrev pub chosen : Said → Section → Section
+chosen (Ok (statements.Directive directives.Text)) section = Code
+chosen (Ok (statements.Directive directives.Data)) section = Data
+chosen _ section = section
+
+-- the section that `.text` or `.data` chose last
+abbrev pub section_after : List Item → Section
+section_after [] = Code
+section_after (i ∷ before) = chosen i.said (section_after before)
+
+abbrev pub address_in_section : List Item → Section → ℕ
+address_in_section before Code = code_address before
+address_in_section before Data = data_address before
+
+-- ---- labels
+
+-- a name, where it stands, and the line's number
+pub record Label : Type 0 where
+  pub name : List ℕ
+  pub address : ℕ
+  pub line : ℕ
+
+abbrev pub name_or_none : List ℕ → Option Name → List (List ℕ)
+name_or_none line (Some name) = text_of line name ∷ []
+name_or_none line None = []
+
+-- the names of a function and of a block are labels of their first words, whatever their other operands
+abbrev pub names_said : List ℕ → Said → List (List ℕ)
+names_said line (Ok (statements.Directive (directives.Function name kind frame room budget))) = text_of line name ∷ []
+names_said line (Ok (statements.Directive (directives.Block name))) = text_of line name ∷ []
+names_said line (Ok (statements.Malformed k name)) = name_or_none line name
+names_said line _ = []
+
+abbrev pub labelled : ℕ → ℕ → List ℕ → Label
+labelled line address name = record { name = name; address = address; line = line }
+
+-- the labels of an item
+abbrev pub labels_at : List Item → Item → List Item → List Label
+labels_at before i after =
+    map (labelled i.number (address_in_section before (section_after before))) i.labels ++ map (labelled i.number (code_address before)) (names_said i.bytes i.said)
+
+abbrev pub all_labels : List Item → List Label
+all_labels items = each labels_at [] items
+
+-- a name is worth the address of the first label of that name
+abbrev pub worth_in : List Label → List ℕ → Option ℕ
+worth_in [] name = None
+worth_in (l ∷ ls) name = if bytes_eq l.name name then Some l.address else worth_in ls name
+
+abbrev pub values_of : List Item → List ℕ → Option ℕ
+values_of items = worth_in (all_labels items)

@@ -1,0 +1,50 @@
+-- Two sources and what they mean, worked out from the definitions.
+use Rattle.std.specs.Prelude.{◌≡◌, ℕ, pos, List, [], ◌∷◌, ◌++◌, Ok, Err, codes}
+use Rattle.std.specs.List.{flat_map}
+use Rattle.sbx_image.specs.declared.parts.Kind.TheVariants.{Leaf}
+use Rattle.sbx_image.specs.declared.parts.Parts.{Parts}
+use Rattle.sbx_asm.specs.declared.fault.Cause.TheVariants as causes
+use Rattle.sbx_asm.specs.Faults.{at}
+use Rattle.sbx_asm.specs.Meaning.{source_image}
+
+-- each line and LF
+abbrev pub lines_to_text : List (List ℕ) → List ℕ
+lines_to_text lines = flat_map (λ line. line ++ 10 ∷ []) lines
+
+-- puts out "Hi", and ends
+abbrev pub hello : List ℕ
+hello =
+    lines_to_text (
+    codes ".services exit,put"
+    ∷ codes ".function main,leaf,0,0,16"
+    ∷ codes ".fuel 16"
+    ∷ codes "    mov 72,%o0 ! the letter H"
+    ∷ codes "    ta 2"
+    ∷ codes "    mov 105,%o0"
+    ∷ codes "    ta 2"
+    ∷ codes "    mov 0,%o0"
+    ∷ codes "    ta 0" ∷ [])
+
+abbrev pub hello_parts : Parts
+hello_parts =
+    record {
+      services = record { 0 = 5 };
+      words = 0x90102048 ∷ 0x91D02002 ∷ 0x90102069 ∷ 0x91D02002 ∷ 0x90102000 ∷ 0x91D02000 ∷ [];
+      bytes = [];
+      stack_pages = 1;
+      functions =
+          record {
+            kind = Leaf;
+            params = [];
+            results = [];
+            entry = 0x40000;
+            frame = 0;
+            stack_room = 0;
+            budget = 16;
+            blocks = record { address = 0x40000; fuel = pos 16; cells = []; terms = [] } ∷ [];
+          } ∷ [];
+    }
+
+-- an empty source has no function
+abbrev pub KnownSourcesHaveTheirMeanings : Type 0
+KnownSourcesHaveTheirMeanings = (source_image [] ≡ Err (at 1 causes.Directive)) × (source_image hello ≡ Ok hello_parts)
