@@ -9,12 +9,12 @@ use Rattle.sbx_text.specs.declared.Token.{Token}
 use Rattle.v8_formats.specs.declared.instr.Instr.{Instr}
 use Rattle.v8_syntax.specs.declared.fault.SyntaxFault.{SyntaxFault}
 use Rattle.v8_syntax.specs.Statements.{source_meaning}
-use Rattle.sbx_image.specs.declared.parts.Range.{Range}
-use Rattle.sbx_image.specs.declared.parts.Cell.{Cell}
-use Rattle.sbx_image.specs.declared.parts.Term.{Term}
-use Rattle.sbx_image.specs.declared.parts.Kind.{Kind}
-use Rattle.sbx_image.specs.declared.parts.Block.{Block}
-use Rattle.sbx_image.specs.declared.services.Services.{Services}
+use Rattle.sbx_image.specs.Range.{Range}
+use Rattle.sbx_image.specs.Cell.{Cell}
+use Rattle.sbx_image.specs.Term.{Term}
+use Rattle.sbx_image.specs.Kind.{Kind}
+use Rattle.sbx_image.specs.Block.{Block}
+use Rattle.sbx_image.specs.Services.{Services}
 use Rattle.sbx_directives.specs.declared.directive.Name.{Name}
 use Rattle.sbx_directives.specs.declared.directive.Keyword.TheVariants as keywords
 use Rattle.sbx_directives.specs.declared.directive.Directive.TheVariants as directives

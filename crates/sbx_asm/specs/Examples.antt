@@ -1,8 +1,8 @@
 -- Two sources and what they mean, worked out from the definitions.
 use Rattle.std.specs.Prelude.{◌≡◌, ℕ, pos, List, [], ◌∷◌, ◌++◌, Ok, Err, codes}
 use Rattle.std.specs.List.{flat_map}
-use Rattle.sbx_image.specs.declared.parts.Kind.TheVariants.{Leaf}
-use Rattle.sbx_image.specs.declared.parts.Parts.{Parts}
+use Rattle.sbx_image.specs.Kind.TheVariants.{Leaf}
+use Rattle.sbx_image.specs.Parts.{Parts}
 use Rattle.sbx_asm.specs.declared.fault.Cause.TheVariants as causes
 use Rattle.sbx_asm.specs.Faults.{at}
 use Rattle.sbx_asm.specs.Meaning.{source_image}

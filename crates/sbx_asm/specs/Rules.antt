@@ -6,8 +6,8 @@ use Rattle.v8_formats.specs.declared.instr.Instr.{Instr}
 use Rattle.v8_syntax.specs.declared.fault.SyntaxFault.{SyntaxFault}
 use Rattle.v8_syntax.specs.declared.fault.SyntaxFault.TheVariants.{UnknownSymbol}
 use Rattle.v8_syntax.specs.Statements.{source_meaning, statement_length}
-use Rattle.sbx_image.specs.declared.parts.Cell.{Cell}
-use Rattle.sbx_image.specs.declared.parts.Term.{Term}
+use Rattle.sbx_image.specs.Cell.{Cell}
+use Rattle.sbx_image.specs.Term.{Term}
 use Rattle.sbx_directives.specs.declared.directive.Width.{Width}
 use Rattle.sbx_directives.specs.declared.directive.Keyword.{Keyword}
 use Rattle.sbx_directives.specs.declared.directive.Keyword.TheVariants as keywords

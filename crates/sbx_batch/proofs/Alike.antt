@@ -6,7 +6,7 @@ use Rattle.v8_board.specs.declared.outcome.Ending.TheVariants.{Exit}
 use Rattle.v8_board.specs.declared.outcome.Outcome.{Outcome}
 use Rattle.v8_board.specs.Seen.{State}
 use Rattle.v8_board.specs.Start.{IsStart}
-use Rattle.sbx_image.specs.declared.parts.Parts.{Parts}
+use Rattle.sbx_image.specs.Parts.{Parts}
 use Rattle.sbx_flat.specs.Runs.{AreBytes, FlatSafe}
 use Rattle.sbx_flat.specs.Traffic.{traffic}
 use Rattle.sbx_flat.specs.declared.path.Place.{Place}

@@ -1,6 +1,6 @@
 -- What runs give that follow one another on one board.
 use Rattle.std.specs.Prelude.{◌≡◌, ℕ, List, [], ◌∷◌}
-use Rattle.sbx_image.specs.declared.parts.Parts.{Parts}
+use Rattle.sbx_image.specs.Parts.{Parts}
 use Rattle.v8_board.specs.Seen.{State}
 use Rattle.v8_board.specs.Start.{IsNew}
 use Rattle.sbx_run.specs.Answer.{EndsOn, IsAnswer, told_of}
