@@ -8,7 +8,7 @@ use Rattle.v8_board.specs.Seen.{State, ending_of, turned}
 use Rattle.v8_board.specs.Runs.{Turns, after}
 use Rattle.v8_board.proofs.Running.{Counted, no_turns, one_turn_more}
 use Rattle.sbx_raw.specs.Runs.{IsBegun}
-use Rattle.sbx_raw.specs.Traces.{Wrote}
+use Rattle.sbx_raw.specs.Fronts.{Wrote}
 use Rattle.sbx_raw.proofs.Written.{nothing_written, written_after}
 use Rattle.sbx_turns.specs.Heads.{head_text}
 use Rattle.sbx_watch.specs.Watched.{IsWatched, TellsTurn, TellsTurns, WatchedRun, WatchedTurn}

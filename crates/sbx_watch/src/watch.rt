@@ -1,6 +1,6 @@
 //! The turns of a run, one after the other.
 ghost use Rattle.std.specs.Prelude.{◌≡◌, ◌≤◌, OnOk};
-ghost use Rattle.sbx_raw.specs.Traces.{Wrote};
+ghost use Rattle.sbx_raw.specs.Fronts.{Wrote};
 ghost use Rattle.sbx_watch.specs.Watched.{IsWatched, WatchedRun, WatchedTurn};
 
 use crate::teller::Teller;
