@@ -1,5 +1,5 @@
 -- What a job that puts all out at its end has put out where it stops.
-use Rattle.std.proofs.Common.{◌≡◌, refl, sym, subst, ℕ, List, [], ◌++◌, ◌∙◌, ap, Option, None, Some, IfSome, Ok, codes}
+use Rattle.std.proofs.Common.{◌≡◌, refl, sym, subst, ℕ, List, [], ◌++◌, ◌∙◌, ap, Option, None, Some, IfSome, Result, Ok, Err, IfErr, OnErr, codes}
 use Rattle.std.specs.Io.KnownBytes.{Appends}
 use Rattle.std.proofs.KnownBytes.{Appends-nil}
 use Rattle.v8_map.specs.declared.TheConstants.{CODE_START}
@@ -41,24 +41,29 @@ front_left IsFront (Memory want) written own front = absurd own
 front_left IsFront (NoRoom full) written own front = front
 
 -- the output's own stop leaves the first bytes of the object
-pub object_begun : (file old new : Option (List ℕ)) (stop : Stop) (parts : Parts) (object : List ℕ) → IfSome file (λ bytes. source_image bytes ≡ Ok parts)
+object_begun : (file old new : Option (List ℕ)) (stop : Stop) (parts : Parts) (object : List ℕ) → IfSome file (λ bytes. source_image bytes ≡ Ok parts)
     → object ≡ spelling parts → IsOfOutput stop → WroteSome old new object → FrontLeft BeginsObject file old new stop
 object_begun None old new stop parts object means spelled own written = tt
 object_begun (Some bytes) old new stop parts object means spelled own (front, rest, is, put) =
-    (front, front_left (BeginsObject bytes) stop front own (parts, means, rest, sym spelled ∙ is), put)
+    (front, front_left (BeginsObject bytes) stop front own (parts, means, (rest, sym spelled ∙ is)), put)
+
+pub object_left : (file old new : Option (List ℕ)) (parts : Parts) (object : List ℕ) (r : Result (Unit {0}) Stop) → IfSome file (λ bytes. source_image bytes ≡ Ok parts)
+    → object ≡ spelling parts → IfErr r IsOfOutput → OnErr r (WroteSome old new object) → IfErr r (FrontLeft BeginsObject file old new)
+object_left file old new parts object (Ok u) means spelled own written = tt
+object_left file old new parts object (Err stop) means spelled own written = object_begun file old new stop parts object means spelled own written
 
 -- those of the line of an accepted image
 pub verdict_begun : (file old new : Option (List ℕ)) (parts : Parts) → IfSome file (λ bytes. (reading bytes ≡ Ok parts) × Checked parts)
     → WroteSome old new (codes "accepted\n") → FrontLeft BeginsVerdict file old new Output
 verdict_begun None old new parts verdict written = tt
-verdict_begun (Some bytes) old new parts verdict (front, rest, is, put) = (front, ((parts, verdict.0, verdict.1), rest, is), put)
+verdict_begun (Some bytes) old new parts verdict (front, rest, is, put) = (front, ((parts, verdict.0, verdict.1), (rest, is)), put)
 
 -- those of the listing of an image
 pub listing_begun : (file old new : Option (List ℕ)) (parts : Parts) (words : List ℕ) → IfSome file (λ bytes. reading bytes ≡ Ok parts) → words ≡ parts.words
     → WroteSome old new (listing CODE_START words) → FrontLeft BeginsListing file old new Output
 listing_begun None old new parts words read same written = tt
 listing_begun (Some bytes) old new parts words read same (front, rest, is, put) =
-    (front, (parts, read, rest, ap (listing CODE_START) (sym same) ∙ is), put)
+    (front, (parts, read, (rest, ap (listing CODE_START) (sym same) ∙ is)), put)
 
 -- what a listing of the known bytes of a file has put out
 pub listed_on : (file old new : Option (List ℕ)) (parts : Parts) (words : List ℕ) → IfSome file (λ bytes. reading bytes ≡ Ok parts) → words ≡ parts.words
