@@ -1,21 +1,22 @@
 -- Bytes of the data written, and the page that their access marks.
-use Rattle.std.proofs.Common.{◌≡◌, ℕ, ◌+◌, ◌-◌, ◌*◌, ◌/◌, ◌^◌, ◌<◌, ◌≤◌, inr, Bool, true, List, length, Some, refl, sym, ap, ◌∙◌, subst, arith}
+use Rattle.std.proofs.Common.{◌≡◌, ℕ, ◌+◌, ◌-◌, ◌*◌, ◌/◌, ◌^◌, ◌<◌, ◌≤◌, Bool, true, List, length, Some, refl, sym, ap, ◌∙◌, subst, arith}
 use Rattle.std.specs.Prelude.{nat_le, if◌then◌else◌}
 use Rattle.std.proofs.lemmas.Bool.Decides.{nat_tests}
-use Rattle.v8_map.specs.declared.TheConstants.{CODE_START, CODE_TABLE, DATA_START, DATA_END, DATA_TABLE}
+use Rattle.v8_map.specs.declared.TheConstants.{CODE_TABLE, DATA_START, DATA_END, DATA_TABLE}
 use Rattle.v8_core.specs.Size.{Size}
 use Rattle.v8_core.specs.Size.TheVariants.{Byte}
 use Rattle.v8_core.specs.Transfers.{bytes_in}
 use Rattle.v8_core.specs.Ram.{with_number as board_with}
 use Rattle.v8_core.specs.Paths.{marked_ram}
 use Rattle.v8_core.specs.Accesses.{World, world}
-use Rattle.v8_loaded.specs.Layout.{AreFew, Pages}
+use Rattle.v8_loaded.specs.Layout.{data_count}
 use Rattle.v8_loaded.specs.AddressMap.{mapped, page_at}
-use Rattle.v8_layout.proofs.Map.{inside, outside}
+use Rattle.v8_layout.proofs.Entries.{data_entry_word}
+use Rattle.v8_layout.proofs.Map.{data_at as data_mapped}
 use Rattle.v8_layout.proofs.Marks.{Markable, data_markable, mark_keeps}
 use Rattle.v8_loaded.specs.Board.{Device}
 use Rattle.v8_board.specs.Start.{at_most, pages_of}
-use Rattle.v8_board.proofs.Placed.{pages_few}
+use Rattle.v8_board.proofs.Placed.{all_writable, data_counted, pages_few}
 use Rattle.sbx_flat.specs.Parts.{Parts}
 use Rattle.sbx_flat.specs.Memory.{number_at, with_number}
 use Rattle.sbx_flat.specs.States.{State}
@@ -32,20 +33,20 @@ use Rattle.sbx_shows.proofs.Users.{OnlyMarks, device_kept}
 abbrev pub data_entry_place : ℕ → ℕ
 data_entry_place a = DATA_TABLE + 4 * ((a - DATA_START) / 4096)
 
-pub data_at : (g : Pages) (va : ℕ) → AreFew g → DATA_START ≤ va → va < DATA_START + 4096 * g.data_count → page_at g va ≡ Some (mapped (data_area va) 1 (data_entry_place va))
-unfolding page_at
-data_at g va few low high =
-    let code = few.code in
-    rw (outside CODE_START (CODE_START + 4096 * g.code_count) va (inr (omega arith))) (rw (inside DATA_START (DATA_START + 4096 * g.data_count) va low high) refl)
+-- each page of an image's data may be written
+pub data_at : (parts : Parts) (va : ℕ) → DATA_START ≤ va → va < DATA_START + 4096 * data_count (pages_of parts) → page_at (pages_of parts) va ≡ Some (mapped (data_area va) 1 (data_entry_place va))
+data_at parts va low high =
+    data_mapped (pages_of parts) va (pages_few parts) low high
+    ∙ ap (λ (w : Bool). Some (mapped (data_area va) (if w then 1 else 0) (data_entry_place va))) (all_writable parts ((va - DATA_START) / 4096) (omega arith))
 
 -- an address of the data lies in a page that is mapped and the image's own
-pub data_room : (parts : Parts) (a : ℕ) → Fits parts → DATA_START ≤ a → a < DATA_START + length parts.bytes → a < DATA_START + 4096 * (pages_of parts).data_count
-unfolding pages_of
+pub data_room : (parts : Parts) (a : ℕ) → Fits parts → DATA_START ≤ a → a < DATA_START + length parts.bytes → a < DATA_START + 4096 * data_count (pages_of parts)
 data_room parts a fits low high =
     let most = fits.bytes in
     let few : nat_le ((length parts.bytes + 4095) / 4096) 64 ≡ true = grind (arith, nat_tests) in
     let count : at_most 64 ((length parts.bytes + 4095) / 4096) ≡ (length parts.bytes + 4095) / 4096 = ap (λ (t : Bool). if t then (length parts.bytes + 4095) / 4096 else 64) few in
-    omega (arith, count)
+    let counted = data_counted parts in
+    omega (arith, count, counted)
 
 pub data_own : (parts : Parts) (a : ℕ) → DATA_START ≤ a → a < DATA_START + length parts.bytes → is_own_data_page parts (a / 4096) ≡ true
 data_own parts a low high =
@@ -57,7 +58,7 @@ pub data_marks : (n : ℕ) (parts : Parts) (old mid : List ℕ) (a : ℕ) (store
 data_marks n parts old mid a store fits m low high =
     let most = (pages_few parts).data_pages in
     let room = data_room parts a fits low high in
-    let t = 0x5006 + 0x100 * ((a - DATA_START) / 4096) in
+    let t = data_entry_word (pages_of parts) ((a - DATA_START) / 4096) in
     let can : Markable mid (data_entry_place a) t = data_markable (pages_of parts) mid m.loaded.tables (pages_few parts) ((a - DATA_START) / 4096) (omega arith) in
     let here = marked_same mid (data_entry_place a) t store can in
     let own = data_own parts a low high in

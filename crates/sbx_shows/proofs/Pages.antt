@@ -7,8 +7,9 @@ use Rattle.v8_core.specs.Ram.{entry_of}
 use Rattle.v8_core.specs.Paths.{marked, marked_ram}
 use Rattle.v8_mmu.proofs.RamLemmas.{entry_is}
 use Rattle.v8_mmu.proofs.RamMore.{entry_elsewhere, marked_is, marks as marks_of}
-use Rattle.v8_loaded.specs.Layout.{Pages, IsLoaded, code_entry, data_entry, stack_entry, system_entry, unmarked}
+use Rattle.v8_loaded.specs.Layout.{Pages, IsLoaded, code_entry, data_count, data_entry, stack_entry, system_entry, unmarked}
 use Rattle.v8_layout.specs.Tables.{table_word}
+use Rattle.v8_layout.proofs.Entries.{acc_small, data_entry_word}
 use Rattle.v8_layout.proofs.Marks.{Markable, code_markable, sides}
 use Rattle.v8_services.specs.Services.{code_marked, device_marked, table_marked, vector_marked}
 use Rattle.v8_board.specs.Start.{IsPlaced, at_most, pages_of}
@@ -42,7 +43,7 @@ plain_word g k =
     let j = 640 + k in
     rw (not_first (640 + k) (omega arith)) (rw (test_high (640 + k) 256 (omega arith)) (rw (test_high (640 + k) 512 (omega arith)) (rw (test_high (640 + k) 576 (omega arith)) (rw (test_high (640 + k) 640 (omega arith))
     (plain_choice (nat_lt j 704) (code_entry g (j - 640)) _ (plain_choice (nat_lt (j - 640) g.code_count) (0x1012 + 0x100 * (j - 640)) 0 (omega arith) (omega arith))
-    (plain_choice (nat_lt j 768) (data_entry g (j - 704)) _ (plain_choice (nat_lt (j - 704) g.data_count) (0x5006 + 0x100 * (j - 704)) 0 (omega arith) (omega arith))
+    (plain_choice (nat_lt j 768) (data_entry g (j - 704)) _ (plain_choice (nat_lt (j - 704) (data_count g)) (data_entry_word g (j - 704)) 0 (let acc = acc_small g (j - 704) in omega arith) (omega arith))
     (plain_choice (nat_lt j 832) (stack_entry g (j - 768)) (system_entry (j - 832)) (plain_choice (nat_le (64 - g.stack_count) (j - 768) && nat_lt (j - 768) 64) (0x9006 + 0x100 * (j - 768 - 48)) 0 (omega arith) (omega arith))
     (plain_system (j - 832)))))))))
 

@@ -181,7 +181,7 @@ module _ (n : ℕ) (parts : Parts) (mmu : MmuRegs) (x : World n Device) (s : Sta
   data_walk low high =
       let most = h.fits.bytes in
       walk_at (pages_of parts) ram mmu a (access_by_user (writes_memory t)) (data_area a) 1 (data_entry_place a) (marks n parts mmu x s r i h).loaded.tables (pages_few parts) h.root (omega arith)
-      (data_at (pages_of parts) a (pages_few parts) low (data_room parts a h.fits low high)) (may_move (writes_memory t))
+      (data_at parts a low (data_room parts a h.fits low high)) (may_move (writes_memory t))
 
   -- what is shown once the number has gone out
   data_left : (mid : List ℕ) (number : ℕ) (b : Bool) → writes_memory t ≡ b → number_at s.memory a (bytes_in size) ≡ Some number → Shows n parts (world n c mid x.memory.device) s r →

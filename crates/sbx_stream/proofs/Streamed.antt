@@ -9,7 +9,7 @@ use Rattle.v8_core.specs.Accesses.{World}
 use Rattle.v8_loaded.specs.Board.{Device}
 use Rattle.v8_loaded.specs.Layout.{Pages}
 use Rattle.v8_loaded.specs.States.{IsState}
-use Rattle.v8_board.specs.Contained.{IsContained}
+use Rattle.v8_board.specs.Contained.{Contents, IsContained}
 use Rattle.v8_board.specs.declared.outcome.Counts.{Counts}
 use Rattle.v8_board.specs.declared.outcome.Ending.{Ending}
 use Rattle.v8_board.specs.declared.outcome.Ending.TheVariants.{Exit}
@@ -18,7 +18,7 @@ use Rattle.v8_board.specs.Contains.{Contains}
 use Rattle.v8_board.specs.Marks.{page_use_of}
 use Rattle.v8_board.specs.Runs.{IsRun, ending_or_limit, outcome_of}
 use Rattle.v8_board.specs.Seen.{Seen, State, ending_by, ending_of}
-use Rattle.v8_board.specs.Start.{IsNew, IsStart, pages_of}
+use Rattle.v8_board.specs.Start.{IsNew, IsStart, contents_of, pages_of}
 use Rattle.v8_board.proofs.Contained.{run_kept, stays_contained}
 use Rattle.sbx_image.specs.declared.parts.Parts.{Parts}
 use Rattle.sbx_flat.specs.Runs.{AreBytes, Behaves, FlatSafe, budget}
@@ -59,14 +59,14 @@ outcome_beside n w s t b =
 
 -- ---- the same start on another input
 
-contained_on : (n : ℕ) (g : Pages) (words : List ℕ) (mmu : MmuRegs) (x : World n Device) (i : List ℕ) → IsContained n g words mmu x
-    → IsContained n g words mmu (record x { memory = record x.memory { device = record x.memory.device { input = i } } })
-contained_on n g words mmu x i c = record {
+contained_on : (n : ℕ) (g : Pages) (held : Contents) (mmu : MmuRegs) (x : World n Device) (i : List ℕ) → IsContained n g held mmu x
+    → IsContained n g held mmu (record x { memory = record x.memory { device = record x.memory.device { input = i } } })
+contained_on n g held mmu x i c = record {
   few = c.few;
   many = c.many;
   pages = c.pages;
   root = c.root;
-  loaded = c.loaded;
+  kept = c.kept;
   mode = elim c.mode [ inl ended ↦ inl ended | inr running ↦ inr (record { running = running.running; mode = running.mode }) ];
 }
 
@@ -81,7 +81,7 @@ module _ (n : ℕ) (parts : Parts) (board : Seen n) (ready : IsReady n parts boa
         new = record { cpu = new.cpu; ram = new.ram; device = ap (λ (d : Device). record d { input = input }) new.device; mmu = new.mmu; counts = new.counts };
         loaded = record { cpu = loaded.cpu; ram = loaded.ram; device = ap (λ (d : Device). record d { input = input }) loaded.device; mmu = loaded.mmu; root = loaded.root; counts = loaded.counts };
         state = record { cpu = state.cpu; size = state.size; bytes = state.bytes; root = state.root };
-        contained = stays_contained n parts (with_input board.state input) (contained_on n (pages_of parts) parts.words board.state.mmu board.state.world input ready.contained);
+        contained = stays_contained n parts (with_input board.state input) (contained_on n (pages_of parts) (contents_of parts) board.state.mmu board.state.world input ready.contained);
       }
 
   module _ (image : IsImage parts) (safe : FlatSafe parts) (bytes : AreBytes input) (end : State n) (run : IsRun n (budget parts) (with_input board.state input) end) where
@@ -106,7 +106,7 @@ module _ (n : ℕ) (parts : Parts) (board : Seen n) (ready : IsReady n parts boa
           end = end;
           begun = begun_on;
           run = run;
-          kept = run_kept n (budget parts) start end run parts (contained_on n (pages_of parts) parts.words board.state.mmu board.state.world input ready.contained);
+          kept = run_kept n (budget parts) start end run parts (contained_on n (pages_of parts) (contents_of parts) board.state.mmu board.state.world input ready.contained);
           told = sym same;
           put_out = beside.output;
           pages = pages ∙ ap page_use_of beside.ram;

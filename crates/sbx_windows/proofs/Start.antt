@@ -14,11 +14,12 @@ use Rattle.v8_windows.proofs.AfterWrites.{written_at, written_current}
 use Rattle.v8_core.specs.Registers.{booted, started_with}
 use Rattle.v8_core.specs.Cpu.{Cpu}
 use Rattle.v8_core.specs.Accesses.{world}
+use Rattle.v8_loaded.specs.Layout.{data_count}
 use Rattle.v8_loaded.specs.Board.{Device}
 use Rattle.v8_loaded.proofs.Frames.{word_fits}
 use Rattle.sbx_shows.specs.Seen.{State as BoardState}
 use Rattle.sbx_shows.specs.Start.{IsPlaced, IsStart, at_most, pages_of}
-use Rattle.sbx_shows.proofs.Placed.{placed_loaded}
+use Rattle.sbx_shows.proofs.Placed.{data_counted, placed_loaded}
 use Rattle.sbx_shows.proofs.Stays.{word_kept}
 use Rattle.sbx_flat.specs.Rules.{code_start}
 use Rattle.sbx_flat.specs.Parts.{Parts}
@@ -133,8 +134,7 @@ module _ (n : ℕ) (old : Windows) (f : IsFile n old) where
 
 -- ---- all of it
 
-data_start_shows : (parts : Parts) (ram : List ℕ) → Fits parts → ((i : ℕ) → slice_index parts.bytes i < 2 ^ 8) → ((i : ℕ) → i < 4096 * (pages_of parts).data_count → slice_index ram (DATA_PLACE + i) ≡ slice_index parts.bytes i) → ShowsData parts (data_at parts.bytes) ram
-unfolding pages_of
+data_start_shows : (parts : Parts) (ram : List ℕ) → Fits parts → ((i : ℕ) → slice_index parts.bytes i < 2 ^ 8) → ((i : ℕ) → i < 4096 * data_count (pages_of parts) → slice_index ram (DATA_PLACE + i) ≡ slice_index parts.bytes i) → ShowsData parts (data_at parts.bytes) ram
 data_start_shows parts ram fits small placed a b is = by_place (nat_lt a DATA_START) refl is
   where
     by_place : (t : Bool) → nat_lt a DATA_START ≡ t → (if t then None else slice_get parts.bytes (a - DATA_START)) ≡ Some b → ShowsByte parts ram a b
@@ -146,12 +146,13 @@ data_start_shows parts ram fits small placed a b is = by_place (nat_lt a DATA_ST
         let most = fits.bytes in
         let few : nat_le ((length parts.bytes + 4095) / 4096) 64 ≡ true = grind (arith, nat_tests) in
         let count : at_most 64 ((length parts.bytes + 4095) / 4096) ≡ (length parts.bytes + 4095) / 4096 = ap (λ (t : Bool). if t then (length parts.bytes + 4095) / 4096 else 64) few in
+        let counted = data_counted parts in
         let place : data_area a ≡ DATA_PLACE + (a - DATA_START) = omega arith in
         record {
           low = low;
           high = omega arith;
           small = subst (λ q. q < 2 ^ 8) value (small (a - DATA_START));
-          there = ap (slice_index ram) place ∙ placed (a - DATA_START) (omega (arith, count)) ∙ value;
+          there = ap (slice_index ram) place ∙ placed (a - DATA_START) (omega (arith, count, counted)) ∙ value;
         }
 
 -- the stack of a board that was loaded has words, as its RAM has bytes

@@ -11,15 +11,14 @@ use Rattle.v8_core.specs.Cpu.{Cpu}
 use Rattle.v8_core.specs.Registers.{booted, started_with}
 use Rattle.v8_core.specs.Accesses.{world}
 use Rattle.v8_core.specs.declared.turn.Turn.{Turn}
-use Rattle.v8_contained.specs.Layout.{IsLoaded}
 use Rattle.v8_contained.specs.Board.{Device, IsBlank}
 use Rattle.v8_contained.specs.States.{IsState}
-use Rattle.v8_contained.specs.Contained.{IsShaped, IsUser, IsContained, TurnIs}
+use Rattle.v8_contained.specs.Contained.{IsShaped, IsUser, IsContained, IsKept, TurnIs}
 use Rattle.v8_contained.proofs.Law.{turns_contained}
 use Rattle.v8_board.specs.Contains.{Contains, Keeps, KeepsBy, StaysContained}
 use Rattle.v8_board.specs.Runs.{Turns, IsRun, IsCutShort, after}
 use Rattle.v8_board.specs.Seen.{State, turned}
-use Rattle.v8_board.specs.Start.{pages_of}
+use Rattle.v8_board.specs.Start.{contents_of, pages_of}
 use Rattle.v8_board.proofs.Placed.{pages_few}
 
 -- ---- where a program starts
@@ -69,14 +68,14 @@ boots_state n old new ram mmu d boot y file size bytes root =
 pub blank_bytes : (ram : List ℕ) → IsBlank ram → AreBytes ram
 blank_bytes ram blank i = subst (λ b. b < 256) (sym (blank.zeros i)) (lit< tt)
 
-pub loads_contained : (n : ℕ) (p : Parts) (old new : Cpu n) (ram : List ℕ) (mmu : MmuRegs) (d : Device) → 4 ≤ n → n ≤ 32 → new ≡ booted n old → IsFile n new.regs → IsLoaded n (pages_of p) p.words ram → root_of mmu ≡ 0x2000 → d.stopped ≡ None →
-    IsContained n (pages_of p) p.words mmu (world n new ram d)
-loads_contained n p old new ram mmu d few many boot file loaded root running = record {
+pub loads_contained : (n : ℕ) (p : Parts) (old new : Cpu n) (ram : List ℕ) (mmu : MmuRegs) (d : Device) → 4 ≤ n → n ≤ 32 → new ≡ booted n old → IsFile n new.regs → IsKept n (pages_of p) (contents_of p) ram → root_of mmu ≡ 0x2000 → d.stopped ≡ None →
+    IsContained n (pages_of p) (contents_of p) mmu (world n new ram d)
+loads_contained n p old new ram mmu d few many boot file kept root running = record {
   few = few;
   many = many;
   pages = pages_few p;
   root = root;
-  loaded = loaded;
+  kept = kept;
   mode = inr (record { running = running; mode = inl (boots n old new boot file) });
 }
 
@@ -84,11 +83,11 @@ loads_contained n p old new ram mmu d few many boot file loaded root running = r
 
 pub turn_kept : (n : ℕ) (s : State n) → Keeps n s (turned n s).1
 unfolding turned
-turn_kept n s p c = (turns_contained n (pages_of p) p.words s.mmu s.world c).keeps
+turn_kept n s p c = (turns_contained n (pages_of p) (contents_of p) s.mmu s.world c).keeps
 
 turned_by : (n : ℕ) (s : State n) → KeepsBy n s (turned n s).0 (turned n s).1
 unfolding turned
-turned_by n s p c = turns_contained n (pages_of p) p.words s.mmu s.world c
+turned_by n s p c = turns_contained n (pages_of p) (contents_of p) s.mmu s.world c
 
 after_kept : (n : ℕ) (s : State n) (k : ℕ) → Keeps n s (after n k s)
 after_kept n s zero p c = c
@@ -105,7 +104,7 @@ cut_kept n limit old new r = turns_kept n old new r.turns
 
 pub step_kept_by : (n : ℕ) (old new : State n) (t : Turn) → turned n old ≡ (t, new) → KeepsBy n old t new
 step_kept_by n old new t e p c =
-    subst (λ (r : Turn × State n). TurnIs n (pages_of p) p.words old.mmu old.world (r.0, r.1.world)) e (turned_by n old p c)
+    subst (λ (r : Turn × State n). TurnIs n (pages_of p) (contents_of p) old.mmu old.world (r.0, r.1.world)) e (turned_by n old p c)
 
 pub ok_kept_by : {E : Type 0} (n : ℕ) (old new : State n) (r : Result Turn E) → IfOk r (λ t. turned n old ≡ (t, new)) → IfOk r (λ t. KeepsBy n old t new)
 ok_kept_by n old new (Ok t) e = step_kept_by n old new t e

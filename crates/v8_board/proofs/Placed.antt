@@ -1,18 +1,20 @@
 -- RAM with everything placed in it.
-use Rattle.std.proofs.Common.{◌≡◌, ℕ, ◌+◌, ◌*◌, ◌/◌, ◌<◌, ◌≤◌, ◌⊎◌, inl, inr, Bool, true, false, cond, List, length, slice_index, Some, refl, sym, ap, ◌∙◌, subst, arith}
-use Rattle.std.specs.Prelude.{nat_le}
+use Rattle.std.proofs.Common.{◌≡◌, ℕ, zero, suc, ◌+◌, ◌-◌, ◌*◌, ◌/◌, ◌<◌, ◌≤◌, ◌⊎◌, inl, inr, Bool, true, false, cond, List, ◌∷◌, length, slice_index, Some, refl, sym, ap, ◌∙◌, subst, arith}
+use Rattle.std.specs.Prelude.{nat_le, replicate, take}
+use Rattle.std.proofs.lemmas.List.{get_or-replicate, length-replicate}
 use Rattle.std.proofs.lemmas.Bool.Decides.{nat_tests}
 use Rattle.sbx_image.specs.declared.parts.Parts.{Parts}
 use Rattle.v8_core.specs.Ram.{AreBytes, entry_of}
 use Rattle.v8_contained.specs.Handlers.{trap_word, handler_word}
-use Rattle.v8_contained.specs.Layout.{AreFew, HasTables, IsLoaded}
+use Rattle.v8_contained.specs.Layout.{AreFew, HasTables, IsLoaded, data_count, is_writable}
+use Rattle.v8_contained.specs.Contained.{IsKept}
 use Rattle.v8_layout.specs.Laws.{IsMapped}
 use Rattle.v8_layout.specs.Tables.{table_word}
 use Rattle.v8_layout.proofs.Map.{tables_map}
 use Rattle.v8_layout.proofs.Words.{words_make_tables}
 use Rattle.v8_contained.specs.Placing.{HasWords, HasBytesOf}
 use Rattle.v8_contained.proofs.Stays.{word_kept}
-use Rattle.v8_board.specs.Start.{IsPlaced, at_most, pages_of}
+use Rattle.v8_board.specs.Start.{IsPlaced, at_most, contents_of, pages_of}
 
 -- ---- what is below the words or bytes that were placed stays
 
@@ -43,19 +45,41 @@ most_is most n = by_test (nat_le n most) refl
     by_test true e = grind (arith, nat_tests)
     by_test false e = omega arith
 
+-- how many pages of data there are
+pub data_counted : (p : Parts) → data_count (pages_of p) ≡ at_most 64 ((length p.bytes + 4095) / 4096)
+unfolding pages_of
+data_counted p = length-replicate (at_most 64 ((length p.bytes + 4095) / 4096)) true
+
+-- each of them may be written
+pub all_writable : (p : Parts) (i : ℕ) → i < data_count (pages_of p) → is_writable (pages_of p) i ≡ true
+unfolding pages_of
+all_writable p i less =
+    let count = at_most 64 ((length p.bytes + 4095) / 4096) in
+    get_or-replicate count i true false (subst (λ k. i < k) (length-replicate count true) less)
+
+-- the first of 64 rights
+pub first_rights : (count : ℕ) → count ≤ 64 → take count (replicate 64 true) ≡ replicate count true
+first_rights count few = let whole : count + (64 - count) ≡ 64 = omega arith in ap (λ k. take count (replicate k true)) (sym whole) ∙ by_count count (64 - count)
+  where
+    by_count : (n k : ℕ) → take n (replicate (n + k) true) ≡ replicate n true
+    by_count zero k = refl
+    by_count (suc n) k =
+        let more : suc n + k ≡ suc (n + k) = omega arith in
+        ap (λ m. take (suc n) (replicate m true)) more ∙ ap (λ (l : List Bool). true ∷ l) (by_count n k)
+
 pub pages_few : (p : Parts) → AreFew (pages_of p)
 unfolding pages_of
 pages_few p =
     record {
       code = most_is 64 ((length p.words + 1023) / 1024);
-      data_pages = most_is 64 ((length p.bytes + 4095) / 4096);
+      data_pages = subst (λ k. k ≤ 64) (sym (data_counted p)) (most_is 64 ((length p.bytes + 4095) / 4096));
       stack = most_is 16 p.stack_pages;
     }
 
 -- ---- one part after the other
 
 pub placed : (n : ℕ) (p : Parts) (cc dc : ℕ) (t h w m0 m1 m2 m3 m4 m5 : List ℕ) →
-    (pages_of p).code_count ≡ cc → (pages_of p).data_count ≡ dc → length m5 ≡ 0x100000 →
+    (pages_of p).code_count ≡ cc → data_count (pages_of p) ≡ dc → length m5 ≡ 0x100000 →
     ((k : ℕ) → k < 1024 → slice_index t k ≡ trap_word k) → ((k : ℕ) → k < 1024 → slice_index h k ≡ handler_word n k) → ((k : ℕ) → k < 896 → slice_index w k ≡ table_word (pages_of p) k) →
     HasWords 0 t 1024 m0 m1 → HasWords 0x1000 h 1024 m1 m2 → HasWords 0x2000 w 896 m2 m3 → HasWords 0x10000 p.words (1024 * cc) m3 m4 → HasBytesOf 0x50000 p.bytes (4096 * dc) m4 m5 → IsPlaced n p m0 m5
 placed n p cc dc t h w m0 m1 m2 m3 m4 m5 codes bytes size trap handler tables a b c d e =
@@ -89,6 +113,9 @@ placed_tables n p old new h = words_make_tables (pages_of p) new h.size h.tables
 
 pub placed_loaded : (n : ℕ) (p : Parts) (old new : List ℕ) → IsPlaced n p old new → IsLoaded n (pages_of p) p.words new
 placed_loaded n p old new h = record { tables = placed_tables n p old new h; trap = h.trap; handler = h.handler; code = h.code }
+
+pub placed_kept : (n : ℕ) (p : Parts) (old new : List ℕ) → IsPlaced n p old new → IsKept n (pages_of p) (contents_of p) new
+placed_kept n p old new h = record { loaded = placed_loaded n p old new h; fixed = λ i less no. h.bytes i less }
 
 pub placed_maps : (n : ℕ) (p : Parts) (old new : List ℕ) → IsPlaced n p old new → IsMapped (pages_of p) new
 placed_maps n p old new h = tables_map (pages_of p) new (pages_few p) (placed_tables n p old new h)

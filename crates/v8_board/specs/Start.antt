@@ -1,14 +1,15 @@
 -- What a board is when it is made, and when an image has been loaded.
-use Rattle.std.specs.Prelude.{ℕ, ◌≡◌, ◌+◌, ◌*◌, ◌/◌, ◌<◌, ◌≤◌, nat_le, false, List, length, slice_index, Some, None, if◌then◌else◌}
+use Rattle.std.specs.Prelude.{ℕ, ◌≡◌, ◌+◌, ◌*◌, ◌/◌, ◌<◌, ◌≤◌, nat_le, true, false, List, length, replicate, slice_index, Some, None, if◌then◌else◌}
 use Rattle.sbx_image.specs.declared.parts.Parts.{Parts}
 use Rattle.v8_core.specs.Ram.{AreBytes, entry_of}
 use Rattle.v8_core.specs.Walked.{root_of}
 use Rattle.v8_core.specs.Registers.{booted, cleared, started_with}
 use Rattle.v8_contained.specs.Handlers.{trap_word, handler_word}
 use Rattle.v8_map.specs.declared.TheConstants.{CODE_PLACE, DATA_PLACE, STACK_PLACE, HANDLERS_PLACE, RAM, CONTEXT_TABLE}
-use Rattle.v8_contained.specs.Layout.{Pages}
+use Rattle.v8_contained.specs.Layout.{Pages, data_count}
 use Rattle.v8_layout.specs.Tables.{table_word}
 use Rattle.v8_contained.specs.Board.{IsBlank, seen}
+use Rattle.v8_contained.specs.Contained.{Contents}
 use Rattle.v8_board.specs.declared.outcome.Counts.{Counts}
 use Rattle.v8_board.specs.Seen.{State}
 
@@ -28,15 +29,19 @@ pub record IsNew (n : ℕ) (input output : List ℕ) (s : State n) : Type 0 wher
 abbrev pub at_most : ℕ → ℕ → ℕ
 at_most most n = if nat_le n most then n else most
 
--- the pages that an image takes: as many as hold its code words and data bytes, and its pages of stack. No image takes more than
--- 64 pages of code, 64 of data and 16 of stack.
+-- the pages that an image takes: as many as hold its code words and data bytes, and its pages of stack. Each page of data may be
+-- written. No image takes more than 64 pages of code, 64 of data and 16 of stack.
 unfoldable pub pages_of : Parts → Pages
 pages_of p =
     record {
       code_count = at_most 64 ((length p.words + 1023) / 1024);
-      data_count = at_most 64 ((length p.bytes + 4095) / 4096);
+      writable = replicate (at_most 64 ((length p.bytes + 4095) / 4096)) true;
       stack_count = at_most 16 p.stack_pages;
     }
+
+-- what of it stays as it was loaded, but for data that may be written
+abbrev pub contents_of : Parts → Contents
+contents_of p = record { words = p.words; bytes = p.bytes }
 
 -- Trap table, handlers, tables, code and data; the rest of the last code page and of the last data page is 0. The bytes of the
 -- stack, and all above them, are as before.
@@ -46,7 +51,7 @@ pub record IsPlaced (n : ℕ) (p : Parts) (old new : List ℕ) : Type 0 where
   pub handler : (k : ℕ) → k < 1024 → entry_of new (HANDLERS_PLACE + 4 * k) ≡ Some (handler_word n k)
   pub tables : (k : ℕ) → k < 896 → entry_of new (CONTEXT_TABLE + 4 * k) ≡ Some (table_word (pages_of p) k)
   pub code : (i : ℕ) → i < 1024 * (pages_of p).code_count → entry_of new (CODE_PLACE + 4 * i) ≡ Some (slice_index p.words i)
-  pub bytes : (i : ℕ) → i < 4096 * (pages_of p).data_count → slice_index new (DATA_PLACE + i) ≡ slice_index p.bytes i
+  pub bytes : (i : ℕ) → i < 4096 * data_count (pages_of p) → slice_index new (DATA_PLACE + i) ≡ slice_index p.bytes i
   pub stack : (i : ℕ) → STACK_PLACE ≤ i → slice_index new i ≡ slice_index old i
   pub fit : AreBytes old → AreBytes new
 

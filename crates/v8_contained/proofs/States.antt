@@ -41,7 +41,7 @@ use Rattle.v8_contained.proofs.Bytes.{mark_bytes, number_bytes, number_fits}
 use Rattle.v8_core.proofs.Fields.{SmallSecond, small_second}
 use Rattle.v8_contained.proofs.Files.{reads_word}
 use Rattle.v8_contained.proofs.Sound.{sound_effect, sound_entered, sound_faulted, sound_skipped, sound_taken}
-use Rattle.v8_contained.proofs.Stays.{number_is, with_number_kept}
+use Rattle.v8_contained.proofs.Stays.{number_is, with_number_size}
 
 -- ---- memory and input
 
@@ -119,7 +119,7 @@ over_leaves : (ram : List ℕ) (d : Device) (pa : ℕ) (size : Size) (v : ℕ) (
 over_leaves ram d pa size v None e small h = tt
 over_leaves ram d pa size v (Some was) e small h =
     let there = number_is ram pa size was e in
-    record { size = (with_number_kept ram pa size v there.fits).0 ∙ h.size; bytes = number_bytes ram pa size v h.bytes small; input = h.input }
+    record { size = with_number_size ram pa size v there.fits ∙ h.size; bytes = number_bytes ram pa size v h.bytes small; input = h.input }
 
 store_by : (ram : List ℕ) (d : Device) (pa : ℕ) (size : Size) (v : ℕ) (b : Bool) → v < limit_of size → AreHeld ram d →
     IfSome (cond b (overwritten ram d pa size v (number_at ram pa size)) (with_ram ram (device_store d (pa - device_base) size v))) Leaves

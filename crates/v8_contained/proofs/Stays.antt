@@ -1,5 +1,5 @@
--- A number stored in data or stack keeps all that is loaded.
-use Rattle.std.proofs.Common.{◌≡◌, ℕ, ◌+◌, ◌%◌, ◌≤◌, inl, List, length, Some, arith, ◌<◌, Option, take, drop, sym, ap, ◌∙◌, refl, None}
+-- Marks, and a number stored in the stack or in data that may be written, keep what stays.
+use Rattle.std.proofs.Common.{◌≡◌, ℕ, ◌+◌, ◌-◌, ◌*◌, ◌/◌, ◌%◌, ◌<◌, ◌≤◌, ◌⊎◌, inl, inr, Bool, true, false, List, length, take, drop, Option, Some, None, refl, sym, ap, ◌∙◌, arith}
 use Rattle.std.specs.Prelude.{◌==◌, ◌&&◌, nat_le, slice_index, if◌then◌else◌}
 use Rattle.std.specs.Int.{w32, from_be_bytes}
 use Rattle.std.proofs.lemmas.List.{get_or-take, get_or-drop, length-take, length-drop}
@@ -7,12 +7,17 @@ use Rattle.std.proofs.lemmas.Grind.{same_number_lists}
 use Rattle.v8_core.specs.Size.{Size}
 use Rattle.v8_core.specs.Size.TheVariants.{Byte, Half, Word, Double}
 use Rattle.v8_core.specs.Transfers.{bytes_in}
-use Rattle.v8_core.specs.Ram.{entry_of, with_entry, with_half, with_byte, with_double, number_at, with_number}
+use Rattle.v8_core.specs.Ram.{entry_of, number_at, with_number}
 use Rattle.v8_mmu.proofs.RamLemmas.{entry_is, length-with_entry}
 use Rattle.v8_mmu.proofs.RamNumbers.{half_is, length-with_half, byte_beside_half, byte_is, length-with_byte, byte_beside_byte, double_is, length-with_double, byte_beside_double}
 use Rattle.v8_mmu.proofs.RamMore.{byte_beside_entry}
-use Rattle.v8_loaded.specs.Layout.{Pages, AreFew, IsLoaded}
-use Rattle.v8_loaded.proofs.Marks.{loaded_by}
+use Rattle.v8_core.specs.Paths.{marked_ram}
+use Rattle.v8_loaded.specs.Layout.{Pages, AreFew, data_count, is_writable}
+use Rattle.v8_loaded.specs.Places.{device_marked, handlers_marked, table_marked}
+use Rattle.v8_loaded.proofs.Marks.{Markable, loaded_by, mark_keeps}
+use Rattle.v8_loaded.proofs.Fetches.{device_page, handlers_page, table_page}
+use Rattle.v8_loaded.proofs.Turns.{marked_byte}
+use Rattle.v8_contained.specs.Contained.{Contents, IsKept}
 
 four_same : (old new : List ℕ) (p : ℕ) → length new ≡ length old → ((j : ℕ) → p ≤ j → j < p + 4 → slice_index new j ≡ slice_index old j) → take 4 (drop p new) ≡ take 4 (drop p old)
 four_same old new p size same =
@@ -48,22 +53,73 @@ number_is ram at Double v e =
     let low = h.low.fits in
     record { aligned = h.aligned; fits = omega arith }
 
-pub with_number_kept : (ram : List ℕ) (at : ℕ) (size : Size) (v : ℕ) → at + bytes_in size ≤ length ram → (length (with_number ram at size v) ≡ length ram) × ((p : ℕ) → p + 4 ≤ at → entry_of (with_number ram at size v) p ≡ entry_of ram p)
-with_number_kept ram at Byte v fits =
-    let same = length-with_byte ram at v (omega arith) in
-    (same, λ p under. word_kept ram (with_byte ram at v) p same (λ j low high. byte_beside_byte ram at v j (omega arith) (inl (omega arith))))
-with_number_kept ram at Half v fits =
-    let same = length-with_half ram at v fits in
-    (same, λ p under. word_kept ram (with_half ram at v) p same (λ j low high. byte_beside_half ram at v j fits (inl (omega arith))))
-with_number_kept ram at Word v fits =
-    let same = length-with_entry ram at v fits in
-    (same, λ p under. word_kept ram (with_entry ram at v) p same (λ j low high. byte_beside_entry ram at v j fits (inl (omega arith))))
-with_number_kept ram at Double v fits =
-    let same = length-with_double ram at v fits in
-    (same, λ p under. word_kept ram (with_double ram at v) p same (λ j low high. byte_beside_double ram at v j fits (inl (omega arith))))
+pub with_number_size : (ram : List ℕ) (at : ℕ) (size : Size) (v : ℕ) → at + bytes_in size ≤ length ram → length (with_number ram at size v) ≡ length ram
+with_number_size ram at Byte v fits = length-with_byte ram at v (omega arith)
+with_number_size ram at Half v fits = length-with_half ram at v fits
+with_number_size ram at Word v fits = length-with_entry ram at v fits
+with_number_size ram at Double v fits = length-with_double ram at v fits
 
-pub number_stored : (n : ℕ) (g : Pages) (words ram : List ℕ) (at : ℕ) (size : Size) (old v : ℕ) → AreFew g → IsLoaded n g words ram → number_at ram at size ≡ Some old → 0x50000 ≤ at → IsLoaded n g words (with_number ram at size v)
-number_stored n g words ram at size old v few loaded there low =
+-- the bytes beside a number that is stored
+pub with_number_beside : (ram : List ℕ) (at : ℕ) (size : Size) (v : ℕ) → at + bytes_in size ≤ length ram →
+    (p : ℕ) → (p < at) ⊎ (at + bytes_in size ≤ p) → slice_index (with_number ram at size v) p ≡ slice_index ram p
+with_number_beside ram at Byte v fits p apart = byte_beside_byte ram at v p (omega arith) apart
+with_number_beside ram at Half v fits p apart = byte_beside_half ram at v p fits apart
+with_number_beside ram at Word v fits p apart = byte_beside_entry ram at v p fits apart
+with_number_beside ram at Double v fits p apart = byte_beside_double ram at v p fits apart
+
+-- ---- marks
+
+pub marked_stays : (n : ℕ) (g : Pages) (held : Contents) (ram : List ℕ) (place t : ℕ) (store : Bool) → IsKept n g held ram → Markable ram place t → IsKept n g held (marked_ram ram place store)
+marked_stays n g held ram place t store k h = record {
+  loaded = mark_keeps n g held.words ram place t store k.loaded h;
+  fixed = λ i less no. marked_byte ram place t store h (0x50000 + i) (omega arith) ∙ k.fixed i less no;
+}
+
+module _ (n : ℕ) (g : Pages) (held : Contents) (ram : List ℕ) (few : AreFew g) (k : IsKept n g held ram) where
+  pub table_stays : IsKept n g held (table_marked ram)
+  table_stays = marked_stays n g held ram 0x2D00 0x1A false k (table_page n g held.words ram few k.loaded)
+
+  pub handlers_stay : IsKept n g held (handlers_marked ram)
+  handlers_stay = marked_stays n g held ram 0x2D04 0x11A false k (handlers_page n g held.words ram few k.loaded)
+
+  pub device_stays : (store : Bool) → IsKept n g held (device_marked store ram)
+  device_stays store = marked_stays n g held ram 0x2D40 0x1000001E store k (device_page n g held.words ram few k.loaded)
+
+-- ---- stores
+
+-- a physical address at which nothing lies that stays: past the code, and in no page of data that may not be written
+pub record IsFree (g : Pages) (at : ℕ) : Type 0 where
+  pub low : 0x50000 ≤ at
+  pub right : at < 0x90000 → is_writable g ((at - 0x50000) / 4096) ≡ true
+
+-- a byte i of the data in a page that may not be written is none of so many from there on, which lie in one page
+apart_by : (g : Pages) (at count i : ℕ) → IsFree g at → is_writable g (i / 4096) ≡ false →
+    (at ≤ 0x50000 + i → 0x50000 + i < at + count → (at < 0x90000) × (i / 4096 ≡ (at - 0x50000) / 4096)) → (0x50000 + i < at) ⊎ (at + count ≤ 0x50000 + i)
+apart_by g at count i free fixed same =
+    let split : ((0x50000 + i < at) ⊎ (at + count ≤ 0x50000 + i)) ⊎ ((at ≤ 0x50000 + i) × (0x50000 + i < at + count)) = search arith in
+    elim split [
+      | inl apart ↦ apart
+      | inr among ↦
+          let is = same among.0 among.1 in
+          let yes : is_writable g (i / 4096) ≡ true = ap (is_writable g) is.1 ∙ free.right is.0 in
+          let both : true ≡ false = sym yes ∙ fixed in
+          absurd (cc)
+    ]
+
+apart_fixed : (g : Pages) (at i : ℕ) (size : Size) → AreFew g → IsFree g at → at % bytes_in size ≡ 0 → i < 4096 * data_count g → is_writable g (i / 4096) ≡ false →
+    (0x50000 + i < at) ⊎ (at + bytes_in size ≤ 0x50000 + i)
+apart_fixed g at i Byte few free whole less fixed = let most = few.data_pages in let low = free.low in apart_by g at 1 i free fixed (λ from to. (omega arith, omega arith))
+apart_fixed g at i Half few free whole less fixed = let most = few.data_pages in let low = free.low in apart_by g at 2 i free fixed (λ from to. (omega arith, omega arith))
+apart_fixed g at i Word few free whole less fixed = let most = few.data_pages in let low = free.low in apart_by g at 4 i free fixed (λ from to. (omega arith, omega arith))
+apart_fixed g at i Double few free whole less fixed = let most = few.data_pages in let low = free.low in apart_by g at 8 i free fixed (λ from to. (omega arith, omega arith))
+
+pub number_stored : (n : ℕ) (g : Pages) (held : Contents) (ram : List ℕ) (at : ℕ) (size : Size) (old v : ℕ) → AreFew g → IsKept n g held ram → number_at ram at size ≡ Some old → IsFree g at → IsKept n g held (with_number ram at size v)
+number_stored n g held ram at size old v few k there free =
     let h = number_is ram at size old there in
-    let kept = with_number_kept ram at size v h.fits in
-    loaded_by n g words ram (with_number ram at size v) few kept.0 (λ p under. kept.1 p (omega arith)) loaded
+    let low = free.low in
+    let new = with_number ram at size v in
+    let same = with_number_size ram at size v h.fits in
+    record {
+      loaded = loaded_by n g held.words ram new few same (λ p under. word_kept ram new p same (λ j from to. with_number_beside ram at size v h.fits j (inl (omega arith)))) k.loaded;
+      fixed = λ i less no. with_number_beside ram at size v h.fits (0x50000 + i) (apart_fixed g at i size few free h.aligned less no) ∙ k.fixed i less no;
+    }

@@ -38,9 +38,9 @@ use Rattle.v8_core.specs.Memory.{Memory, moves, fetches}
 use Rattle.v8_core.specs.Accesses.{World, world, is_user, place_of, access_of, data_kind, transfer_ends, transfers}
 use Rattle.v8_core.specs.Steps.{acts, executes, executes_or, proceeds, attempts, ends, tries, next}
 use Rattle.v8_core.proofs.Turns.{Ready, tries_as}
-use Rattle.v8_loaded.specs.Layout.{Pages, AreFew, IsLoaded}
+use Rattle.v8_loaded.specs.Layout.{Pages, AreFew}
 use Rattle.v8_loaded.specs.Board.{Device, board, is_word}
-use Rattle.v8_contained.specs.Contained.{IsShaped, IsUser, IsSupervisor, Place, Stands, IsOwn, TurnIs, ByVector}
+use Rattle.v8_contained.specs.Contained.{Contents, IsKept, IsShaped, IsUser, IsSupervisor, Place, Stands, IsOwn, TurnIs, ByVector}
 use Rattle.v8_contained.proofs.Shapes.{shaped_reg, shaped_regs, shaped_moved, shaped_mask, below_less}
 use Rattle.v8_contained.proofs.Accesses.{mem_of, data_access, MoveIs, move_is}
 
@@ -121,12 +121,12 @@ abbrev pub MadeBy : (n : ℕ) → Option ℕ → Cpu n → Type 0
 MadeBy n None cpu = IsUser n cpu ⊎ IsSupervisor n cpu
 MadeBy n (Some t) cpu = cpu.control.et ≡ false
 
-pub record SuperEnds (n : ℕ) (g : Pages) (words : List ℕ) (d : Device) (o : Outcome × World n Device) : Type 0 where
-  pub loaded : IsLoaded n g words o.1.memory.ram
+pub record SuperEnds (n : ℕ) (g : Pages) (held : Contents) (d : Device) (o : Outcome × World n Device) : Type 0 where
+  pub kept : IsKept n g held o.1.memory.ram
   pub device : o.1.memory.device ≡ d
   pub mode : MadeBy n o.0.trap o.1.cpu
 
-module _ (n : ℕ) (g : Pages) (words ram : List ℕ) (d : Device) (mmu : MmuRegs) (cpu : Cpu n) (few : 4 ≤ n) (pages : AreFew g) (root : root_of mmu ≡ 0x2000) (loaded : IsLoaded n g words ram) (u : IsSupervisor n cpu) where
+module _ (n : ℕ) (g : Pages) (held : Contents) (ram : List ℕ) (d : Device) (mmu : MmuRegs) (cpu : Cpu n) (few : 4 ≤ n) (pages : AreFew g) (root : root_of mmu ≡ 0x2000) (kept : IsKept n g held ram) (u : IsSupervisor n cpu) where
   pub goes_written : (rd x : ℕ) → Nexts cpu → IsSupervisor n (written n cpu rd x)
   unfolding written advanced
   goes_written rd x at = super_goes n cpu (with_reg n cpu.regs rd x) (advanced cpu.control) u (shaped_reg n cpu.regs rd x few u.shape) refl refl refl refl refl refl (small_word (cpu.control.npc + 4)) (at (record { regs = with_reg n cpu.regs rd x; control = advanced cpu.control }) refl refl)
@@ -149,12 +149,12 @@ module _ (n : ℕ) (g : Pages) (words ram : List ℕ) (d : Device) (mmu : MmuReg
       super_goes n cpu (with_reg n (moved cpu.regs w) rd x) (advanced cpu.control) u (shaped_reg n (moved cpu.regs w) rd x few (shaped_moved n cpu.regs w u.shape less)) refl refl refl refl refl refl (small_word (cpu.control.npc + 4))
       (at (record { regs = with_reg n (moved cpu.regs w) rd x; control = advanced cpu.control }) refl refl)
 
-  pub plainly : (new : Cpu n) → IsSupervisor n new → SuperEnds n g words d (record { access = None; trap = None }, world n new ram d)
-  plainly new h = record { loaded = loaded; device = refl; mode = inr h }
+  pub plainly : (new : Cpu n) → IsSupervisor n new → SuperEnds n g held d (record { access = None; trap = None }, world n new ram d)
+  plainly new h = record { kept = kept; device = refl; mode = inr h }
 
-  transferred : (va rd : ℕ) (t : Moving) (e : Moved) (m : Memory Device) → Nexts cpu → MoveIs n g words d false va (size_of t) (e, m) → SuperEnds n g words d (transfer_ends n va t rd cpu e m)
-  transferred va rd t (Done v pa) m at h = record { loaded = h.loaded; device = h.device; mode = inr (goes_taken t rd v at) }
-  transferred va rd t (Fault st) m at h = record { loaded = h.loaded; device = h.device; mode = u.off }
+  transferred : (va rd : ℕ) (t : Moving) (e : Moved) (m : Memory Device) → Nexts cpu → MoveIs n g held d false (writes_memory t) va (size_of t) (e, m) → SuperEnds n g held d (transfer_ends n va t rd cpu e m)
+  transferred va rd t (Done v pa) m at h = record { kept = h.kept; device = h.device; mode = inr (goes_taken t rd v at) }
+  transferred va rd t (Fault st) m at h = record { kept = h.kept; device = h.device; mode = u.off }
 
   super_address : (o : MemoryOperand) → place_of n cpu o < 2 ^ 32
   unfolding address_of
@@ -163,14 +163,14 @@ module _ (n : ℕ) (g : Pages) (words ram : List ℕ) (d : Device) (mmu : MmuReg
   accessed : (s : Space) (t : Moving) → s ≡ spaces.Normal → access_of n cpu (writes_memory t) s ≡ data_access false t
   accessed s t e = ap (access_of n cpu (writes_memory t)) e ∙ ap (λ (b : Bool). record { user = not b; kind = data_kind (writes_memory t) }) u.system
 
-  pair_moves : (t : Moving) (o : MemoryOperand) → is_pair_move t ≡ true → o.space ≡ spaces.Normal → Nexts cpu → SuperEnds n g words d (transfers board n mmu t o (world n cpu ram d))
+  pair_moves : (t : Moving) (o : MemoryOperand) → is_pair_move t ≡ true → o.space ≡ spaces.Normal → Nexts cpu → SuperEnds n g held d (transfers board n mmu t o (world n cpu ram d))
   unfolding transfers
   pair_moves t o pair normal at =
       let va = place_of n cpu o in
       let x = sent (reg n cpu) t o.rd in
       let r = moves board mmu va (data_access false t) t x (mem_of ram d) in
-      subst (λ (a : Access). SuperEnds n g words d (transfer_ends n va t o.rd cpu (moves board mmu va a t x (mem_of ram d)).0 (moves board mmu va a t x (mem_of ram d)).1)) (sym (accessed o.space t normal))
-      (transferred va o.rd t r.0 r.1 at (move_is n g words ram d mmu false va t x pages root loaded (super_address o) (pair_quiet t pair)))
+      subst (λ (a : Access). SuperEnds n g held d (transfer_ends n va t o.rd cpu (moves board mmu va a t x (mem_of ram d)).0 (moves board mmu va a t x (mem_of ram d)).1)) (sym (accessed o.space t normal))
+      (transferred va o.rd t r.0 r.1 at (move_is n g held ram d mmu false va t x pages root kept (super_address o) (pair_quiet t pair)))
 
   writes_mask : (r : StateRegister) (x : ℕ) → is_wim r ≡ true → Nexts cpu → IsSupervisor n (stepped n (with_state n cpu r x))
   unfolding advanced
@@ -181,7 +181,7 @@ module _ (n : ℕ) (g : Pages) (words ram : List ℕ) (d : Device) (mmu : MmuReg
   not_tame : {A : Type 0} → false ≡ true → A
   not_tame e = cc
 
-  pub tame_acts : (i : Operation) → tame i ≡ true → Nexts cpu → SuperEnds n g words d (acts board n mmu i (world n cpu ram d))
+  pub tame_acts : (i : Operation) → tame i ≡ true → Nexts cpu → SuperEnds n g held d (acts board n mmu i (world n cpu ram d))
   unfolding tame effect computed advanced
   tame_acts (Compute op f) e at = plainly (effect n cpu (Compute op f)) (super_goes n cpu _ _ u (shaped_reg n cpu.regs f.rd _ few u.shape) refl refl refl refl refl refl (small_word (cpu.control.npc + 4)) (at (effect n cpu (Compute op f)) refl refl))
   tame_acts (SetHigh f) e at = plainly (effect n cpu (SetHigh f)) (goes_written f.rd _ at)
@@ -193,16 +193,16 @@ module _ (n : ℕ) (g : Pages) (words ram : List ℕ) (d : Device) (mmu : MmuReg
   tame_acts _ e at = not_tame e
 
   -- a jump, to any word, whose delay slot comes first
-  pub jump_acts : (f : Three) → ((c : Cpu n) → c.control.pc ≡ cpu.control.npc → (p : Place) × Stands c p) → SuperEnds n g words d (acts board n mmu (JumpAndLink f) (world n cpu ram d))
+  pub jump_acts : (f : Three) → ((c : Cpu n) → c.control.pc ≡ cpu.control.npc → (p : Place) × Stands c p) → SuperEnds n g held d (acts board n mmu (JumpAndLink f) (world n cpu ram d))
   unfolding effect jumped address_of
   jump_acts f at = plainly (effect n cpu (JumpAndLink f))
       (super_goes n cpu (with_reg n cpu.regs f.rd cpu.control.pc) _ u (shaped_reg n cpu.regs f.rd cpu.control.pc few u.shape) refl refl refl refl refl refl (small_word _) (at (effect n cpu (JumpAndLink f)) refl))
 
   -- the return to user code
-  pub return_acts : (f : Two) → SuperEnds n g words d (acts board n mmu (ReturnFromTrap f) (world n cpu ram d))
+  pub return_acts : (f : Two) → SuperEnds n g held d (acts board n mmu (ReturnFromTrap f) (world n cpu ram d))
   unfolding effect returned jumped address_of
   return_acts f = record {
-    loaded = loaded;
+    kept = kept;
     device = refl;
     mode = inl (record {
       shape = shaped_moved n cpu.regs (above n cpu.regs.current) u.shape (above_less n cpu.regs.current few u.shape.current);
@@ -222,26 +222,26 @@ stuck : (n : ℕ) (cpu : Cpu n) (t : ℕ) → cpu.control.et ≡ false → IsSom
 unfolding entered
 stuck n cpu t off = rw off refl
 
-module _ (n : ℕ) (g : Pages) (words ram : List ℕ) (d : Device) (mmu : MmuRegs) (cpu : Cpu n) (few : 4 ≤ n) (many : n ≤ 32) (pages : AreFew g) (root : root_of mmu ≡ 0x2000) (running : d.stopped ≡ None) (u : IsSupervisor n cpu) where
+module _ (n : ℕ) (g : Pages) (held : Contents) (ram : List ℕ) (d : Device) (mmu : MmuRegs) (cpu : Cpu n) (few : 4 ≤ n) (many : n ≤ 32) (pages : AreFew g) (root : root_of mmu ≡ 0x2000) (running : d.stopped ≡ None) (u : IsSupervisor n cpu) where
   abbrev x : World n Device
   x = world n cpu ram d
 
   abbrev Good : Turn × World n Device → Type 0
-  Good p = TurnIs n g words mmu x p
+  Good p = TurnIs n g held mmu x p
 
   own_turn : (word : Option ℕ) (access : Option DataAccess) → IsOwn g (is_user n cpu) cpu.control.pc word access
   own_turn word access = subst (λ (b : Bool). IsOwn g (not b) cpu.control.pc word access) (sym u.system) tt
 
-  pub good_end : (word : Option ℕ) (access : Option DataAccess) (mid : World n Device) → IsLoaded n g words mid.memory.ram → IsSome mid.memory.device.stopped → (mid.memory.device ≡ d) ⊎ ByVector n x mid → Good (ends board n x word access None mid)
-  good_end word access mid l stopped same = record { keeps = record { few = few; many = many; pages = pages; root = root; loaded = l; mode = inl (inl stopped) }; own = own_turn word access; device = same }
+  pub good_end : (word : Option ℕ) (access : Option DataAccess) (mid : World n Device) → IsKept n g held mid.memory.ram → IsSome mid.memory.device.stopped → (mid.memory.device ≡ d) ⊎ ByVector n x mid → Good (ends board n x word access None mid)
+  good_end word access mid l stopped same = record { keeps = record { few = few; many = many; pages = pages; root = root; kept = l; mode = inl (inl stopped) }; own = own_turn word access; device = same }
 
-  pub good_more : (word : Option ℕ) (access : Option DataAccess) (mid : World n Device) → IsLoaded n g words mid.memory.ram → mid.memory.device.stopped ≡ None → IsUser n mid.cpu ⊎ IsSupervisor n mid.cpu → (mid.memory.device ≡ d) ⊎ ByVector n x mid → Good (ends board n x word access None mid)
-  good_more word access mid l going mode same = record { keeps = record { few = few; many = many; pages = pages; root = root; loaded = l; mode = inr (record { running = going; mode = mode }) }; own = own_turn word access; device = same }
+  pub good_more : (word : Option ℕ) (access : Option DataAccess) (mid : World n Device) → IsKept n g held mid.memory.ram → mid.memory.device.stopped ≡ None → IsUser n mid.cpu ⊎ IsSupervisor n mid.cpu → (mid.memory.device ≡ d) ⊎ ByVector n x mid → Good (ends board n x word access None mid)
+  good_more word access mid l going mode same = record { keeps = record { few = few; many = many; pages = pages; root = root; kept = l; mode = inr (record { running = going; mode = mode }) }; own = own_turn word access; device = same }
 
-  ended : (word : Option ℕ) (access : Option DataAccess) (trap : Option ℕ) (mid : World n Device) → SuperEnds n g words d (record { access = access; trap = trap }, mid) → Good (ends board n x word access trap mid)
-  ended word access None mid h = good_more word access mid h.loaded (ap (λ (e : Device). e.stopped) h.device ∙ running) h.mode (inl h.device)
+  ended : (word : Option ℕ) (access : Option DataAccess) (trap : Option ℕ) (mid : World n Device) → SuperEnds n g held d (record { access = access; trap = trap }, mid) → Good (ends board n x word access trap mid)
+  ended word access None mid h = good_more word access mid h.kept (ap (λ (e : Device). e.stopped) h.device ∙ running) h.mode (inl h.device)
   ended word access (Some t) mid h = record {
-    keeps = record { few = few; many = many; pages = pages; root = root; loaded = h.loaded; mode = inl (inr (stuck n mid.cpu t h.mode)) };
+    keeps = record { few = few; many = many; pages = pages; root = root; kept = h.kept; mode = inl (inr (stuck n mid.cpu t h.mode)) };
     own = own_turn word access;
     device = inl h.device;
   }
@@ -249,12 +249,12 @@ module _ (n : ℕ) (g : Pages) (words ram : List ℕ) (d : Device) (mmu : MmuReg
   abbrev Made : ℕ → Outcome × World n Device → Type 0
   Made w o = Good (ends board n x (Some w) o.0.access o.0.trap o.1)
 
-  executed : (w : ℕ) (i : Operation) (marks : List ℕ) (o : Option ℕ) → IsLoaded n g words marks → Made w (acts board n mmu i (world n cpu marks d)) → Made w (executes_or board n mmu i (world n cpu marks d) o)
+  executed : (w : ℕ) (i : Operation) (marks : List ℕ) (o : Option ℕ) → IsKept n g held marks → Made w (acts board n mmu i (world n cpu marks d)) → Made w (executes_or board n mmu i (world n cpu marks d) o)
   executed w i marks None after done = done
-  executed w i marks (Some t) after done = ended (Some w) None (Some t) (world n cpu marks d) (record { loaded = after; device = refl; mode = u.off })
+  executed w i marks (Some t) after done = ended (Some w) None (Some t) (world n cpu marks d) (record { kept = after; device = refl; mode = u.off })
 
   -- a turn where the word is known, and what its operation makes
-  pub at_word : (w : ℕ) (i : Operation) (marks : List ℕ) → fetches mmu cpu.control.pc super_fetch ram ≡ (Ok w, marks) → operation_of (meaning w) ≡ i → IsLoaded n g words marks → Made w (acts board n mmu i (world n cpu marks d)) → Good (next board n mmu x)
+  pub at_word : (w : ℕ) (i : Operation) (marks : List ℕ) → fetches mmu cpu.control.pc super_fetch ram ≡ (Ok w, marks) → operation_of (meaning w) ≡ i → IsKept n g held marks → Made w (acts board n mmu i (world n cpu marks d)) → Good (next board n mmu x)
   unfolding tries attempts executes
   at_word w i marks fetch is after done =
       let ready : Ready board n cpu d = record { running = running; sane = u.sane; straight = u.straight } in
@@ -264,7 +264,7 @@ module _ (n : ℕ) (g : Pages) (words ram : List ℕ) (d : Device) (mmu : MmuReg
       (subst (λ (j : Operation). Made w (executes_or board n mmu j (world n cpu marks d) (first_trap n cpu j))) (sym is) (executed w i marks (first_trap n cpu i) after done))
 
   -- the device isn't reached
-  pub at_quiet : (w : ℕ) (i : Operation) (marks : List ℕ) → fetches mmu cpu.control.pc super_fetch ram ≡ (Ok w, marks) → operation_of (meaning w) ≡ i → IsLoaded n g words marks → SuperEnds n g words d (acts board n mmu i (world n cpu marks d)) → Good (next board n mmu x)
+  pub at_quiet : (w : ℕ) (i : Operation) (marks : List ℕ) → fetches mmu cpu.control.pc super_fetch ram ≡ (Ok w, marks) → operation_of (meaning w) ≡ i → IsKept n g held marks → SuperEnds n g held d (acts board n mmu i (world n cpu marks d)) → Good (next board n mmu x)
   at_quiet w i marks fetch is after h =
       let o = acts board n mmu i (world n cpu marks d) in
       at_word w i marks fetch is after (ended (Some w) o.0.access o.0.trap o.1 h)

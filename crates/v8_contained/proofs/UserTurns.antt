@@ -24,13 +24,13 @@ use Rattle.v8_core.specs.declared.turn.Outcome.{Outcome}
 use Rattle.v8_core.specs.Memory.{fetches, fetch_through, fetch_answered}
 use Rattle.v8_core.specs.Accesses.{World, world, is_user, faulted}
 use Rattle.v8_core.specs.Steps.{executes, executes_or, proceeds, attempts, turn_of, ends, tries, skipped, goes_on, next}
-use Rattle.v8_loaded.specs.Layout.{Pages, AreFew, IsLoaded}
+use Rattle.v8_loaded.specs.Layout.{Pages, AreFew}
 use Rattle.v8_loaded.specs.AddressMap.{mapped}
-use Rattle.v8_loaded.proofs.Marks.{mark_keeps}
 use Rattle.v8_loaded.specs.Board.{Device, board}
-use Rattle.v8_contained.specs.Contained.{IsUser, IsSupervisor, IsContained, Enters, IsOwn, IsOwnFetch, IsOwnAccess, TurnIs}
+use Rattle.v8_contained.specs.Contained.{Contents, IsKept, IsUser, IsSupervisor, IsContained, Enters, IsOwn, IsOwnFetch, IsOwnAccess, TurnIs}
 use Rattle.v8_contained.proofs.Shapes.{shaped_trapped}
-use Rattle.v8_contained.proofs.Reaches.{Reached, Kind, Code, Writable, System, Registers, reaches}
+use Rattle.v8_contained.proofs.Reaches.{Reached, Kind, Code, Fixed, Writable, System, Registers, reaches}
+use Rattle.v8_contained.proofs.Stays.{marked_stays}
 use Rattle.v8_contained.proofs.Users.{UserEnds, user_acts, not_privileged, trap_small, user_faulted, user_goes}
 
 -- ---- the fetch
@@ -45,30 +45,31 @@ OnWord (Err st) P = Unit
 abbrev InCode : Pages → ℕ → Type 0
 InCode g va = (0x40000 ≤ va) × (va + 4 ≤ 0x40000 + 4096 * g.code_count)
 
-pub record FetchIs (n : ℕ) (g : Pages) (words : List ℕ) (va : ℕ) (r : Result ℕ ℕ × List ℕ) : Type 0 where
-  pub loaded : IsLoaded n g words r.1
+pub record FetchIs (n : ℕ) (g : Pages) (held : Contents) (va : ℕ) (r : Result ℕ ℕ × List ℕ) : Type 0 where
+  pub kept : IsKept n g held r.1
   pub own : OnWord r.0 (InCode g va)
 
 in_code : (g : Pages) (va pa acc place : ℕ) → Kind g va (mapped pa acc place) → permits (rights_of acc true) kinds.Fetch ≡ true → pa % 4 ≡ 0 → InCode g va
 in_code g va pa acc place (Code h) may whole = let low = h.low in let high = h.high in let is = h.pa in (low, omega arith)
+in_code g va pa acc place (Fixed h) may whole = absurd (let no : false ≡ true = rw h.acc at may in cc)
 in_code g va pa acc place (Writable h) may whole = absurd (let no : false ≡ true = rw h.acc at may in cc)
 in_code g va pa acc place (System h) may whole = absurd (let no : false ≡ true = rw h.acc at may in cc)
 in_code g va pa acc place (Registers h) may whole = absurd (let no : false ≡ true = rw h.acc at may in cc)
 
-fetch_answer : (n : ℕ) (g : Pages) (words ram marks : List ℕ) (va : ℕ) (page : Page) (o p : Option ℕ) → IsLoaded n g words ram → IsLoaded n g words marks → entry_of ram page.pa ≡ o → (page.pa % 4 ≡ 0 → InCode g va) → FetchIs n g words va (fetch_answered ram page (fetch_by true) marks o p)
-fetch_answer n g words ram marks va page None p loaded after e own = record { loaded = loaded; own = tt }
-fetch_answer n g words ram marks va page (Some w) None loaded after e own = record { loaded = loaded; own = tt }
-fetch_answer n g words ram marks va page (Some w) (Some x) loaded after e own = record { loaded = after; own = own (entry_is ram page.pa w e).0.aligned }
+fetch_answer : (n : ℕ) (g : Pages) (held : Contents) (ram marks : List ℕ) (va : ℕ) (page : Page) (o p : Option ℕ) → IsKept n g held ram → IsKept n g held marks → entry_of ram page.pa ≡ o → (page.pa % 4 ≡ 0 → InCode g va) → FetchIs n g held va (fetch_answered ram page (fetch_by true) marks o p)
+fetch_answer n g held ram marks va page None p kept after e own = record { kept = kept; own = tt }
+fetch_answer n g held ram marks va page (Some w) None kept after e own = record { kept = kept; own = tt }
+fetch_answer n g held ram marks va page (Some w) (Some x) kept after e own = record { kept = after; own = own (entry_is ram page.pa w e).0.aligned }
 
-fetch_reached : (n : ℕ) (g : Pages) (words ram : List ℕ) (va : ℕ) (r : Result Page MmuFault) → IsLoaded n g words ram → Reached g ram va (fetch_by true) r → FetchIs n g words va (fetch_through (fetch_by true) ram r)
-fetch_reached n g words ram va (Err e) loaded reach = record { loaded = loaded; own = tt }
-fetch_reached n g words ram va (Ok page) loaded reach =
+fetch_reached : (n : ℕ) (g : Pages) (held : Contents) (ram : List ℕ) (va : ℕ) (r : Result Page MmuFault) → IsKept n g held ram → Reached g ram va (fetch_by true) r → FetchIs n g held va (fetch_through (fetch_by true) ram r)
+fetch_reached n g held ram va (Err e) kept reach = record { kept = kept; own = tt }
+fetch_reached n g held ram va (Ok page) kept reach =
     let marks = marked_ram ram page.place false in
-    fetch_answer n g words ram marks va page (entry_of ram page.pa) (entry_of marks page.pa) loaded (mark_keeps n g words ram page.place reach.target false loaded reach.mark) refl (in_code g va page.pa reach.acc page.place reach.kind reach.may)
+    fetch_answer n g held ram marks va page (entry_of ram page.pa) (entry_of marks page.pa) kept (marked_stays n g held ram page.place reach.target false kept reach.mark) refl (in_code g va page.pa reach.acc page.place reach.kind reach.may)
 
-pub fetch_is : (n : ℕ) (g : Pages) (words ram : List ℕ) (mmu : MmuRegs) (va : ℕ) → AreFew g → root_of mmu ≡ 0x2000 → IsLoaded n g words ram → va < 2 ^ 32 → FetchIs n g words va (fetches mmu va (fetch_by true) ram)
+pub fetch_is : (n : ℕ) (g : Pages) (held : Contents) (ram : List ℕ) (mmu : MmuRegs) (va : ℕ) → AreFew g → root_of mmu ≡ 0x2000 → IsKept n g held ram → va < 2 ^ 32 → FetchIs n g held va (fetches mmu va (fetch_by true) ram)
 unfolding fetches
-fetch_is n g words ram mmu va few root loaded small = fetch_reached n g words ram va (walked ram (root_of mmu) va (fetch_by true)) loaded (reaches n g words ram mmu va (fetch_by true) few root loaded small)
+fetch_is n g held ram mmu va few root kept small = fetch_reached n g held ram va (walked ram (root_of mmu) va (fetch_by true)) kept (reaches n g held ram mmu va (fetch_by true) few root kept small)
 
 -- ---- a trap that user code takes
 
@@ -101,60 +102,60 @@ user_entered n cpu t few u small =
 
 -- ---- the turn
 
-module _ (n : ℕ) (g : Pages) (words ram : List ℕ) (d : Device) (mmu : MmuRegs) (cpu : Cpu n) (few : 4 ≤ n) (many : n ≤ 32) (pages : AreFew g) (root : root_of mmu ≡ 0x2000) (loaded : IsLoaded n g words ram) (running : d.stopped ≡ None) (u : IsUser n cpu) where
+module _ (n : ℕ) (g : Pages) (held : Contents) (ram : List ℕ) (d : Device) (mmu : MmuRegs) (cpu : Cpu n) (few : 4 ≤ n) (many : n ≤ 32) (pages : AreFew g) (root : root_of mmu ≡ 0x2000) (kept : IsKept n g held ram) (running : d.stopped ≡ None) (u : IsUser n cpu) where
   abbrev x : World n Device
   x = world n cpu ram d
 
-  contained : (y : World n Device) → IsLoaded n g words y.memory.ram → y.memory.device ≡ d → IsUser n y.cpu ⊎ IsSupervisor n y.cpu → IsContained n g words mmu y
-  contained y l same mode = record { few = few; many = many; pages = pages; root = root; loaded = l; mode = inr (record { running = ap (λ (e : Device). e.stopped) same ∙ running; mode = mode }) }
+  contained : (y : World n Device) → IsKept n g held y.memory.ram → y.memory.device ≡ d → IsUser n y.cpu ⊎ IsSupervisor n y.cpu → IsContained n g held mmu y
+  contained y l same mode = record { few = few; many = many; pages = pages; root = root; kept = l; mode = inr (record { running = ap (λ (e : Device). e.stopped) same ∙ running; mode = mode }) }
 
   own_turn : (word : Option ℕ) (access : Option DataAccess) → IsOwnFetch g cpu.control.pc word → IsOwnAccess g access → IsOwn g (is_user n cpu) cpu.control.pc word access
   own_turn word access f a = subst (λ (b : Bool). IsOwn g (not b) cpu.control.pc word access) (sym u.user) (f, a)
 
-  ended : (word : Option ℕ) (access : Option DataAccess) (trap : Option ℕ) (mid : World n Device) → IsOwnFetch g cpu.control.pc word → UserEnds n g words d (record { access = access; trap = trap }, mid) → TurnIs n g words mmu x (ends board n x word access trap mid)
-  ended word access None mid f h = record { keeps = contained mid h.loaded h.device (inl h.cpu); own = own_turn word access f h.access; device = inl h.device }
+  ended : (word : Option ℕ) (access : Option DataAccess) (trap : Option ℕ) (mid : World n Device) → IsOwnFetch g cpu.control.pc word → UserEnds n g held d (record { access = access; trap = trap }, mid) → TurnIs n g held mmu x (ends board n x word access trap mid)
+  ended word access None mid f h = record { keeps = contained mid h.kept h.device (inl h.cpu); own = own_turn word access f h.access; device = inl h.device }
   ended word access (Some t) mid f h = record {
-    keeps = contained (record mid { cpu = entered n mid.cpu t }) h.loaded h.device (inr (user_entered n mid.cpu t few h.cpu h.trap));
+    keeps = contained (record mid { cpu = entered n mid.cpu t }) h.kept h.device (inr (user_entered n mid.cpu t few h.cpu h.trap));
     own = own_turn word access f h.access;
     device = inl h.device;
   }
 
-  executed : (i : Operation) (marks : List ℕ) (o : Option ℕ) → IsLoaded n g words marks → first_trap n cpu i ≡ o → UserEnds n g words d (executes_or board n mmu i (world n cpu marks d) o)
-  executed i marks None after e = user_acts n g words marks d mmu cpu few pages root after u i (not_privileged n cpu i e)
-  executed i marks (Some t) after e = record { loaded = after; device = refl; cpu = u; trap = trap_small n cpu i t e; access = tt }
+  executed : (i : Operation) (marks : List ℕ) (o : Option ℕ) → IsKept n g held marks → first_trap n cpu i ≡ o → UserEnds n g held d (executes_or board n mmu i (world n cpu marks d) o)
+  executed i marks None after e = user_acts n g held marks d mmu cpu few pages root after u i (not_privileged n cpu i e)
+  executed i marks (Some t) after e = record { kept = after; device = refl; cpu = u; trap = trap_small n cpu i t e; access = tt }
 
   abbrev Done : Option ℕ × (Outcome × World n Device) → Type 0
-  Done a = TurnIs n g words mmu x (ends board n x a.0 a.1.0.access a.1.0.trap a.1.1)
+  Done a = TurnIs n g held mmu x (ends board n x a.0 a.1.0.access a.1.0.trap a.1.1)
 
-  proceeded : (r : Result ℕ ℕ) (marks : List ℕ) → FetchIs n g words cpu.control.pc (r, marks) → Done (proceeds board n mmu x r marks)
+  proceeded : (r : Result ℕ ℕ) (marks : List ℕ) → FetchIs n g held cpu.control.pc (r, marks) → Done (proceeds board n mmu x r marks)
   unfolding executes
   proceeded (Ok w) marks f =
       let i = operation_of (meaning w) in
       let o = executes_or board n mmu i (world n cpu marks d) (first_trap n cpu i) in
-      ended (Some w) o.0.access o.0.trap o.1 f.own (executed i marks (first_trap n cpu i) f.loaded refl)
-  proceeded (Err st) marks f = ended None None (Some 1) (world n (faulted n cpu st) marks d) tt (record { loaded = f.loaded; device = refl; cpu = user_faulted n cpu st u; trap = lit< tt; access = tt })
+      ended (Some w) o.0.access o.0.trap o.1 f.own (executed i marks (first_trap n cpu i) f.kept refl)
+  proceeded (Err st) marks f = ended None None (Some 1) (world n (faulted n cpu st) marks d) tt (record { kept = f.kept; device = refl; cpu = user_faulted n cpu st u; trap = lit< tt; access = tt })
 
-  tried : TurnIs n g words mmu x (tries board n mmu x)
+  tried : TurnIs n g held mmu x (tries board n mmu x)
   unfolding tries attempts
   tried =
       let f = fetches mmu cpu.control.pc (fetch_by true) ram in
       subst (λ (b : Bool). Done (proceeds board n mmu x (fetches mmu cpu.control.pc (fetch_by (not b)) ram).0 (fetches mmu cpu.control.pc (fetch_by (not b)) ram).1)) (sym u.user)
-      (proceeded f.0 f.1 (fetch_is n g words ram mmu cpu.control.pc pages root loaded u.pc_word))
+      (proceeded f.0 f.1 (fetch_is n g held ram mmu cpu.control.pc pages root kept u.pc_word))
 
-  annulled : TurnIs n g words mmu x (turn_of n cpu Annulled None None, record x { cpu = skipped n cpu })
+  annulled : TurnIs n g held mmu x (turn_of n cpu Annulled None None, record x { cpu = skipped n cpu })
   unfolding advanced
   annulled = record {
-    keeps = contained (record x { cpu = skipped n cpu }) loaded refl (inl (user_goes n cpu cpu.regs (record (advanced cpu.control) { annul = false }) u u.shape refl refl refl refl u.npc_word (let w : (cpu.control.npc + 4) % 2 ^ 32 < 2 ^ 32 = omega arith in w)));
+    keeps = contained (record x { cpu = skipped n cpu }) kept refl (inl (user_goes n cpu cpu.regs (record (advanced cpu.control) { annul = false }) u u.shape refl refl refl refl u.npc_word (let w : (cpu.control.npc + 4) % 2 ^ 32 < 2 ^ 32 = omega arith in w)));
     own = own_turn None None tt tt;
     device = inl refl;
   }
 
-  by_annul : (b : Bool) → TurnIs n g words mmu x (goes_on board n mmu x None None b)
+  by_annul : (b : Bool) → TurnIs n g held mmu x (goes_on board n mmu x None None b)
   by_annul true = annulled
   by_annul false = tried
 
-  pub user_turn : TurnIs n g words mmu x (next board n mmu x)
+  pub user_turn : TurnIs n g held mmu x (next board n mmu x)
   unfolding next
   user_turn =
-      subst (λ (s : Option Stop). TurnIs n g words mmu x (goes_on board n mmu x s cpu.control.error cpu.control.annul)) (sym running)
-      (subst (λ (e : Option ℕ). TurnIs n g words mmu x (goes_on board n mmu x None e cpu.control.annul)) (sym u.sane) (by_annul cpu.control.annul))
+      subst (λ (s : Option Stop). TurnIs n g held mmu x (goes_on board n mmu x s cpu.control.error cpu.control.annul)) (sym running)
+      (subst (λ (e : Option ℕ). TurnIs n g held mmu x (goes_on board n mmu x None e cpu.control.annul)) (sym u.sane) (by_annul cpu.control.annul))

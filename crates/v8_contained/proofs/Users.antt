@@ -31,9 +31,9 @@ use Rattle.v8_core.specs.declared.turn.Outcome.{Outcome}
 use Rattle.v8_core.specs.Memory.{Memory, moves}
 use Rattle.v8_core.specs.Accesses.{World, world, faulted, place_of, access_of, data_kind, transfer_ends, transfers}
 use Rattle.v8_core.specs.Steps.{acts}
-use Rattle.v8_loaded.specs.Layout.{Pages, AreFew, IsLoaded}
+use Rattle.v8_loaded.specs.Layout.{Pages, AreFew}
 use Rattle.v8_loaded.specs.Board.{Device, board}
-use Rattle.v8_contained.specs.Contained.{IsShaped, IsUser, IsOwnAccess}
+use Rattle.v8_contained.specs.Contained.{Contents, IsKept, IsShaped, IsUser, IsOwnAccess}
 use Rattle.v8_contained.proofs.Shapes.{shaped_reg, shaped_regs, shaped_moved, below_less}
 use Rattle.v8_contained.proofs.Accesses.{mem_of, data_access, MoveIs, move_is}
 
@@ -163,34 +163,34 @@ user_effect n cpu Coprocessor few u calm = u
 
 -- ---- with memory
 
-pub record UserEnds (n : ℕ) (g : Pages) (words : List ℕ) (d : Device) (o : Outcome × World n Device) : Type 0 where
-  pub loaded : IsLoaded n g words o.1.memory.ram
+pub record UserEnds (n : ℕ) (g : Pages) (held : Contents) (d : Device) (o : Outcome × World n Device) : Type 0 where
+  pub kept : IsKept n g held o.1.memory.ram
   pub device : o.1.memory.device ≡ d
   pub cpu : IsUser n o.1.cpu
   pub trap : IfSome o.0.trap (λ t. t < 256)
   pub access : IsOwnAccess g o.0.access
 
-module _ (n : ℕ) (g : Pages) (words ram : List ℕ) (d : Device) (mmu : MmuRegs) (cpu : Cpu n) (few : 4 ≤ n) (pages : AreFew g) (root : root_of mmu ≡ 0x2000) (loaded : IsLoaded n g words ram) (u : IsUser n cpu) where
-  ended : (va rd : ℕ) (t : Moving) (e : Moved) (m : Memory Device) → MoveIs n g words d true va (size_of t) (e, m) → UserEnds n g words d (transfer_ends n va t rd cpu e m)
-  ended va rd t (Done v pa) m h = record { loaded = h.loaded; device = h.device; cpu = user_taken n cpu t rd v few u; trap = tt; access = h.owns }
-  ended va rd t (Fault st) m h = record { loaded = h.loaded; device = h.device; cpu = user_faulted n cpu st u; trap = lit< tt; access = tt }
+module _ (n : ℕ) (g : Pages) (held : Contents) (ram : List ℕ) (d : Device) (mmu : MmuRegs) (cpu : Cpu n) (few : 4 ≤ n) (pages : AreFew g) (root : root_of mmu ≡ 0x2000) (kept : IsKept n g held ram) (u : IsUser n cpu) where
+  ended : (va rd : ℕ) (t : Moving) (e : Moved) (m : Memory Device) → MoveIs n g held d true (writes_memory t) va (size_of t) (e, m) → UserEnds n g held d (transfer_ends n va t rd cpu e m)
+  ended va rd t (Done v pa) m h = record { kept = h.kept; device = h.device; cpu = user_taken n cpu t rd v few u; trap = tt; access = h.owns }
+  ended va rd t (Fault st) m h = record { kept = h.kept; device = h.device; cpu = user_faulted n cpu st u; trap = lit< tt; access = tt }
 
   accessed : (s : Space) (t : Moving) → s ≡ spaces.Normal → access_of n cpu (writes_memory t) s ≡ data_access true t
   accessed s t e = ap (access_of n cpu (writes_memory t)) e ∙ ap (λ (b : Bool). record { user = not b; kind = data_kind (writes_memory t) }) u.user
 
-  user_transfers : (t : Moving) (o : MemoryOperand) → o.space ≡ spaces.Normal → UserEnds n g words d (transfers board n mmu t o (world n cpu ram d))
+  user_transfers : (t : Moving) (o : MemoryOperand) → o.space ≡ spaces.Normal → UserEnds n g held d (transfers board n mmu t o (world n cpu ram d))
   unfolding transfers
   user_transfers t o normal =
       let va = place_of n cpu o in
       let x = sent (reg n cpu) t o.rd in
       let r = moves board mmu va (data_access true t) t x (mem_of ram d) in
-      subst (λ (a : Access). UserEnds n g words d (transfer_ends n va t o.rd cpu (moves board mmu va a t x (mem_of ram d)).0 (moves board mmu va a t x (mem_of ram d)).1)) (sym (accessed o.space t normal))
-      (ended va o.rd t r.0 r.1 (move_is n g words ram d mmu true va t x pages root loaded (user_address n cpu o) tt))
+      subst (λ (a : Access). UserEnds n g held d (transfer_ends n va t o.rd cpu (moves board mmu va a t x (mem_of ram d)).0 (moves board mmu va a t x (mem_of ram d)).1)) (sym (accessed o.space t normal))
+      (ended va o.rd t r.0 r.1 (move_is n g held ram d mmu true va t x pages root kept (user_address n cpu o) tt))
 
-  plainly : (new : Cpu n) → IsUser n new → UserEnds n g words d (record { access = None; trap = None }, world n new ram d)
-  plainly new h = record { loaded = loaded; device = refl; cpu = h; trap = tt; access = tt }
+  plainly : (new : Cpu n) → IsUser n new → UserEnds n g held d (record { access = None; trap = None }, world n new ram d)
+  plainly new h = record { kept = kept; device = refl; cpu = h; trap = tt; access = tt }
 
-  pub user_acts : (i : Operation) → applies n cpu i 3 ≡ false → UserEnds n g words d (acts board n mmu i (world n cpu ram d))
+  pub user_acts : (i : Operation) → applies n cpu i 3 ≡ false → UserEnds n g held d (acts board n mmu i (world n cpu ram d))
   unfolding applies memory_applies
   user_acts (Transfer t m) calm = user_transfers t m (normal_is m.space cpu.control.s u.user calm)
   user_acts (Compute op f) calm = plainly (effect n cpu (Compute op f)) (user_effect n cpu (Compute op f) few u calm)

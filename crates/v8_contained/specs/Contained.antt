@@ -1,5 +1,5 @@
 -- What a board keeps, whatever words its code has: the invariant of containment.
-use Rattle.std.specs.Prelude.{ℕ, ◌≡◌, ◌+◌, ◌*◌, ◌%◌, ◌/◌, ◌^◌, ◌<◌, ◌≤◌, ◌⊎◌, ◌==◌, if◌then◌else◌, Bool, true, false, List, [], ◌∷◌, ◌++◌, length, get_or, Option, Some, None, IsSome}
+use Rattle.std.specs.Prelude.{ℕ, ◌≡◌, ◌+◌, ◌*◌, ◌%◌, ◌/◌, ◌^◌, ◌<◌, ◌≤◌, ◌⊎◌, ◌==◌, if◌then◌else◌, Bool, true, false, List, [], ◌∷◌, ◌++◌, length, get_or, slice_index, Option, Some, None, IsSome}
 use Rattle.v8_core.specs.Transfers.{bytes_in}
 use Rattle.v8_core.specs.Windows.{Windows, reg_of}
 use Rattle.v8_core.specs.Walked.{root_of}
@@ -9,8 +9,9 @@ use Rattle.v8_core.specs.Cpu.{Cpu}
 use Rattle.v8_core.specs.Accesses.{World}
 use Rattle.v8_core.specs.declared.turn.DataAccess.{DataAccess}
 use Rattle.v8_core.specs.declared.turn.Turn.{Turn}
-use Rattle.v8_map.specs.declared.TheConstants.{PAGE, CODE_START, DATA_START, STACK_END, TRAP_TABLE, HANDLERS, DEVICE, CONTEXT_TABLE}
-use Rattle.v8_loaded.specs.Layout.{Pages, AreFew, IsLoaded}
+use Rattle.v8_map.specs.declared.TheConstants.{PAGE, CODE_START, DATA_PLACE, TRAP_TABLE, HANDLERS, DEVICE, CONTEXT_TABLE}
+use Rattle.v8_loaded.specs.Layout.{Pages, AreFew, IsLoaded, data_count, is_writable}
+use Rattle.v8_loaded.specs.AddressMap.{may_be_read, may_be_written}
 use Rattle.v8_loaded.specs.Board.{Device, gets}
 
 -- ---- registers
@@ -113,26 +114,43 @@ pub record IsRunning (n : ℕ) (x : World n Device) : Type 0 where
 abbrev pub HasEnded : (n : ℕ) → World n Device → Type 0
 HasEnded n x = IsSome x.memory.device.stopped ⊎ IsSome x.cpu.control.error
 
+-- ---- what was loaded
+
+-- what an image brings: its code words, and what its pages of data begin with
+pub record Contents : Type 0 where
+  pub words : List ℕ
+  pub bytes : List ℕ
+
+-- The pages of data that may not be written hold these bytes, and 0 past their end.
+abbrev pub HasFixed : Pages → List ℕ → List ℕ → Type 0
+HasFixed g bytes ram = (i : ℕ) → i < PAGE * data_count g → is_writable g (i / PAGE) ≡ false → slice_index ram (DATA_PLACE + i) ≡ slice_index bytes i
+
+-- what stays as it was loaded: tables, R and M aside, trap table, handlers, code, and the pages of data that may not be written
+pub record IsKept (n : ℕ) (g : Pages) (held : Contents) (ram : List ℕ) : Type 0 where
+  pub loaded : IsLoaded n g held.words ram
+  pub fixed : HasFixed g held.bytes ram
+
 -- ---- the invariant
 
 -- What was loaded is there, and user code runs, or a vector or a handler that it trapped into, or the machine has ended.
-pub record IsContained (n : ℕ) (g : Pages) (words : List ℕ) (mmu : MmuRegs) (x : World n Device) : Type 0 where
+pub record IsContained (n : ℕ) (g : Pages) (held : Contents) (mmu : MmuRegs) (x : World n Device) : Type 0 where
   pub few : 4 ≤ n
   pub many : n ≤ 32
   pub pages : AreFew g
   pub root : root_of mmu ≡ CONTEXT_TABLE
-  pub loaded : IsLoaded n g words x.memory.ram
+  pub kept : IsKept n g held x.memory.ram
   pub mode : HasEnded n x ⊎ IsRunning n x
 
 -- ---- a turn
 
--- the data's pages, or the last pages of the stack
-abbrev pub IsData : Pages → ℕ → ℕ → Type 0
-IsData g va bytes = ((DATA_START ≤ va) × (va + bytes ≤ DATA_START + PAGE * g.data_count)) ⊎ ((STACK_END ≤ va + PAGE * g.stack_count) × (va + bytes ≤ STACK_END))
+-- a load reaches what may be read, a store what may be written
+abbrev pub may_be_reached : Pages → Bool → ℕ → Bool
+may_be_reached g store va = if store then may_be_written g va else may_be_read g va
 
+-- and so each byte of an access does
 abbrev pub IsOwnAccess : Pages → Option DataAccess → Type 0
 IsOwnAccess g None = Unit
-IsOwnAccess g (Some a) = IsData g a.va (bytes_in a.size)
+IsOwnAccess g (Some a) = (j : ℕ) → j < bytes_in a.size → may_be_reached g a.store (a.va + j) ≡ true
 
 abbrev pub IsOwnFetch : Pages → ℕ → Option ℕ → Type 0
 IsOwnFetch g pc None = Unit
@@ -159,7 +177,7 @@ pub record ByVector (n : ℕ) (old new : World n Device) : Type 0 where
 
 -- What a turn of a contained board is: it stays contained; what user code fetched and reached is its own; and the device is as it
 -- was, or as a vector makes it.
-pub record TurnIs (n : ℕ) (g : Pages) (words : List ℕ) (mmu : MmuRegs) (old : World n Device) (made : Turn × World n Device) : Type 0 where
-  pub keeps : IsContained n g words mmu made.1
+pub record TurnIs (n : ℕ) (g : Pages) (held : Contents) (mmu : MmuRegs) (old : World n Device) (made : Turn × World n Device) : Type 0 where
+  pub keeps : IsContained n g held mmu made.1
   pub own : IsOwn g made.0.user made.0.pc made.0.word made.0.access
   pub device : (made.1.memory.device ≡ old.memory.device) ⊎ ByVector n old made.1

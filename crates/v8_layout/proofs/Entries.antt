@@ -1,13 +1,14 @@
 -- The entries of a loaded board's page tables, but for marks.
-use Rattle.std.proofs.Common.{◌≡◌, ℕ, ◌+◌, ◌*◌, ◌/◌, ◌%◌, ◌^◌, Bool, true, false, List, Some, refl, arith}
-use Rattle.std.specs.Prelude.{◌==◌}
+use Rattle.std.proofs.Common.{◌≡◌, ℕ, ◌+◌, ◌*◌, ◌/◌, ◌%◌, ◌^◌, ◌<◌, ◌≤◌, Bool, true, false, List, Some, refl, arith}
+use Rattle.std.specs.Prelude.{◌==◌, nat_lt, if◌then◌else◌}
 use Rattle.std.proofs.lemmas.Bool.Decides.{nat_tests}
 use Rattle.v8_mmu.specs.Ram.{entry_of}
 use Rattle.v8_mmu.specs.Paths.{marked}
 use Rattle.v8_mmu.specs.Permissions.{acc_of}
 use Rattle.v8_mmu.proofs.WalkedIs.{some_of}
 use Rattle.v8_mmu.proofs.RamMore.{marked_high, marked_low}
-use Rattle.v8_layout.specs.Layout.{unmarked, HasEntry}
+use Rattle.v8_map.specs.declared.TheConstants.{DATA_PLACE}
+use Rattle.v8_layout.specs.Layout.{Pages, HasEntry, data_acc, data_count, data_entry, is_writable, maps_after, unmarked}
 
 unmarked_by : (x w : ℕ) → x / 2 ^ 7 ≡ w / 2 ^ 7 → x % 2 ^ 5 ≡ w % 2 ^ 5 → w % 4 ≡ 2 → (x % 4 ≡ 2) × (unmarked x ≡ unmarked w)
 unmarked_by x w high low page =
@@ -72,3 +73,22 @@ unmarked_same x w exact is = by_kind (w % 4 == 2) (x % 4 == 2) refl refl
         let two : x % 4 ≡ 2 = grind (arith, nat_tests) in
         absurd (exact (omega arith))
     by_kind false false e f = rw (e, f) at is
+
+-- ---- the pages of data
+
+-- the entry of the page i, but for marks
+abbrev pub data_entry_word : Pages → ℕ → ℕ
+data_entry_word g i = maps_after DATA_PLACE (data_acc g i) i
+
+pub acc_small : (g : Pages) (i : ℕ) → data_acc g i ≤ 1
+acc_small g i = by_right (is_writable g i)
+  where
+    by_right : (b : Bool) → (if b then 1 else 0) ≤ 1
+    by_right true = omega arith
+    by_right false = omega arith
+
+pub data_entry_is : (g : Pages) (i : ℕ) → i < data_count g → data_entry g i ≡ data_entry_word g i
+data_entry_is g i less = let there : nat_lt i (data_count g) ≡ true = grind (arith, nat_tests) in rw there refl
+
+pub no_data_entry : (g : Pages) (i : ℕ) → data_count g ≤ i → data_entry g i ≡ 0
+no_data_entry g i past = let none : nat_lt i (data_count g) ≡ false = grind (arith, nat_tests) in rw none refl

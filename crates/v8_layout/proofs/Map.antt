@@ -8,10 +8,10 @@ use Rattle.v8_mmu.specs.Permissions.{allows, acc_of, permits, rights_of, access_
 use Rattle.v8_mmu.specs.Walked.{target_of, used, walked}
 use Rattle.v8_mmu.specs.declared.access.Access.{Access}
 use Rattle.v8_mmu.proofs.WalkedIs.{down_one, goes_from}
-use Rattle.v8_layout.specs.Layout.{Pages, AreFew, HasTables, HasEntry, region_entry, program_entry, system_region_entry, code_entry, data_entry, stack_entry, system_entry}
+use Rattle.v8_layout.specs.Layout.{Pages, AreFew, HasTables, HasEntry, region_entry, program_entry, system_region_entry, code_entry, data_acc, data_count, stack_entry, system_entry}
 use Rattle.v8_layout.specs.AddressMap.{mapped, within, page_at, missing_level, through, reached, translated}
 use Rattle.v8_layout.specs.Laws.{IsMapped}
-use Rattle.v8_layout.proofs.Entries.{PageEntry, entry_from, like, no_entry}
+use Rattle.v8_layout.proofs.Entries.{PageEntry, acc_small, data_entry_is, data_entry_word, entry_from, like, no_data_entry, no_entry}
 
 -- ---- where a walk ends
 
@@ -100,13 +100,16 @@ pub outside : (first end va : ℕ) → (va < first) ⊎ (end ≤ va) → within 
 outside first end va (inl low) = grind (arith, nat_tests)
 outside first end va (inr high) = grind (arith, nat_tests)
 
+pub inside_is : (first end va : ℕ) → within first end va ≡ true → (first ≤ va) × (va < end)
+inside_is first end va e = (grind (arith, nat_tests), grind (arith, nat_tests))
+
 nothing_at : (g : Pages) (va : ℕ) →
-    (va < 0x40000) ⊎ (0x40000 + 4096 * g.code_count ≤ va) → (va < 0x80000) ⊎ (0x80000 + 4096 * g.data_count ≤ va) → (va < 0x100000 - 4096 * g.stack_count) ⊎ (0x100000 ≤ va) →
+    (va < 0x40000) ⊎ (0x40000 + 4096 * g.code_count ≤ va) → (va < 0x80000) ⊎ (0x80000 + 4096 * data_count g ≤ va) → (va < 0x100000 - 4096 * g.stack_count) ⊎ (0x100000 ≤ va) →
     (va < 0xF0000000) ⊎ (0xF0001000 ≤ va) → (va < 0xF0001000) ⊎ (0xF0002000 ≤ va) → (va < 0xF0010000) ⊎ (0xF0011000 ≤ va) → page_at g va ≡ None
 unfolding page_at
 nothing_at g va code words stack table handlers device =
     rw (outside 0x40000 (0x40000 + 4096 * g.code_count) va code)
-    (rw (outside 0x80000 (0x80000 + 4096 * g.data_count) va words)
+    (rw (outside 0x80000 (0x80000 + 4096 * data_count g) va words)
     (rw (outside (0x100000 - 4096 * g.stack_count) 0x100000 va stack)
     (rw (outside 0xF0000000 0xF0001000 va table)
     (rw (outside 0xF0001000 0xF0002000 va handlers)
@@ -154,20 +157,14 @@ code_maps g ram few t va a low high = by_count (nat_lt i g.code_count) refl
 
 -- ---- data
 
-data_at : (g : Pages) (va : ℕ) → AreFew g → 0x80000 ≤ va → va < 0x80000 + 4096 * g.data_count → page_at g va ≡ Some (mapped (va - 0x30000) 1 (0x2B00 + 4 * ((va - 0x80000) / 4096)))
+pub data_at : (g : Pages) (va : ℕ) → AreFew g → 0x80000 ≤ va → va < 0x80000 + 4096 * data_count g → page_at g va ≡ Some (mapped (va - 0x30000) (data_acc g ((va - 0x80000) / 4096)) (0x2B00 + 4 * ((va - 0x80000) / 4096)))
 unfolding page_at
 data_at g va few low high =
     let code = few.code in
-    rw (outside 0x40000 (0x40000 + 4096 * g.code_count) va (inr (omega arith))) (rw (inside 0x80000 (0x80000 + 4096 * g.data_count) va low high) refl)
-
-data_entry_is : (g : Pages) (i : ℕ) → i < g.data_count → data_entry g i ≡ 0x5006 + 0x100 * i
-data_entry_is g i less = grind (arith, nat_tests)
-
-no_data_entry : (g : Pages) (i : ℕ) → g.data_count ≤ i → data_entry g i ≡ 0
-no_data_entry g i past = grind (arith, nat_tests)
+    rw (outside 0x40000 (0x40000 + 4096 * g.code_count) va (inr (omega arith))) (rw (inside 0x80000 (0x80000 + 4096 * data_count g) va low high) refl)
 
 data_maps : (g : Pages) (ram : List ℕ) → AreFew g → HasTables g ram → (va : ℕ) (a : Access) → 0x80000 ≤ va → va < 0xC0000 → Ends ram g va a
-data_maps g ram few t va a low high = by_count (nat_lt i g.data_count) refl
+data_maps g ram few t va a low high = by_count (nat_lt i (data_count g)) refl
   where
     i : ℕ
     i = (va - 0x80000) / 4096
@@ -175,13 +172,14 @@ data_maps g ram few t va a low high = by_count (nat_lt i g.data_count) refl
     walk : walked ram 0x2000 va a ≡ goes_from ram va a 0 3 (0x2B00 + 4 * i) (entry_of ram (0x2B00 + 4 * i))
     walk = to_third g ram t va a 0 0x281 0x2800 2 0x2B1 0x2B00 i (omega arith) (omega arith) refl refl refl (omega arith) (omega arith) (t.programs 2 (omega arith)) refl refl (omega arith) (omega arith)
 
-    by_count : (b : Bool) → nat_lt i g.data_count ≡ b → Ends ram g va a
+    by_count : (b : Bool) → nat_lt i (data_count g) ≡ b → Ends ram g va a
     by_count true e =
-        let less : i < g.data_count = grind (arith, nat_tests) in
-        let entry = entry_from ram (0x2B00 + 4 * i) (0x5006 + 0x100 * i) (subst (HasEntry ram (0x2B00 + 4 * i)) (data_entry_is g i less) (t.data_pages i (omega arith))) in
-        to_page g ram va a (0x2B00 + 4 * i) (va - 0x30000) 1 (data_at g va few low (omega arith)) walk (page_reached ram va a (0x2B00 + 4 * i) (0x5006 + 0x100 * i) (va - 0x30000) 1 entry (omega arith) (omega arith) (omega arith))
+        let less : i < data_count g = grind (arith, nat_tests) in
+        let acc = acc_small g i in
+        let entry = entry_from ram (0x2B00 + 4 * i) (data_entry_word g i) (subst (HasEntry ram (0x2B00 + 4 * i)) (data_entry_is g i less) (t.data_pages i (omega arith))) in
+        to_page g ram va a (0x2B00 + 4 * i) (va - 0x30000) (data_acc g i) (data_at g va few low (omega arith)) walk (page_reached ram va a (0x2B00 + 4 * i) (data_entry_word g i) (va - 0x30000) (data_acc g i) entry (omega arith) (omega arith) (omega arith))
     by_count false e =
-        let past : g.data_count ≤ i = grind (arith, nat_tests) in
+        let past : data_count g ≤ i = grind (arith, nat_tests) in
         let entry = entry_from ram (0x2B00 + 4 * i) 0 (subst (HasEntry ram (0x2B00 + 4 * i)) (no_data_entry g i past) (t.data_pages i (omega arith))) in
         let code = few.code in
         let stack = few.stack in
@@ -198,7 +196,7 @@ stack_at g va few low high =
     let words = few.data_pages in
     let stack = few.stack in
     rw (outside 0x40000 (0x40000 + 4096 * g.code_count) va (inr (omega arith)))
-    (rw (outside 0x80000 (0x80000 + 4096 * g.data_count) va (inr (omega arith))) (rw (inside (0x100000 - 4096 * g.stack_count) 0x100000 va low high) refl))
+    (rw (outside 0x80000 (0x80000 + 4096 * data_count g) va (inr (omega arith))) (rw (inside (0x100000 - 4096 * g.stack_count) 0x100000 va low high) refl))
 
 stack_entry_is : (g : Pages) (i : ℕ) → 64 - g.stack_count ≤ i → i < 64 → stack_entry g i ≡ 0x9006 + 0x100 * (i - 48)
 stack_entry_is g i low less = grind (arith, nat_tests)
@@ -236,7 +234,7 @@ stack_maps g ram few t va a low high = by_count (nat_le (64 - g.stack_count) i) 
 system_walk : (g : Pages) (ram : List ℕ) → HasTables g ram → (va : ℕ) (a : Access) (i : ℕ) → 0xF0000000 ≤ va → va < 0xF0040000 → va / 2 ^ 12 % 64 ≡ i → walked ram 0x2000 va a ≡ goes_from ram va a 0 3 (0x2D00 + 4 * i) (entry_of ram (0x2D00 + 4 * i))
 system_walk g ram t va a i low high three = to_third g ram t va a 0xF0 0x291 0x2900 0 0x2D1 0x2D00 i (omega arith) (omega arith) refl refl refl (omega arith) (omega arith) (t.systems 0 (omega arith)) refl refl (omega arith) three
 
-pub below_system : (g : Pages) → AreFew g → (va : ℕ) → 0x100000 ≤ va → ((0x40000 + 4096 * g.code_count ≤ va) × (0x80000 + 4096 * g.data_count ≤ va))
+pub below_system : (g : Pages) → AreFew g → (va : ℕ) → 0x100000 ≤ va → ((0x40000 + 4096 * g.code_count ≤ va) × (0x80000 + 4096 * data_count g ≤ va))
 below_system g few va low =
     let code = few.code in
     let words = few.data_pages in
@@ -246,21 +244,21 @@ pub table_at : (g : Pages) (va : ℕ) → AreFew g → 0xF0000000 ≤ va → va 
 unfolding page_at
 table_at g va few low high =
     let past = below_system g few va (omega arith) in
-    rw (outside 0x40000 (0x40000 + 4096 * g.code_count) va (inr past.0)) (rw (outside 0x80000 (0x80000 + 4096 * g.data_count) va (inr past.1))
+    rw (outside 0x40000 (0x40000 + 4096 * g.code_count) va (inr past.0)) (rw (outside 0x80000 (0x80000 + 4096 * data_count g) va (inr past.1))
     (rw (outside (0x100000 - 4096 * g.stack_count) 0x100000 va (inr (omega arith))) (rw (inside 0xF0000000 0xF0001000 va low high) refl)))
 
 pub handlers_at : (g : Pages) (va : ℕ) → AreFew g → 0xF0001000 ≤ va → va < 0xF0002000 → page_at g va ≡ Some (mapped (va - 0xF0000000) 6 0x2D04)
 unfolding page_at
 handlers_at g va few low high =
     let past = below_system g few va (omega arith) in
-    rw (outside 0x40000 (0x40000 + 4096 * g.code_count) va (inr past.0)) (rw (outside 0x80000 (0x80000 + 4096 * g.data_count) va (inr past.1))
+    rw (outside 0x40000 (0x40000 + 4096 * g.code_count) va (inr past.0)) (rw (outside 0x80000 (0x80000 + 4096 * data_count g) va (inr past.1))
     (rw (outside (0x100000 - 4096 * g.stack_count) 0x100000 va (inr (omega arith))) (rw (outside 0xF0000000 0xF0001000 va (inr low)) (rw (inside 0xF0001000 0xF0002000 va low high) refl))))
 
 pub device_at : (g : Pages) (va : ℕ) → AreFew g → 0xF0010000 ≤ va → va < 0xF0011000 → page_at g va ≡ Some (mapped (va - 0xF0010000 + 0x100000000) 7 0x2D40)
 unfolding page_at
 device_at g va few low high =
     let past = below_system g few va (omega arith) in
-    rw (outside 0x40000 (0x40000 + 4096 * g.code_count) va (inr past.0)) (rw (outside 0x80000 (0x80000 + 4096 * g.data_count) va (inr past.1))
+    rw (outside 0x40000 (0x40000 + 4096 * g.code_count) va (inr past.0)) (rw (outside 0x80000 (0x80000 + 4096 * data_count g) va (inr past.1))
     (rw (outside (0x100000 - 4096 * g.stack_count) 0x100000 va (inr (omega arith))) (rw (outside 0xF0000000 0xF0001000 va (inr (omega arith)))
     (rw (outside 0xF0001000 0xF0002000 va (inr (omega arith))) (rw (inside 0xF0010000 0xF0011000 va low high) refl)))))
 

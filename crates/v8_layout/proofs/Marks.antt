@@ -6,9 +6,10 @@ use Rattle.v8_mmu.specs.Ram.{entry_of, with_entry}
 use Rattle.v8_mmu.specs.Paths.{marked, marked_ram}
 use Rattle.v8_mmu.proofs.RamLemmas.{Within, entry_is, length-with_entry, length-marked_ram, entry_of-with_entry}
 use Rattle.v8_mmu.proofs.RamMore.{entry_elsewhere, marked_high, marked_is}
-use Rattle.v8_layout.specs.Layout.{Pages, AreFew, HasTables, HasEntry, IsLoaded, unmarked, code_entry, data_entry, stack_entry, system_entry}
+use Rattle.v8_layout.specs.Layout.{Pages, AreFew, HasTables, HasEntry, IsLoaded, unmarked, code_entry, data_acc, data_count, data_entry, stack_entry, system_entry}
 use Rattle.v8_layout.specs.AddressMap.{Mapped, mapped, within, page_at}
-use Rattle.v8_layout.proofs.Entries.{unmarked_marked, PageEntry, entry_from, entry_back}
+use Rattle.v8_layout.proofs.Entries.{unmarked_marked, PageEntry, acc_small, data_entry_is, data_entry_word, entry_from, entry_back}
+use Rattle.v8_layout.proofs.Map.{inside_is}
 
 -- the entry of a page that may be marked
 pub record Markable (ram : List ℕ) (place t : ℕ) : Type 0 where
@@ -133,12 +134,12 @@ code_markable g ram l few i less =
       high = omega arith;
     }
 
-pub data_markable : (g : Pages) (ram : List ℕ) → HasTables g ram → AreFew g → (i : ℕ) → i < g.data_count → Markable ram (0x2B00 + 4 * i) (0x5006 + 0x100 * i)
+pub data_markable : (g : Pages) (ram : List ℕ) → HasTables g ram → AreFew g → (i : ℕ) → i < data_count g → Markable ram (0x2B00 + 4 * i) (data_entry_word g i)
 data_markable g ram l few i less =
     let most = few.data_pages in
-    let is : data_entry g i ≡ 0x5006 + 0x100 * i = grind (arith, nat_tests) in
+    let acc = acc_small g i in
     record {
-      entry = entry_from ram (0x2B00 + 4 * i) (0x5006 + 0x100 * i) (subst (HasEntry ram (0x2B00 + 4 * i)) is (l.data_pages i (omega arith)));
+      entry = entry_from ram (0x2B00 + 4 * i) (data_entry_word g i) (subst (HasEntry ram (0x2B00 + 4 * i)) (data_entry_is g i less) (l.data_pages i (omega arith)));
       kind = omega arith;
       small = omega arith;
       aligned = omega arith;
@@ -200,16 +201,13 @@ one_more : (b : Bool) (x : Mapped) (rest : Option Mapped) (P : Mapped → Type 0
 one_more true x rest P here there = here refl
 one_more false x rest P here there = there
 
-inside_is : (first end va : ℕ) → within first end va ≡ true → (first ≤ va) × (va < end)
-inside_is first end va e = (grind (arith, nat_tests), grind (arith, nat_tests))
-
 pub mapped_markable : (g : Pages) (ram : List ℕ) → HasTables g ram → AreFew g → (va : ℕ) → IfSome (page_at g va) (CanMark ram)
 unfolding page_at
 mapped_markable g ram l few va =
     one_more (within 0x40000 (0x40000 + 4096 * g.code_count) va) (mapped (va - 0x30000) 4 (0x2A00 + 4 * ((va - 0x40000) / 4096))) _ (CanMark ram)
     (λ e. let s = inside_is 0x40000 (0x40000 + 4096 * g.code_count) va e in (0x1012 + 0x100 * ((va - 0x40000) / 4096), code_markable g ram l few ((va - 0x40000) / 4096) (let low = s.0 in let high = s.1 in omega arith)))
-    (one_more (within 0x80000 (0x80000 + 4096 * g.data_count) va) (mapped (va - 0x30000) 1 (0x2B00 + 4 * ((va - 0x80000) / 4096))) _ (CanMark ram)
-    (λ e. let s = inside_is 0x80000 (0x80000 + 4096 * g.data_count) va e in (0x5006 + 0x100 * ((va - 0x80000) / 4096), data_markable g ram l few ((va - 0x80000) / 4096) (let low = s.0 in let high = s.1 in omega arith)))
+    (one_more (within 0x80000 (0x80000 + 4096 * data_count g) va) (mapped (va - 0x30000) (data_acc g ((va - 0x80000) / 4096)) (0x2B00 + 4 * ((va - 0x80000) / 4096))) _ (CanMark ram)
+    (λ e. let s = inside_is 0x80000 (0x80000 + 4096 * data_count g) va e in (data_entry_word g ((va - 0x80000) / 4096), data_markable g ram l few ((va - 0x80000) / 4096) (let low = s.0 in let high = s.1 in omega arith)))
     (one_more (within (0x100000 - 4096 * g.stack_count) 0x100000 va) (mapped (va - 0x60000) 1 (0x2C00 + 4 * ((va - 0xC0000) / 4096))) _ (CanMark ram)
     (λ e. let s = inside_is (0x100000 - 4096 * g.stack_count) 0x100000 va e in (0x9006 + 0x100 * ((va - 0xC0000) / 4096 - 48), stack_markable g ram l few ((va - 0xC0000) / 4096) (let low = s.0 in let most = few.stack in omega arith) (let high = s.1 in omega arith)))
     (one_more (within 0xF0000000 0xF0001000 va) (mapped (va - 0xF0000000) 6 0x2D00) _ (CanMark ram) (λ e. (0x1A, system_markable g ram l 0 0x1A (omega arith) refl refl (omega arith)))

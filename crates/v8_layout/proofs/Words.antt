@@ -3,9 +3,9 @@ use Rattle.std.proofs.Common.{◌≡◌, ℕ, ◌+◌, ◌-◌, ◌*◌, ◌/◌
 use Rattle.std.specs.Prelude.{◌==◌, ◌&&◌, nat_le, nat_lt}
 use Rattle.std.proofs.lemmas.Bool.Decides.{nat_tests}
 use Rattle.v8_mmu.specs.Ram.{entry_of}
-use Rattle.v8_layout.specs.Layout.{Pages, HasTables, HasEntry, unmarked, region_entry, program_entry, system_region_entry, code_entry, data_entry, stack_entry, system_entry}
+use Rattle.v8_layout.specs.Layout.{Pages, HasTables, HasEntry, unmarked, region_entry, program_entry, system_region_entry, code_entry, data_count, data_entry, stack_entry, system_entry}
 use Rattle.v8_layout.specs.Tables.{table_word}
-use Rattle.v8_layout.proofs.Entries.{entry_back}
+use Rattle.v8_layout.proofs.Entries.{acc_small, data_entry_word, entry_back}
 
 beyond : (k a i : ℕ) → k ≡ a + i → k - a ≡ i
 beyond k a i e = omega arith
@@ -93,7 +93,7 @@ words_make_tables g ram size words =
       code_pages = λ i small. as_entry ram (0x2A00 + 4 * i) (code_entry g i) (at 640 i (0x2A00 + 4 * i) (omega arith) (omega arith) ∙ ap Some (code_word g i small))
           (plain_choice (nat_lt i g.code_count) (0x1012 + 0x100 * i) 0 (plain_one (0x1012 + 0x100 * i) (omega arith)) refl);
       data_pages = λ i small. as_entry ram (0x2B00 + 4 * i) (data_entry g i) (at 704 i (0x2B00 + 4 * i) (omega arith) (omega arith) ∙ ap Some (data_word g i small))
-          (plain_choice (nat_lt i g.data_count) (0x5006 + 0x100 * i) 0 (plain_one (0x5006 + 0x100 * i) (omega arith)) refl);
+          (plain_choice (nat_lt i (data_count g)) (data_entry_word g i) 0 (plain_one (data_entry_word g i) (let acc = acc_small g i in omega arith)) refl);
       stack_pages = λ i small. as_entry ram (0x2C00 + 4 * i) (stack_entry g i) (at 768 i (0x2C00 + 4 * i) (omega arith) (omega arith) ∙ ap Some (stack_word g i small))
           (plain_choice (nat_le (64 - g.stack_count) i && nat_lt i 64) (0x9006 + 0x100 * (i - 48)) 0 (plain_one (0x9006 + 0x100 * (i - 48)) (omega arith)) refl);
       system_pages = λ i small. as_entry ram (0x2D00 + 4 * i) (system_entry i) (at 832 i (0x2D00 + 4 * i) (omega arith) (omega arith) ∙ ap Some (system_word g i small))

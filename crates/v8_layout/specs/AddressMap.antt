@@ -5,7 +5,7 @@ use Rattle.v8_mmu.specs.Walked.{Page}
 use Rattle.v8_mmu.specs.declared.access.Access.{Access}
 use Rattle.v8_mmu.specs.declared.translation.MmuFault.{MmuFault}
 use Rattle.v8_map.specs.declared.TheConstants.{PAGE, CODE_START, CODE_PLACE, CODE_TABLE, DATA_START, DATA_PLACE, DATA_TABLE, STACK_LOWEST, STACK_END, STACK_PLACE, STACK_TABLE, TRAP_TABLE, TRAP_TABLE_PLACE, HANDLERS, HANDLERS_PLACE, DEVICE, DEVICE_PLACE, SYSTEM_TABLE}
-use Rattle.v8_layout.specs.Layout.{Pages, region, large_region, stack_region, system_region, user_runs, user_writes, system_runs, system_writes}
+use Rattle.v8_layout.specs.Layout.{Pages, data_acc, data_count, is_writable, region, large_region, stack_region, system_region, user_runs, user_writes, system_runs, system_writes}
 
 -- An address of a mapped page: where it lies in physical memory, its page's ACC, and where the page's entry lies.
 pub record Mapped : Type 0 where
@@ -32,8 +32,12 @@ entry_in table region va = table + 4 * ((va - region) / PAGE)
 abbrev pub code_page : ℕ → Mapped
 code_page va = mapped (lowered CODE_START CODE_PLACE va) user_runs (entry_in CODE_TABLE CODE_START va)
 
-abbrev pub data_page : ℕ → Mapped
-data_page va = mapped (lowered DATA_START DATA_PLACE va) user_writes (entry_in DATA_TABLE DATA_START va)
+-- the number of an address's page of data
+abbrev pub data_number : ℕ → ℕ
+data_number va = (va - DATA_START) / PAGE
+
+abbrev pub data_page : Pages → ℕ → Mapped
+data_page g va = mapped (lowered DATA_START DATA_PLACE va) (data_acc g (data_number va)) (entry_in DATA_TABLE DATA_START va)
 
 abbrev pub stack_page : ℕ → Mapped
 stack_page va = mapped (lowered STACK_LOWEST STACK_PLACE va) user_writes (entry_in STACK_TABLE stack_region va)
@@ -47,15 +51,34 @@ handlers_page va = mapped (lowered HANDLERS HANDLERS_PLACE va) system_runs (entr
 abbrev pub device_page : ℕ → Mapped
 device_page va = mapped (va - DEVICE + DEVICE_PLACE) system_writes (entry_in SYSTEM_TABLE system_region DEVICE)
 
+-- an address of a page of data, and one of a page of the stack
+abbrev pub in_data : Pages → ℕ → Bool
+in_data g va = within DATA_START (DATA_START + PAGE * data_count g) va
+
+abbrev pub in_stack : Pages → ℕ → Bool
+in_stack g va = within (STACK_END - PAGE * g.stack_count) STACK_END va
+
 -- code, data, stack, trap table, handlers, device; nothing else is mapped
 unfoldable pub page_at : Pages → ℕ → Option Mapped
 page_at g va =
     if within CODE_START (CODE_START + PAGE * g.code_count) va then Some (code_page va) else
-    (if within DATA_START (DATA_START + PAGE * g.data_count) va then Some (data_page va) else
-    (if within (STACK_END - PAGE * g.stack_count) STACK_END va then Some (stack_page va) else
+    (if in_data g va then Some (data_page g va) else
+    (if in_stack g va then Some (stack_page va) else
     (if within TRAP_TABLE (TRAP_TABLE + PAGE) va then Some (trap_table_page va) else
     (if within HANDLERS (HANDLERS + PAGE) va then Some (handlers_page va) else
     (if within DEVICE (DEVICE + PAGE) va then Some (device_page va) else None)))))
+
+-- ---- what user code may do where
+
+-- what is at an address may be read: it is data or stack
+abbrev pub may_be_read : Pages → ℕ → Bool
+may_be_read g va = in_data g va || in_stack g va
+
+-- and it may be written: it is in a page of data that may be written, or stack
+abbrev pub may_be_written : Pages → ℕ → Bool
+may_be_written g va = (in_data g va && is_writable g (data_number va)) || in_stack g va
+
+-- ---- accesses
 
 -- The level of the entry 0 that an unmapped address ends at: in a table of pages, in one of 256 KB regions, or in that of 16 MB regions.
 abbrev pub missing_level : ℕ → ℕ

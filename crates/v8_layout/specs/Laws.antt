@@ -1,12 +1,13 @@
 -- What holds of a loaded board's tables.
-use Rattle.std.specs.Prelude.{ℕ, ◌≡◌, ◌%◌, ◌^◌, ◌<◌, ◌≤◌, List, length, Bool, IsSomeAnd, IfSome}
+use Rattle.std.specs.Prelude.{ℕ, ◌≡◌, ◌%◌, ◌^◌, ◌<◌, ◌≤◌, List, length, Bool, true, false, IsSomeAnd, IfSome, Err, is_ok}
 use Rattle.v8_mmu.specs.Ram.{entry_of}
 use Rattle.v8_mmu.specs.Paths.{marked_ram}
 use Rattle.v8_mmu.specs.Walked.{walked}
 use Rattle.v8_mmu.specs.declared.access.Access.{Access}
+use Rattle.v8_mmu.specs.declared.access.AccessKind.TheVariants.{Load, Store}
 use Rattle.v8_map.specs.declared.TheConstants.{CONTEXT_TABLE, TABLES_END}
 use Rattle.v8_layout.specs.Layout.{Pages, AreFew, HasTables, IsLoaded, unmarked}
-use Rattle.v8_layout.specs.AddressMap.{page_at, translated}
+use Rattle.v8_layout.specs.AddressMap.{may_be_read, may_be_written, page_at, translated}
 
 -- each virtual address translates as laid out, or faults
 abbrev pub IsMapped : Pages → List ℕ → Type 0
@@ -24,6 +25,27 @@ TablesMap = (g : Pages) (ram : List ℕ) → AreFew g → HasTables g ram → Is
 -- and keep spelling it as long as none of their words changes but in R and M
 abbrev pub TablesStay : Type 0
 TablesStay = (g : Pages) (old new : List ℕ) → AreFew g → HasTables g old → SameTables old new → HasTables g new × IsMapped g new
+
+-- ---- what user code may do where
+
+abbrev pub user_load : Access
+user_load = record { user = true; kind = Load }
+
+abbrev pub user_store : Access
+user_store = record { user = true; kind = Store }
+
+-- it may load exactly where what is there may be read, and store exactly where it may be written
+abbrev pub RightsHold : Type 0
+RightsHold = (g : Pages) (ram : List ℕ) (va : ℕ) → AreFew g → HasTables g ram → va < 2 ^ 32 →
+    (is_ok (walked ram CONTEXT_TABLE va user_load) ≡ may_be_read g va) × (is_ok (walked ram CONTEXT_TABLE va user_store) ≡ may_be_written g va)
+
+-- A store where what is there may be read and not written is forbidden by the page's entry, which is one of level 3: fault type 2,
+-- access type 4, a store to user data.
+abbrev pub StoresAreForbidden : Type 0
+StoresAreForbidden = (g : Pages) (ram : List ℕ) (va : ℕ) → AreFew g → HasTables g ram → va < 2 ^ 32 → may_be_read g va ≡ true → may_be_written g va ≡ false →
+    walked ram CONTEXT_TABLE va user_store ≡ Err (record { ft = 2; level = 3; at = 4 })
+
+-- ---- marks
 
 -- a mark on the entry of a page that is mapped
 abbrev pub MarksKeep : Type 0

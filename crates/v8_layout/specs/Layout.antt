@@ -1,19 +1,28 @@
 -- What lies in RAM once an image is loaded: the page tables (appendix H), the trap table, the handlers and the code.
-use Rattle.std.specs.Prelude.{ℕ, ◌≡◌, ◌+◌, ◌*◌, ◌-◌, ◌/◌, ◌%◌, ◌<◌, ◌≤◌, ◌==◌, nat_lt, nat_le, ◌&&◌, List, length, slice_index, Some, IsSomeAnd, if◌then◌else◌}
+use Rattle.std.specs.Prelude.{ℕ, ◌≡◌, ◌+◌, ◌*◌, ◌-◌, ◌/◌, ◌%◌, ◌<◌, ◌≤◌, ◌==◌, nat_lt, nat_le, ◌&&◌, Bool, false, List, length, slice_index, get_or, Some, IsSomeAnd, if◌then◌else◌}
 use Rattle.v8_mmu.specs.Ram.{entry_of}
 use Rattle.v8_handlers.specs.Handlers.{trap_word, handler_word}
 use Rattle.v8_map.specs.declared.TheConstants.{PAGE, CODE_START, CODE_PLACE, CODE_TABLE, DATA_START, DATA_PLACE, DATA_TABLE, STACK_LOWEST, STACK_PLACE, STACK_TABLE, TRAP_TABLE, TRAP_TABLE_PLACE, HANDLERS, HANDLERS_PLACE, DEVICE, DEVICE_PLACE, RAM, CONTEXT_TABLE, REGION_TABLE, PROGRAM_TABLE, SYSTEM_REGION_TABLE, SYSTEM_TABLE}
 
--- how many pages of 4 KB are mapped
+-- The pages of 4 KB that are mapped: how many of code and of the stack, and of each page of data whether it may be written. Each may
+-- be read.
 pub record Pages : Type 0 where
   pub code_count : ℕ
-  pub data_count : ℕ
+  pub writable : List Bool
   pub stack_count : ℕ
+
+-- how many pages of data there are
+abbrev pub data_count : Pages → ℕ
+data_count g = length g.writable
+
+-- the page i of data is one that may be written
+abbrev pub is_writable : Pages → ℕ → Bool
+is_writable g i = get_or g.writable i false
 
 -- code and data have 256 KB of addresses each, the stack has 64 KB
 pub record AreFew (g : Pages) : Type 0 where
   pub code : g.code_count ≤ 64
-  pub data_pages : g.data_count ≤ 64
+  pub data_pages : data_count g ≤ 64
   pub stack : g.stack_count ≤ 16
 
 -- An entry without R (bit 5) and M (bit 6), which the machine sets. Those of a table descriptor are bits of an address.
@@ -48,9 +57,13 @@ maps place acc = place / PAGE * 256 + acc * 4 + 2
 abbrev pub maps_after : ℕ → ℕ → ℕ → ℕ
 maps_after place acc i = maps place acc + 256 * i
 
--- ACC: what user and supervisor may execute, or read and write, and what the supervisor alone may read and execute, or read, write and execute
+-- ACC: what user and supervisor may execute, read, or read and write, and what the supervisor alone may read and execute, or read, write
+-- and execute
 abbrev pub user_runs : ℕ
 user_runs = 4
+
+abbrev pub user_reads : ℕ
+user_reads = 0
 
 abbrev pub user_writes : ℕ
 user_writes = 1
@@ -80,8 +93,12 @@ system_region_entry i = if i == 0 then leads_to SYSTEM_TABLE else 0
 abbrev pub code_entry : Pages → ℕ → ℕ
 code_entry g i = if nat_lt i g.code_count then maps_after CODE_PLACE user_runs i else 0
 
+-- the ACC of the page i of data
+abbrev pub data_acc : Pages → ℕ → ℕ
+data_acc g i = if is_writable g i then user_writes else user_reads
+
 abbrev pub data_entry : Pages → ℕ → ℕ
-data_entry g i = if nat_lt i g.data_count then maps_after DATA_PLACE user_writes i else 0
+data_entry g i = if nat_lt i (data_count g) then maps_after DATA_PLACE (data_acc g i) i else 0
 
 -- the last pages of the 64 are the stack's, of which the lowest that it can have is number 48
 abbrev pub stack_entry : Pages → ℕ → ℕ

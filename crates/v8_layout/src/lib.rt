@@ -4,4 +4,4 @@
 pub mod laws;
 mod tables;
 
-pub use tables::{PageCounts, page_tables};
+pub use tables::{Pages, page_tables};

@@ -30,8 +30,10 @@ const HANDLERS_PAGE: u32 = (HANDLERS - TRAP_TABLE) / PAGE;
 
 const DEVICE_PAGE: u32 = (DEVICE - TRAP_TABLE) / PAGE;
 
-/// ACC: what user and supervisor may execute, or read and write, and what the supervisor alone may read and execute, or also write.
+/// ACC: what user and supervisor may execute, read, or read and write, and what the supervisor alone may read and execute, or also write.
 const USER_RUNS: u32 = 4;
+
+const USER_READS: u32 = 0;
 
 const USER_WRITES: u32 = 1;
 
@@ -39,14 +41,15 @@ const SYSTEM_RUNS: u32 = 6;
 
 const SYSTEM_WRITES: u32 = 7;
 
-/// How many pages of 4 KB a board maps: 64 of code and of data and 16 of stack at most.
-#[derive(Clone, Copy, PartialEq, Eq, Debug)]
-pub struct PageCounts {
+/// The pages of 4 KB that a board maps: so many of code and of the stack, 64 and 16 at most, and for each page of data, 64 at most,
+/// whether it may be written.
+#[derive(Clone, Copy)]
+pub struct Pages<'a> {
     pub code: u32,
-    pub bytes: u32,
+    pub writable: &'a [bool],
     pub stack: u32,
     pub ghost few_code: { code ≤ 64 },
-    pub ghost few_bytes: { bytes ≤ 64 },
+    pub ghost few_data: { length writable.now ≤ 64 },
     pub ghost few_stack: { stack ≤ 16 },
 }
 
@@ -96,33 +99,33 @@ fn system_region_entry(i: u32) -> u32
     }
 }
 
-fn code_entry(counts: &PageCounts, i: u32) -> u32
+fn code_entry(pages: &Pages, i: u32) -> u32
     requires { i < 64 }
-    ensures { result ≡ code_entry (record { code_count = counts.now.code; data_count = counts.now.bytes; stack_count = counts.now.stack }) i }
+    ensures { result ≡ code_entry (record { code_count = pages.now.code; writable = pages.now.writable.now; stack_count = pages.now.stack }) i }
 {
-    if i < counts.code {
+    if i < pages.code {
         maps(u64::from(CODE_PLACE), USER_RUNS) + 256 * i
     } else {
         0
     }
 }
 
-fn data_entry(counts: &PageCounts, i: u32) -> u32
+fn data_entry(pages: &Pages, i: u32) -> u32
     requires { i < 64 }
-    ensures { result ≡ data_entry (record { code_count = counts.now.code; data_count = counts.now.bytes; stack_count = counts.now.stack }) i }
+    ensures { result ≡ data_entry (record { code_count = pages.now.code; writable = pages.now.writable.now; stack_count = pages.now.stack }) i }
 {
-    if i < counts.bytes {
-        maps(u64::from(DATA_PLACE), USER_WRITES) + 256 * i
-    } else {
-        0
+    match pages.writable.get(i as usize) {
+        Some(true) => maps(u64::from(DATA_PLACE), USER_WRITES) + 256 * i,
+        Some(false) => maps(u64::from(DATA_PLACE), USER_READS) + 256 * i,
+        None => 0,
     }
 }
 
-fn stack_entry(counts: &PageCounts, i: u32) -> u32
+fn stack_entry(pages: &Pages, i: u32) -> u32
     requires { i < 64 }
-    ensures { result ≡ stack_entry (record { code_count = counts.now.code; data_count = counts.now.bytes; stack_count = counts.now.stack }) i }
+    ensures { result ≡ stack_entry (record { code_count = pages.now.code; writable = pages.now.writable.now; stack_count = pages.now.stack }) i }
 {
-    let first = 64 - counts.stack;
+    let first = 64 - pages.stack;
     if first <= i {
         maps(u64::from(STACK_PLACE), USER_WRITES) + 256 * (i - LOWEST)
     } else {
@@ -143,9 +146,9 @@ fn system_entry(i: u32) -> u32
 
 /// Word k of the page tables.
 #[tactic(auto, unfolding(crate::specs::Tables::table_word))]
-fn table_word(counts: &PageCounts, k: u32) -> u32
+fn table_word(pages: &Pages, k: u32) -> u32
     requires { k < 896 }
-    ensures { result ≡ table_word (record { code_count = counts.now.code; data_count = counts.now.bytes; stack_count = counts.now.stack }) k }
+    ensures { result ≡ table_word (record { code_count = pages.now.code; writable = pages.now.writable.now; stack_count = pages.now.stack }) k }
 {
     if k == 0 {
         leads_to(REGION_TABLE)
@@ -158,24 +161,24 @@ fn table_word(counts: &PageCounts, k: u32) -> u32
     } else if k < 640 {
         system_region_entry(k - 576)
     } else if k < 704 {
-        code_entry(counts, k - 640)
+        code_entry(pages, k - 640)
     } else if k < 768 {
-        data_entry(counts, k - 704)
+        data_entry(pages, k - 704)
     } else if k < 832 {
-        stack_entry(counts, k - 768)
+        stack_entry(pages, k - 768)
     } else {
         system_entry(k - 832)
     }
 }
 
-/// The words of the page tables of a board that maps so many pages (appendix H). They lie from physical address 2000
+/// The words of the page tables of a board that maps these pages (appendix H). They lie from physical address 2000
 /// (hexadecimal) on: the context table with context 0, then the tables of levels 1 and 2, then those of code, data, stack and system.
-pub fn page_tables(counts: &PageCounts) -> [u32; 896]
-    ensures { (k : ℕ) → k < 896 → slice_index result k ≡ table_word (record { code_count = counts.now.code; data_count = counts.now.bytes; stack_count = counts.now.stack }) k }
+pub fn page_tables(pages: &Pages) -> [u32; 896]
+    ensures { (k : ℕ) → k < 896 → slice_index result k ≡ table_word (record { code_count = pages.now.code; writable = pages.now.writable.now; stack_count = pages.now.stack }) k }
 {
     let mut tables = [0; 896];
     for k in 0..896 {
-        tables[k] = table_word(counts, k as u32);
+        tables[k] = table_word(pages, k as u32);
     }
     tables
 }

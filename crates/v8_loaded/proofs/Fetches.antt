@@ -60,7 +60,7 @@ module _ (n : ℕ) (g : Pages) (words ram : List ℕ) (few : AreFew g) (loaded :
   pub handlers_page : Markable ram 0x2D04 0x11A
   handlers_page = system_markable g ram loaded.tables 1 0x11A (omega arith) refl refl (omega arith)
 
-  device_page : Markable ram 0x2D40 0x1000001E
+  pub device_page : Markable ram 0x2D40 0x1000001E
   device_page = system_markable g ram loaded.tables 16 0x1000001E (omega arith) refl refl (omega arith)
 
   pub code_kept : (i : ℕ) → i < 1024 * g.code_count → IsLoaded n g words (code_marked i ram)

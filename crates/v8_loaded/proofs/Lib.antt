@@ -1,5 +1,6 @@
 -- The turns of user code on a loaded board, and of a window handler, one lemma for each word.
 --   Users              a turn of user code: its fetch, a trap that it takes, an instruction that runs
+--   Forbidden          a store to where it may not write
 --   Vectors            a turn in the vector of a trap that it took
 --   Leading            turns in a row
 -- A handler's turns, from the trap on:
@@ -23,6 +24,7 @@ pub mod Effects
 pub mod Entered
 pub mod Leading
 pub mod Users
+pub mod Forbidden
 pub mod Vectors
 pub mod Turns
 pub mod Stack

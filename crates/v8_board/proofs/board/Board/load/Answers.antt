@@ -1,7 +1,7 @@
 use Rattle.std.proofs.lemmas.Grind.{common_steps}
 use Rattle.std.proofs.Common.{◌≡◌, ◌^◌, ◌<◌, ap, arith}
 use Rattle.v8_core.specs.Control.{Control}
-use Rattle.v8_board.proofs.Placed.{placed_loaded, placed_maps}
+use Rattle.v8_board.proofs.Placed.{placed_kept, placed_loaded, placed_maps}
 use Rattle.v8_board.proofs.Contained.{boots_state, control_is, loads_contained}
 use Rattle.v8_board.proofs.board.Board.load.Goals as goal
 
@@ -20,9 +20,9 @@ returns-clause-start g c = grind (arith, common_steps)
 
 pub returns-clause-contained : goal.returns-clause-contained
 returns-clause-contained g c =
-    let loaded = placed_loaded g.row.N c.args.image.now _ _ c.place.ensures.ram in
+    let kept = placed_kept g.row.N c.args.image.now _ _ c.place.ensures.ram in
     loads_contained g.row.N c.args.image.now c.self.inside.machine.cpu c.boot.new.self.cpu c.boot.new.self.bus.ram c.boot.new.self.mmu _ c.self.invariant.0 c.self.invariant.1 c.boot.ensures.cpu c.boot.ensures.file
-    (rw c.boot.ensures.bus loaded) (rw c.boot.ensures.mmu c.self.invariant.2) (rw c.boot.ensures.bus c.place.ensures.stopped)
+    (rw c.boot.ensures.bus kept) (rw c.boot.ensures.mmu c.self.invariant.2) (rw c.boot.ensures.bus c.place.ensures.stopped)
 
 pub returns-clause-state : goal.returns-clause-state
 returns-clause-state g c =
