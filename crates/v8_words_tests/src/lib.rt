@@ -1,4 +1,4 @@
-//! Tests of words, formats, results, windows, translation and handlers. Expected values come from the manual, from GNU as, and by hand.
+//! Tests of words, formats, results, windows, translation, handlers and page tables. Expected values come from the manual, from GNU as, and by hand.
 #![tactic(auto)]
 
 #[cfg(test)]

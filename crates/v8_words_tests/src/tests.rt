@@ -1,7 +1,8 @@
-//! Rows of words, formats, results, windows, translation and handlers.
+//! Rows of words, formats, results, windows, translation, handlers and page tables.
 mod formats;
 mod handlers;
 mod results;
+mod tables;
 mod translation;
 mod windows;
 mod words;
