@@ -1,5 +1,5 @@
 -- What a job that puts all out at its end has put out where it stops.
-use Rattle.std.proofs.Common.{◌≡◌, refl, sym, subst, ℕ, List, [], ◌++◌, ◌∙◌, ap, Option, None, Some, IfSome, Result, Ok, Err, IfErr, OnErr, codes}
+use Rattle.std.proofs.Common.{◌≡◌, refl, sym, ℕ, List, [], ◌∙◌, ap, Option, None, Some, IfSome, Result, Ok, Err, IfErr, OnErr, codes}
 use Rattle.std.specs.Io.KnownBytes.{Appends}
 use Rattle.std.proofs.KnownBytes.{Appends-nil}
 use Rattle.v8_map.specs.declared.TheConstants.{CODE_START}

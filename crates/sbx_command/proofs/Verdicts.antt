@@ -1,5 +1,5 @@
 -- A job that is refused did not deserve to be done.
-use Rattle.std.proofs.Common.{◌≡◌, subst, sym, ℕ, List, Option, None, Some, IfSome, Ok, Err, ◌∙◌, rules}
+use Rattle.std.proofs.Common.{◌≡◌, subst, sym, ℕ, List, Option, None, Some, IfSome, Ok, Err, rules}
 use Rattle.sbx_image.specs.ImageFault.{ImageFault}
 use Rattle.sbx_image.specs.Parts.{Parts}
 use Rattle.sbx_image.specs.Reading.{reading}

@@ -1,11 +1,11 @@
 -- Turns that are told.
-use Rattle.std.proofs.Common.{◌≡◌, ◌≢◌, ℕ, zero, suc, ◌+◌, ◌-◌, ◌<◌, ◌≤◌, List, [], ◌++◌, Option, Result, Ok, Err, IfErr, OnErr, OnOk, inl, inr, refl, sym, ap, subst, ◌∙◌, append_assoc, append-nil, add-one, arith}
+use Rattle.std.proofs.Common.{◌≡◌, ◌≢◌, ℕ, zero, suc, ◌+◌, ◌-◌, ◌<◌, ◌≤◌, List, [], ◌++◌, Option, None, Result, Ok, Err, IfErr, OnErr, OnOk, inl, inr, refl, sym, ap, subst, ◌∙◌, append_assoc, append-nil, add-one, arith}
 use Rattle.std.specs.Io.KnownBytes.{Appends, Keeps}
 use Rattle.sbx_image.specs.Function.{Function}
 use Rattle.sbx_image.specs.Parts.{Parts}
 use Rattle.v8_core.specs.declared.turn.Turn.{Turn}
 use Rattle.v8_board.specs.Seen.{State, ending_of, turned}
-use Rattle.v8_board.specs.Runs.{Turns, after}
+use Rattle.v8_board.specs.Runs.{after}
 use Rattle.v8_board.proofs.Running.{Counted, no_turns, one_turn_more}
 use Rattle.sbx_put.specs.Fronts.{Wrote, WroteSome}
 use Rattle.sbx_put.proofs.Written.{kept_after, nothing_written, some_after, written_after}
@@ -159,8 +159,7 @@ begins_watch n p input limit start a b begun part =
         run = run;
         told = subst (λ (j : ℕ). TellsTurns n p.functions start j (part.text ++ more)) (sym sum) told;
       },
-      part.part.1 ++ more,
-      ap (λ (t : List ℕ). t ++ more) part.part.2 ∙ append_assoc front part.part.1 more,
+      (part.part.1 ++ more, ap (λ (t : List ℕ). t ++ more) part.part.2 ∙ append_assoc front part.part.1 more),
     )
 
 leaves : (n : ℕ) (p : Parts) (input : List ℕ) (limit : ℕ) (fault : RunFault) (bytes : List ℕ) → fault ≢ Reader → BeginsWatch n p input limit bytes

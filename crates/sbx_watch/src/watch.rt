@@ -26,7 +26,10 @@ fn watch_turn<const N: usize, W: Write>(
         Ok(turn) => turn,
         Err(fault) => return Err(fault_of(board, fault)),
     };
-    teller.make_turn(functions, number, &turn, board)?;
+    match teller.make_turn(functions, number, &turn, board) {
+        Ok(()) => {}
+        Err(error) => return Err(RunFault::from(error)),
+    }
     match put_all(out, teller.line.as_bytes()) {
         Ok(()) => Ok(()),
         Err(_) => Err(RunFault::Writer),
@@ -49,7 +52,10 @@ fn watch_turns<const N: usize, W: Write>(
         let None = board.ending() else {
             return Ok(());
         };
-        watch_turn(board, functions, done + 1, teller, out)?;
+        match watch_turn(board, functions, done + 1, teller, out) {
+            Ok(()) => {}
+            Err(fault) => return Err(fault),
+        }
     }
     Ok(())
 }
@@ -89,7 +95,10 @@ fn watch_on<const N: usize, W: Write>(
     ensures { Watched windows image.now input.now limit (W.contents out.old) (W.contents out.new) result }
 {
     let _ = windows;
-    let mut board = begun::<N>(alloc, image, input)?;
+    let mut board = match begun::<N>(alloc, image, input) {
+        Ok(board) => board,
+        Err(fault) => return Err(fault),
+    };
     watch_board(alloc, &mut board, image.functions(), limit, out)
 }
 

@@ -6,7 +6,7 @@ returns-in-Ok-clause-whole g c =
     flushed g.row.N c.args.functions.now c.args.limit c.args.board.now.state c.watch_turns.new.board.state (g.W.Write.contents c.args.out.now)
     (g.W.Write.contents c.watch_turns.new.out) (g.W.Write.contents c.flush.new.self) c.in_ok-watch_turns.ensures.whole c.in-Ok.ensures.bytes
 
-pub returns-in-Err-clause-part : goal.returns-in-Err-clause-part
-returns-in-Err-clause-part g c =
+pub returns-clause-part : goal.returns-clause-part
+returns-clause-part g c =
     unflushed g.row.N c.args.functions.now c.args.limit c.args.board.now.state c.watch_turns.new.board.state (g.W.Write.contents c.args.out.now)
     (g.W.Write.contents c.watch_turns.new.out) (g.W.Write.contents c.flush.new.self) c.in_ok-watch_turns.ensures.whole c.in-Err.ensures.bytes

@@ -19,10 +19,10 @@ pub loop-done-preserved : goal.loop-done-preserved
 loop-done-preserved g c =
     one_watched_more g.row.N c.args.functions.now c.args.board.now.state c.loop-done.board.state c.watch_turn.new.board.state c.loop-done.done
     (g.W.Write.contents c.args.out.now) (g.W.Write.contents c.loop-done.out) (g.W.Write.contents c.watch_turn.new.out)
-    c.loop-done.invariant (sym c.ending.ensures ∙ c.in-None.is) c.in_ok-watch_turn.ensures.whole
+    c.loop-done.invariant (sym c.ending.ensures ∙ c.in-None.is) c.in-Ok.ensures.whole
 
-pub returns-in_err-watch_turn-clause-part : goal.returns-in_err-watch_turn-clause-part
-returns-in_err-watch_turn-clause-part g c =
+pub returns-in-Err-clause-part : goal.returns-in-Err-clause-part
+returns-in-Err-clause-part g c =
     watch_begun g.row.N c.args.functions.now c.args.limit c.loop-done.done c.args.board.now.state c.loop-done.board.state
     (g.W.Write.contents c.args.out.now) (g.W.Write.contents c.loop-done.out) (g.W.Write.contents c.watch_turn.new.out)
-    c.loop-done.invariant (sym c.ending.ensures ∙ c.in-None.is) (omega arith) c.in_err-watch_turn.ensures.part
+    c.loop-done.invariant (sym c.ending.ensures ∙ c.in-None.is) (omega arith) c.in-Err.ensures.part
