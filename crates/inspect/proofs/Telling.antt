@@ -1,6 +1,6 @@
 -- What is told of known bytes.
 use Rattle.std.proofs.Common.{◌≡◌, refl, subst, ap, ℕ, List, [], ◌++◌, Option, None, Some, IfSome, Result, Ok, Err, OnOk, ◌∙◌}
-use Rattle.std.specs.Io.KnownBytes.{Appends, Keeps}
+use Rattle.std.specs.Io.KnownBytes.{Appends}
 use Rattle.sbx_image.specs.declared.parts.Parts.{Parts}
 use Rattle.sbx_image.specs.Reading.{reading}
 use Rattle.sbx_rules.specs.declared.cause.Refusal.{Refusal}
@@ -10,16 +10,9 @@ use Rattle.sbx_explain.specs.Refusals.{Tells}
 use Rattle.sbx_tell.specs.declared.run.Run.{Run}
 use Rattle.sbx_tell.specs.Reports.{run_text}
 use Rattle.sbx_tell.specs.Runs.{IsRun}
-use Rattle.sbx_raw.specs.Traces.{Wrote}
+use Rattle.sbx_raw.specs.Fronts.{Wrote}
 use Rattle.sbx_watch.specs.Watched.{IsWatched}
 use Rattle.inspect.specs.Told.{Explained, IsVerdict, Ran, Shown, Traced}
-
--- a flush keeps what a write appended
-pub appends_kept : (a b c : Option (List ℕ)) (bs : List ℕ) → Appends a b bs → Keeps b c → Appends a c bs
-appends_kept None b c bs p q = tt
-appends_kept (Some x) None c bs p q = absurd p
-appends_kept (Some x) (Some y) None bs p q = absurd q
-appends_kept (Some x) (Some y) (Some z) bs p q = q ∙ p
 
 pub shown_on : (file old new : Option (List ℕ)) (parts : Parts) (text : List ℕ) → IfSome file (λ bytes. reading bytes ≡ Ok parts)
     → text ≡ image_text parts → Appends old new text → Shown file old new

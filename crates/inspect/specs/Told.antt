@@ -7,7 +7,7 @@ use Rattle.sbx_rules.specs.declared.cause.Refusal.{Refusal}
 use Rattle.sbx_rules.specs.Verdicts.{Checked, IsFirst}
 use Rattle.sbx_declare.specs.Images.{image_text}
 use Rattle.sbx_explain.specs.Refusals.{Tells}
-use Rattle.sbx_raw.specs.Traces.{Wrote}
+use Rattle.sbx_raw.specs.Fronts.{Wrote}
 use Rattle.sbx_tell.specs.declared.run.Run.{Run}
 use Rattle.sbx_tell.specs.Reports.{run_text}
 use Rattle.sbx_tell.specs.Runs.{IsRun}

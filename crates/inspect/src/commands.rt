@@ -9,6 +9,7 @@ ghost use Rattle.want.specs.Wants.{refused};
 use sbx_command::{ReadFault, Stop, Windows, image_in, read_whole};
 use sbx_declare::push_image;
 use sbx_explain::push_why;
+use sbx_put::put_through;
 use sbx_rules::Refusal;
 use sbx_tell::{Progress, Run, push_run, run_windows};
 use sbx_watch::watch_windows;
@@ -32,15 +33,11 @@ fn input_of<I: Read>(alloc: Global, input: &mut I) -> Result<Vec<u8>, Stop>
 }
 
 /// Writes a text, through to the end.
-#[tactic(auto, using(crate::proofs::Telling::appends_kept))]
 fn put_out<O: Write>(out: &mut O, text: &[u8]) -> Result<(), Stop>
     ensures bytes { OnOk result (Appends (O.contents out.old) (O.contents out.new) text.now) }
     ensures stop { IfErr result (λ stop. stop ≡ Stop.Output) }
 {
-    if out.write_all(text).is_err() {
-        return Err(Stop::Output);
-    }
-    match out.flush() {
+    match put_through(out, text) {
         Ok(()) => Ok(()),
         Err(_) => Err(Stop::Output),
     }

@@ -1,5 +1,5 @@
 pub mod Verdicts
-pub mod Listings
+pub mod Fronts
 pub mod Traces
 pub mod Streamed
 pub mod Pieces

@@ -18,7 +18,7 @@ use Rattle.sbx_command.specs.declared.stops.Stop.{Stop}
 use Rattle.sbx_command.specs.declared.stops.Stop.TheVariants.{Source, Image, Refused, File, Input, Output, Memory, NoRoom}
 use Rattle.sbx_command.specs.Stops.{IsEarly, IsOfFile, IsTrueOf, stop_of_run}
 use Rattle.sbx_command.specs.Streaming.{HasFront, HasNothing, Leaves, LeavesOn, Left, OfAccepted, Ran, RanOn, RunGives, status_of_word}
-use Rattle.sbx_command.proofs.Verdicts.{appends_kept}
+use Rattle.sbx_put.proofs.Written.{kept_after}
 
 -- a run on as many windows as another number says
 pub run_at : (n windows : ℕ) (parts : Parts) (a b c d : Option (List ℕ)) (result : Result Finished RunFault) → windows ≡ n
@@ -35,7 +35,7 @@ none_beyond false = no_bytes
 
 -- a flush keeps what was written
 pub flushed : (a b c d e : Option (List ℕ)) (P : List ℕ → Bool → List ℕ → Type 0) → Streamed a b c d P → Keeps d e → Streamed a b c e P
-flushed a b c d e P (read, met, written, so, bytes, got, all, put) kept = (read, met, written, so, bytes, got, all, appends_kept c d e written put kept)
+flushed a b c d e P (read, met, written, so, bytes, got, all, put) kept = (read, met, written, so, bytes, got, all, kept_after c d e written put kept)
 
 pub ended : (windows : ℕ) (parts : Parts) (a b c d e : Option (List ℕ)) (finished : Finished) (status : ℕ) → RunGives windows parts a b c d (Ok finished) → Keeps d e
     → status ≡ status_of_word finished.status → RanOn windows parts a b c e status
@@ -54,7 +54,7 @@ whole_front windows parts a b c d e finished (read, met, written, so, bytes, got
   bytes,
   got,
   all,
-  appends_kept c d e written put kept,
+  kept_after c d e written put kept,
 )
 
 -- ---- at a fault

@@ -7,7 +7,8 @@ use Rattle.sbx_image.specs.Reading.{reading}
 use Rattle.sbx_stream.specs.Outcome.{Outcome}
 use Rattle.sbx_stream.specs.RunFault.{RunFault}
 use Rattle.sbx_stream.specs.RunFault.TheVariants as runs
-use Rattle.sbx_stream.specs.Traces.{IsTrace, Leaves, Wrote}
+use Rattle.sbx_put.specs.Fronts.{Wrote}
+use Rattle.sbx_stream.specs.Traces.{IsTrace, Leaves}
 use Rattle.sbx_command.specs.declared.stops.Stop.{Stop}
 use Rattle.sbx_command.specs.declared.stops.Stop.TheVariants.{Source, Image, Refused, File, Input, Output, Memory, NoRoom}
 use Rattle.sbx_command.specs.Stops.{IsEarly, stop_of_run}

@@ -1,6 +1,5 @@
 -- A job that is refused did not deserve to be done.
-use Rattle.std.proofs.Common.{◌≡◌, subst, sym, ℕ, List, Option, None, Some, IfSome, Ok, Err, ◌∙◌, rules}
-use Rattle.std.specs.Io.KnownBytes.{Appends, Keeps}
+use Rattle.std.proofs.Common.{◌≡◌, subst, sym, ℕ, List, Option, None, Some, IfSome, Ok, Err, rules}
 use Rattle.sbx_image.specs.declared.fault.ImageFault.{ImageFault}
 use Rattle.sbx_image.specs.declared.parts.Parts.{Parts}
 use Rattle.sbx_image.specs.Reading.{reading}
@@ -72,13 +71,6 @@ pub known_is_refused : (known : Option (List ℕ)) (job : Job) (stop : Stop) →
     → IfSome known (IsTold job stop) → IfSome known (λ bytes. Deserves job bytes → ⊥)
 known_is_refused None job stop refuses told = tt
 known_is_refused (Some bytes) job stop refuses told = told_is_refused job stop bytes refuses told
-
--- a flush keeps what a write appended
-pub appends_kept : (a b c : Option (List ℕ)) (bs : List ℕ) → Appends a b bs → Keeps b c → Appends a c bs
-appends_kept None b c bs p q = tt
-appends_kept (Some x) None c bs p q = absurd p
-appends_kept (Some x) (Some y) None bs p q = absurd q
-appends_kept (Some x) (Some y) (Some z) bs p q = q ∙ p
 
 -- a stop of a job, whose status is told
 pub stops_for : (job : Job) (known : Option (List ℕ)) (Untouched : Type 0) (LeftAt : Stop → Type 0) (stop : Stop) (status : ℕ) → status ≡ status_of stop

@@ -3,7 +3,9 @@ use Rattle.std.specs.Prelude.{◌≡◌, ◌⊎◌, ℕ, List, [], Result, Ok, E
 use Rattle.std.specs.Io.KnownBytes.{Appends}
 use Rattle.sbx_stream.specs.Outcome.{Outcome}
 use Rattle.sbx_stream.specs.RunFault.{RunFault}
-use Rattle.sbx_stream.specs.Traces.{BeginsTrace, IsTrace, Leaves, Wrote}
+use Rattle.sbx_listing.specs.Listing.{listing}
+use Rattle.sbx_put.specs.Fronts.{Begins, Wrote}
+use Rattle.sbx_stream.specs.Traces.{BeginsTrace, IsTrace, Leaves}
 use Rattle.sbx_image.specs.declared.parts.Parts.{Parts}
 use Rattle.sbx_image.specs.Reading.{reading}
 use Rattle.sbx_image.specs.Spelling.{IsTyped, spelling}
@@ -15,7 +17,6 @@ use Rattle.sbx_command.specs.declared.jobs.Job.TheVariants.{Asm, Verify, Run, Li
 use Rattle.sbx_command.specs.declared.stops.Stop.{Stop}
 use Rattle.sbx_command.specs.declared.stops.Stop.TheVariants.{Source, Image, Refused, File, Input, Output, Memory, NoRoom}
 use Rattle.v8_map.specs.declared.TheConstants.{CODE_START}
-use Rattle.sbx_command.specs.Listing.{listing}
 use Rattle.sbx_command.specs.Streaming.{Left, Ran}
 use Rattle.sbx_command.specs.Stops.{IsOfFile, IsOfOutput, IsRefusal, IsTrueOf, IsTrueOfImage, IsTrueOfSource, status_of}
 
@@ -103,6 +104,32 @@ Traced windows limit file input old new = IfSome file (λ bytes. IfSome input (�
 abbrev pub Listed : Option (List ℕ) → Option (List ℕ) → Option (List ℕ) → Type 0
 Listed file old new = IfSome file (λ bytes. (parts : Parts) × (reading bytes ≡ Ok parts) × Appends old new (listing CODE_START parts.words))
 
+-- The first bytes of what a job puts out when all else is done: of the object of a source, of the line of an accepted image, of the
+-- listing of an image.
+abbrev pub BeginsObject : List ℕ → List ℕ → Type 0
+BeginsObject bytes written = (parts : Parts) × (source_image bytes ≡ Ok parts) × Begins written (spelling parts)
+
+abbrev pub BeginsVerdict : List ℕ → List ℕ → Type 0
+BeginsVerdict bytes written = IsAccepted bytes × Begins written (codes "accepted\n")
+
+abbrev pub BeginsListing : List ℕ → List ℕ → Type 0
+BeginsListing bytes written = (parts : Parts) × (reading bytes ≡ Ok parts) × Begins written (listing CODE_START parts.words)
+
+-- What a stop of such a job leaves: the output's own the first bytes, any other none.
+abbrev pub FrontLeaves : (List ℕ → Type 0) → Stop → List ℕ → Type 0
+FrontLeaves IsFront Output written = IsFront written
+FrontLeaves IsFront (NoRoom full) written = IsFront written
+FrontLeaves IsFront (Source fault) written = written ≡ []
+FrontLeaves IsFront (Image fault) written = written ≡ []
+FrontLeaves IsFront (Refused refusal) written = written ≡ []
+FrontLeaves IsFront File written = written ≡ []
+FrontLeaves IsFront Input written = written ≡ []
+FrontLeaves IsFront (Memory want) written = written ≡ []
+
+-- the same where the bytes of the file are known
+abbrev pub FrontLeft : (List ℕ → List ℕ → Type 0) → Option (List ℕ) → Option (List ℕ) → Option (List ℕ) → Stop → Type 0
+FrontLeft IsFrontOf file old new stop = IfSome file (λ bytes. Wrote old new (FrontLeaves (IsFrontOf bytes) stop))
+
 -- what a job that is done has read and put out
 abbrev pub Gave : Job → Option (List ℕ) → Option (List ℕ) → Option (List ℕ) → Option (List ℕ) → Option (List ℕ) → ℕ → Type 0
 Gave (Asm source object) file input input_now old new status = Assembled file old new × (status ≡ 0)
@@ -113,10 +140,10 @@ Gave (Trace image windows limit) file input input_now old new status = Traced wi
 
 -- what a stop of a job leaves
 abbrev pub LeftBy : Job → Option (List ℕ) → Option (List ℕ) → Option (List ℕ) → Option (List ℕ) → Option (List ℕ) → Stop → Type 0
-LeftBy (Asm source object) file input input_now old new stop = Unit {0}
-LeftBy (Verify image) file input input_now old new stop = Unit {0}
+LeftBy (Asm source object) file input input_now old new stop = FrontLeft BeginsObject file old new stop
+LeftBy (Verify image) file input input_now old new stop = FrontLeft BeginsVerdict file old new stop
 LeftBy (Run image windows) file input input_now old new stop = Left file input input_now old new stop
-LeftBy (Listing image) file input input_now old new stop = Unit {0}
+LeftBy (Listing image) file input input_now old new stop = FrontLeft BeginsListing file old new stop
 LeftBy (Trace image windows limit) file input input_now old new stop = TraceLeft windows limit file input old new stop
 
 -- The stops of a job that come before it takes any input or puts anything out. A run and a trace take both while they go on; the other

@@ -1,16 +1,18 @@
 //! The command `asm`.
-ghost use Rattle.std.specs.Prelude.{◌≡◌, ◌⊎◌, IfErr, IfOk, IfSome, Ok, OnOk};
+ghost use Rattle.std.specs.Prelude.{◌≡◌, IfErr, IfOk, IfSome, Ok, OnErr, OnOk};
 ghost use Rattle.std.specs.Io.KnownBytes.{Appends};
 ghost use Rattle.sbx_image.specs.Spelling.{spelling};
 ghost use Rattle.sbx_asm.specs.Meaning.{source_image};
 ghost use Rattle.sbx_flat.specs.Runs.{AreBytes};
-ghost use Rattle.sbx_command.specs.Stops.{HasNoRoom, IsOfOutput, IsTrueOfSource};
-ghost use Rattle.sbx_command.specs.Verdicts.{IsSource, Assembled, FitsItsFields};
+ghost use Rattle.sbx_put.specs.Fronts.{WroteSome};
+ghost use Rattle.sbx_command.specs.Stops.{IsEarly, IsOfOutput, IsTrueOfSource};
+ghost use Rattle.sbx_command.specs.Verdicts.{BeginsObject, FrontLeft, IsSource, Assembled, FitsItsFields};
 
 use crate::reading::{MOST, ReadFault, read_whole};
 use crate::stops::Stop;
 use sbx_asm::assemble;
 use sbx_image::{Image, write};
+use sbx_put::put_through;
 use std::alloc::Global;
 use std::io::{Read, Write};
 use want::Want;
@@ -34,6 +36,7 @@ fn tells_fields(image: &Image)
 fn source_in<F: Read>(alloc: Global, file: &mut F) -> Result<Image, Stop>
     ensures image { IfOk result (λ image. IfSome (F.remaining file.old) (λ bytes. source_image bytes ≡ Ok image)) }
     ensures stop { IfErr result (λ stop. IfSome (F.remaining file.old) (IsTrueOfSource stop)) }
+    ensures early { IfErr result IsEarly }
 {
     let source = match read_whole(alloc, file, MOST) {
         Ok(source) => source,
@@ -44,23 +47,19 @@ fn source_in<F: Read>(alloc: Global, file: &mut F) -> Result<Image, Stop>
 }
 
 /// Writes all bytes of an object, through to the end. A writer in memory may have no room.
-#[tactic(auto, using(crate::proofs::Verdicts::appends_kept))]
 fn store<O: Write>(out: &mut O, bytes: &[u8]) -> Result<(), Stop>
     ensures bytes { OnOk result (Appends (O.contents out.old) (O.contents out.new) bytes.now) }
-    ensures stop { IfErr result (λ stop. (stop ≡ Stop.Output) ⊎ HasNoRoom stop) }
+    ensures part { OnErr result (WroteSome (O.contents out.old) (O.contents out.new) bytes.now) }
+    ensures stop { IfErr result IsOfOutput }
 {
-    match out.write_all(bytes) {
-        Ok(()) => {}
-        Err(error) => return Err(Stop::of(&error, Stop::Output)),
-    }
-    match out.flush() {
+    match put_through(out, bytes) {
         Ok(()) => Ok(()),
-        Err(_) => Err(Stop::Output),
+        Err(error) => Err(Stop::of(&error, Stop::Output)),
     }
 }
 
 /// Writes the image that the source in a file means.
-#[tactic(auto, using(crate::proofs::Sources::assembled_on))]
+#[tactic(auto, using(crate::proofs::Sources::assembled_on, crate::proofs::Fronts::left_early))]
 pub fn assemble_file<F: Read, O: Write>(
     alloc: Global,
     file: &mut F,
@@ -70,6 +69,7 @@ pub fn assemble_file<F: Read, O: Write>(
     ensures assembled { OnOk result (Assembled (F.remaining file.old) (O.contents out.old) (O.contents out.new)) }
     ensures stop { IfErr result (λ stop. IfSome (F.remaining file.old) (IsTrueOfSource stop)) }
     ensures untouched { IfErr result (λ stop. (IsOfOutput stop → ⊥) → out.new ≡ out.old) }
+    ensures left { IfErr result (FrontLeft BeginsObject (F.remaining file.old) (O.contents out.old) (O.contents out.new)) }
 {
     let image = source_in(alloc, file)?;
     tells_fields(&image);

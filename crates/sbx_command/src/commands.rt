@@ -73,8 +73,8 @@ pub fn command<F: Read, I: Read, O: Write, E: Write>(
         (O.contents out.old) (O.contents out.new) result }
 
     // Any other status is that of a stop that tells what is so. Bytes that are refused don't deserve the job, and a refusal takes
-    // no input and puts nothing out. A run that stops otherwise has put out the first bytes of what its image puts out on every input
-    // that begins with the bytes read.
+    // no input and puts nothing out. A job that stops otherwise has put out the first bytes of what it puts out when it is done, a run
+    // those of what its image puts out on every input that begins with the bytes read.
     ensures stopped { 2 ≤ result → StopsFor job.now (F.remaining file.old) ((input.new ≡ input.old) × (out.new ≡ out.old))
         (LeftBy job.now (F.remaining file.old) (I.remaining input.old) (I.remaining input.new) (O.contents out.old) (O.contents out.new))
         result }

@@ -1,5 +1,6 @@
 //! Why a command stops, its line on standard error and its exit status.
-ghost use Rattle.std.specs.Prelude.{◌≡◌, ◌≢◌, ◌↔◌, IsSome, Some};
+ghost use Rattle.std.specs.Prelude.{◌≡◌, ◌≢◌, ◌↔◌, ◌++◌, ◌∷◌, [], IsSome, OnOk, Some};
+ghost use Rattle.std.specs.Io.KnownBytes.{Appends};
 ghost use Rattle.std.specs.IoError.{error_kind};
 ghost use Rattle.sbx_command.specs.Stops.{HasNoRoom, line_of, status_of, stop_of_image, stop_of_run, stop_of_source};
 
@@ -72,11 +73,18 @@ impl Stop {
         }
     }
 
+    /// Writes its line.
+    pub fn tell<E: io::Write>(self, err: &mut E) -> io::Result<()>
+        ensures { OnOk result (Appends (E.contents err.old) (E.contents err.new) (line_of self ++ 10 ∷ [])) }
+    {
+        writeln!(err, "{self}")
+    }
+
     /// Tells it on standard error, whose own faults change nothing, and gives the exit status.
     pub fn report<E: io::Write>(self, err: &mut E) -> u8
         ensures { result ≡ status_of self }
     {
-        let _ = writeln!(err, "{self}");
+        let _ = self.tell(err);
         self.status()
     }
 }

@@ -4,10 +4,11 @@ ghost use Rattle.std.specs.Io.KnownBytes.{Appends};
 ghost use Rattle.sbx_image.specs.Reading.{reading};
 ghost use Rattle.sbx_rules.specs.Verdicts.{Checked};
 ghost use Rattle.sbx_command.specs.Stops.{IsEarly, IsOfOutput, IsTrueOf};
-ghost use Rattle.sbx_command.specs.Verdicts.{IsAccepted};
+ghost use Rattle.sbx_command.specs.Verdicts.{BeginsVerdict, FrontLeft, IsAccepted};
 
 use crate::images::image_in;
 use crate::stops::Stop;
+use sbx_put::put_through;
 use sbx_stream::{Accepted, Cause, verify};
 use std::alloc::Global;
 use std::io::{Read, Write};
@@ -30,28 +31,18 @@ pub fn accepted_in<F: Read>(alloc: Global, file: &mut F) -> Result<Accepted, Sto
     }
 }
 
-/// Writes all bytes of a result, through to the end.
-#[tactic(auto, using(crate::proofs::Verdicts::appends_kept))]
-pub fn write_through<O: Write>(out: &mut O, bytes: &[u8]) -> Result<(), Stop>
-    ensures bytes { OnOk result (Appends (O.contents out.old) (O.contents out.new) bytes.now) }
-    ensures stop { IfErr result (λ stop. stop ≡ Stop.Output) }
-{
-    if out.write_all(bytes).is_err() {
-        return Err(Stop::Output);
-    }
-    match out.flush() {
-        Ok(()) => Ok(()),
-        Err(_) => Err(Stop::Output),
-    }
-}
-
 /// Verifies the image of a file, and says so where it is accepted.
+#[tactic(auto, using(crate::proofs::Fronts::left_early, crate::proofs::Fronts::verdict_begun))]
 pub fn verify_file<F: Read, O: Write>(alloc: Global, file: &mut F, out: &mut O) -> Result<(), Stop>
     ensures accepted { OnOk result (IfSome (F.remaining file.old) IsAccepted) }
     ensures stop { IfErr result (λ stop. IfSome (F.remaining file.old) (IsTrueOf stop)) }
     ensures line { OnOk result (Appends (O.contents out.old) (O.contents out.new) (codes "accepted\n")) }
     ensures untouched { IfErr result (λ stop. (IsOfOutput stop → ⊥) → out.new ≡ out.old) }
+    ensures left { IfErr result (FrontLeft BeginsVerdict (F.remaining file.old) (O.contents out.old) (O.contents out.new)) }
 {
     let _accepted = accepted_in(alloc, file)?;
-    write_through(out, b"accepted\n")
+    match put_through(out, b"accepted\n") {
+        Ok(()) => Ok(()),
+        Err(_) => Err(Stop::Output),
+    }
 }

@@ -145,6 +145,8 @@ const LISTING: &[u8] = b"00040000 90102048 or %g0,72,%o0
 00040014 91D02000 ta 0
 ";
 
+const FIRST_LINE: &[u8] = b"00040000 90102048 or %g0,72,%o0\n";
+
 /// A command, the calls at which its file, its input and its output fail (0: none), and what it has to answer.
 #[derive(Clone, Copy)]
 struct Case<'a> {
@@ -473,13 +475,15 @@ fn refuses_what_breaks_a_rule(rt: HostRuntime) {
 type End = (Job<'static>, [usize; 3], u8, &'static [u8], &'static [u8]);
 
 /// Ends of `list` and `verify`.
-const LISTS_AND_VERDICTS: [End; 10] = [
+const LISTS_AND_VERDICTS: [End; 12] = [
     (LIST, [0, 0, 0], 0, LISTING, b""),
     (LIST, [1, 0, 0], 4, b"", b"file\n"),
     (LIST, [86, 0, 0], 4, b"", b"file\n"),
     (LIST, [87, 0, 0], 4, b"", b"file\n"),
     (LIST, [88, 0, 0], 0, LISTING, b""),
     (LIST, [0, 0, 1], 4, b"", b"output\n"),
+    (LIST, [0, 0, 2], 4, FIRST_LINE, b"output\n"),
+    (LIST, [0, 0, 7], 4, LISTING, b"output\n"),
     (VERIFY, [0, 0, 0], 0, b"accepted\n", b""),
     (VERIFY, [87, 0, 0], 4, b"", b"file\n"),
     (VERIFY, [0, 0, 1], 4, b"", b"output\n"),

@@ -1,5 +1,5 @@
 pub mod Digits
-pub mod Written
 pub mod Lines
 pub mod Runs
 pub mod Unheard
+pub use Rattle.sbx_put.proofs.Written

@@ -3,3 +3,4 @@ pub mod Outputs
 pub mod Runs
 pub mod Text
 pub mod Traces
+pub use Rattle.sbx_put.specs.Fronts

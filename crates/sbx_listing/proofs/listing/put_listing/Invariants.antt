@@ -1,7 +1,7 @@
 use Rattle.std.proofs.Common.{◌≡◌, ◌+◌, ◌*◌, drop}
 use Rattle.v8_map.specs.declared.TheConstants.{CODE_START}
-use Rattle.sbx_command.proofs.Listings.{IsListedTo}
-use Rattle.sbx_command.proofs.listing.list_words.Given as goal
+use Rattle.sbx_listing.proofs.Listings.{IsListedTo}
+use Rattle.sbx_listing.proofs.listing.put_listing.Given as goal
 
 -- the lines of the words so far are written, and those of the words that are left make the listing whole
 abbrev pub invariant-loop-word : goal.invariant-loop-word
