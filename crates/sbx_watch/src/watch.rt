@@ -1,10 +1,10 @@
 //! The turns of a run, one after the other.
-ghost use Rattle.std.specs.Prelude.{◌≡◌, ◌≤◌, OnOk};
-ghost use Rattle.sbx_raw.specs.Traces.{Wrote};
-ghost use Rattle.sbx_watch.specs.Watched.{IsWatched, WatchedRun, WatchedTurn};
+ghost use Rattle.std.specs.Prelude.{◌≡◌, ◌≢◌, ◌≤◌, IfErr, OnErr, OnOk};
+ghost use Rattle.sbx_watch.specs.Watched.{Watched, WatchedPart, WatchedRun, WatchedSome, WatchedTurn};
 
 use crate::teller::Teller;
 use sbx_image::{Function, Image};
+use sbx_put::put_all;
 use sbx_raw::{RunFault, SlicePort, begun, fault_of};
 use std::alloc::Global;
 use std::io::Write;
@@ -18,14 +18,19 @@ fn watch_turn<const N: usize, W: Write>(
     teller: &mut Teller<N>,
     out: &mut W,
 ) -> Result<(), RunFault>
-    ensures { OnOk result (WatchedTurn N functions.now number board.old.state board.new.state (W.contents out.old) (W.contents out.new)) }
+    ensures whole { OnOk result (WatchedTurn N functions.now number board.old.state board.new.state (W.contents out.old) (W.contents out.new)) }
+    ensures part { OnErr result (WatchedSome N functions.now number board.old.state (W.contents out.old) (W.contents out.new)) }
+    ensures fault { IfErr result (λ fault. fault ≢ RunFault.Reader) }
 {
     let turn = match board.step() {
         Ok(turn) => turn,
         Err(fault) => return Err(fault_of(board, fault)),
     };
-    teller.make_turn(functions, number, &turn, board)?;
-    match out.write_all(teller.line.as_bytes()) {
+    match teller.make_turn(functions, number, &turn, board) {
+        Ok(()) => {}
+        Err(error) => return Err(RunFault::from(error)),
+    }
+    match put_all(out, teller.line.as_bytes()) {
         Ok(()) => Ok(()),
         Err(_) => Err(RunFault::Writer),
     }
@@ -39,13 +44,18 @@ fn watch_turns<const N: usize, W: Write>(
     teller: &mut Teller<N>,
     out: &mut W,
 ) -> Result<(), RunFault>
-    ensures { OnOk result (WatchedRun N functions.now limit board.old.state board.new.state (W.contents out.old) (W.contents out.new)) }
+    ensures whole { OnOk result (WatchedRun N functions.now limit board.old.state board.new.state (W.contents out.old) (W.contents out.new)) }
+    ensures part { OnErr result (WatchedPart N functions.now limit board.old.state (W.contents out.old) (W.contents out.new)) }
+    ensures fault { IfErr result (λ fault. fault ≢ RunFault.Reader) }
 {
     for done in 0..limit {
         let None = board.ending() else {
             return Ok(());
         };
-        watch_turn(board, functions, done + 1, teller, out)?;
+        match watch_turn(board, functions, done + 1, teller, out) {
+            Ok(()) => {}
+            Err(fault) => return Err(fault),
+        }
     }
     Ok(())
 }
@@ -59,7 +69,9 @@ fn watch_board<const N: usize, W: Write>(
     out: &mut W,
 ) -> Result<(), RunFault>
     requires { (4 ≤ N) × (N ≤ 32) }
-    ensures { OnOk result (WatchedRun N functions.now limit board.old.state board.new.state (W.contents out.old) (W.contents out.new)) }
+    ensures whole { OnOk result (WatchedRun N functions.now limit board.old.state board.new.state (W.contents out.old) (W.contents out.new)) }
+    ensures part { OnErr result (WatchedPart N functions.now limit board.old.state (W.contents out.old) (W.contents out.new)) }
+    ensures fault { IfErr result (λ fault. fault ≢ RunFault.Reader) }
 {
     let mut teller = Teller::new(alloc, board);
     watch_turns(board, functions, limit, &mut teller, out)?;
@@ -80,10 +92,13 @@ fn watch_on<const N: usize, W: Write>(
 ) -> Result<(), RunFault>
     requires range { (4 ≤ N) × (N ≤ 32) }
     requires same { windows ≡ N }
-    ensures { OnOk result (Wrote (W.contents out.old) (W.contents out.new) (IsWatched windows image.now input.now limit)) }
+    ensures { Watched windows image.now input.now limit (W.contents out.old) (W.contents out.new) result }
 {
     let _ = windows;
-    let mut board = begun::<N>(alloc, image, input)?;
+    let mut board = match begun::<N>(alloc, image, input) {
+        Ok(board) => board,
+        Err(fault) => return Err(fault),
+    };
     watch_board(alloc, &mut board, image.functions(), limit, out)
 }
 
@@ -109,7 +124,7 @@ fn watch_to_10<W: Write>(
     out: &mut W,
 ) -> Result<(), RunFault>
     requires { (4 ≤ windows) × (windows ≤ 10) }
-    ensures { OnOk result (Wrote (W.contents out.old) (W.contents out.new) (IsWatched windows image.now input.now limit)) }
+    ensures { Watched windows image.now input.now limit (W.contents out.old) (W.contents out.new) result }
 {
     watch_on_these!(windows, alloc, image, input, limit, out: 4 5 6 7 8 9 or 10)
 }
@@ -124,7 +139,7 @@ fn watch_to_17<W: Write>(
     out: &mut W,
 ) -> Result<(), RunFault>
     requires { (11 ≤ windows) × (windows ≤ 17) }
-    ensures { OnOk result (Wrote (W.contents out.old) (W.contents out.new) (IsWatched windows image.now input.now limit)) }
+    ensures { Watched windows image.now input.now limit (W.contents out.old) (W.contents out.new) result }
 {
     watch_on_these!(windows, alloc, image, input, limit, out: 11 12 13 14 15 16 or 17)
 }
@@ -139,7 +154,7 @@ fn watch_to_24<W: Write>(
     out: &mut W,
 ) -> Result<(), RunFault>
     requires { (18 ≤ windows) × (windows ≤ 24) }
-    ensures { OnOk result (Wrote (W.contents out.old) (W.contents out.new) (IsWatched windows image.now input.now limit)) }
+    ensures { Watched windows image.now input.now limit (W.contents out.old) (W.contents out.new) result }
 {
     watch_on_these!(windows, alloc, image, input, limit, out: 18 19 20 21 22 23 or 24)
 }
@@ -154,7 +169,7 @@ fn watch_to_32<W: Write>(
     out: &mut W,
 ) -> Result<(), RunFault>
     requires { (25 ≤ windows) × (windows ≤ 32) }
-    ensures { OnOk result (Wrote (W.contents out.old) (W.contents out.new) (IsWatched windows image.now input.now limit)) }
+    ensures { Watched windows image.now input.now limit (W.contents out.old) (W.contents out.new) result }
 {
     watch_on_these!(windows, alloc, image, input, limit, out: 25 26 27 28 29 30 31 or 32)
 }
@@ -162,7 +177,8 @@ fn watch_to_32<W: Write>(
 /// Runs an image on an input, on so many windows, 4 to 32, to an end, but at most so many turns, and writes a text for each: its
 /// number, the window, the mode, PC and the name of the place before it, and the instruction; then a trap by its name, the registers
 /// that it changed, PSR, WIM and Y, pages that it referenced or modified for the first time, the words that it stored, and the byte
-/// that it put out. Lines have at most 100 columns, and those that go on begin with blanks. Each count is a machine of its own.
+/// that it put out. Lines have at most 100 columns, and those that go on begin with blanks. Where the writer fails, or memory is
+/// refused, it has the first bytes of such a text. Each count is a machine of its own.
 pub fn watch_windows<W: Write>(
     alloc: Global,
     windows: u32,
@@ -172,7 +188,7 @@ pub fn watch_windows<W: Write>(
     out: &mut W,
 ) -> Result<(), RunFault>
     requires { (4 ≤ windows) × (windows ≤ 32) }
-    ensures { OnOk result (Wrote (W.contents out.old) (W.contents out.new) (IsWatched windows image.now input.now limit)) }
+    ensures { Watched windows image.now input.now limit (W.contents out.old) (W.contents out.new) result }
 {
     if windows <= 10 {
         watch_to_10(alloc, windows, image, input, limit, out)

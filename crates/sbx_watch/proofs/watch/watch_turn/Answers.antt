@@ -1,9 +1,23 @@
 use Rattle.std.proofs.Common.{string_bytes}
-use Rattle.sbx_watch.proofs.Told.{watched_turn}
+use Rattle.sbx_watch.proofs.Told.{nothing_begun, turn_begun, watched_turn}
 use Rattle.sbx_watch.proofs.watch.watch_turn.Goals as goal
 
-pub returns-in-Ok-write_all : goal.returns-in-Ok-write_all
-returns-in-Ok-write_all g c =
+pub returns-in-Ok-put_all-clause-whole : goal.returns-in-Ok-put_all-clause-whole
+returns-in-Ok-put_all-clause-whole g c =
     watched_turn g.row.N c.args.functions.now c.args.number c.args.board.now.state c.step.new.self.state c.in-Ok.turn (g.W.Write.contents c.args.out.now)
-    (g.W.Write.contents c.write_all.new.self) (string_bytes c.make_turn.new.self.line) c.as_bytes.result.now
-    c.in-Ok.ensures.turn c.in_ok-make_turn.ensures c.as_bytes.ensures.value c.in-Ok-write_all.ensures.bytes
+    (g.W.Write.contents c.put_all.new.out) (string_bytes c.make_turn.new.self.line) c.as_bytes.result.now
+    c.in-Ok.ensures.turn c.in-Ok-make_turn.ensures c.as_bytes.ensures.value c.in-Ok-put_all.ensures.whole
+
+pub returns-in-Err-clause-part : goal.returns-in-Err-clause-part
+returns-in-Err-clause-part g c =
+    nothing_begun g.row.N c.args.functions.now c.args.number c.args.board.now.state (g.W.Write.contents c.args.out.now)
+
+pub returns-in-Err-make_turn-clause-part : goal.returns-in-Err-make_turn-clause-part
+returns-in-Err-make_turn-clause-part g c =
+    nothing_begun g.row.N c.args.functions.now c.args.number c.args.board.now.state (g.W.Write.contents c.args.out.now)
+
+pub returns-in-Err-put_all-clause-part : goal.returns-in-Err-put_all-clause-part
+returns-in-Err-put_all-clause-part g c =
+    turn_begun g.row.N c.args.functions.now c.args.number c.args.board.now.state c.step.new.self.state c.in-Ok.turn (g.W.Write.contents c.args.out.now)
+    (g.W.Write.contents c.put_all.new.out) (string_bytes c.make_turn.new.self.line) c.as_bytes.result.now
+    c.in-Ok.ensures.turn c.in-Ok-make_turn.ensures c.as_bytes.ensures.value c.in-Err-put_all.ensures.part

@@ -1,17 +1,17 @@
 use Rattle.std.proofs.Common.{sym, ◌∙◌, arith}
-use Rattle.sbx_watch.proofs.Told.{ended_watch, nothing_told, one_watched_more, whole_watch}
+use Rattle.sbx_watch.proofs.Told.{ended_watch, nothing_told, one_watched_more, watch_begun, whole_watch}
 use Rattle.sbx_watch.proofs.watch.watch_turns.Goals as goal
 
 pub loop-done-init : goal.loop-done-init
 loop-done-init g c = nothing_told g.row.N c.args.functions.now c.args.board.now.state (g.W.Write.contents c.args.out.now)
 
-pub returns-in_default : goal.returns-in_default
-returns-in_default g c =
+pub returns-in_default-clause-whole : goal.returns-in_default-clause-whole
+returns-in_default-clause-whole g c =
     ended_watch g.row.N c.args.functions.now c.args.limit c.loop-done.done c.args.board.now.state c.loop-done.board.state (g.W.Write.contents c.args.out.now)
     (g.W.Write.contents c.loop-done.out) c.loop-done.invariant (omega arith) (λ none. c.in_default.not-None (c.ending.ensures ∙ none))
 
-pub returns : goal.returns
-returns g c =
+pub returns-clause-whole : goal.returns-clause-whole
+returns-clause-whole g c =
     whole_watch g.row.N c.args.functions.now c.args.limit c.loop-done.done c.args.board.now.state c.loop-done.board.state (g.W.Write.contents c.args.out.now)
     (g.W.Write.contents c.loop-done.out) c.loop-done.invariant (omega arith)
 
@@ -19,4 +19,10 @@ pub loop-done-preserved : goal.loop-done-preserved
 loop-done-preserved g c =
     one_watched_more g.row.N c.args.functions.now c.args.board.now.state c.loop-done.board.state c.watch_turn.new.board.state c.loop-done.done
     (g.W.Write.contents c.args.out.now) (g.W.Write.contents c.loop-done.out) (g.W.Write.contents c.watch_turn.new.out)
-    c.loop-done.invariant (sym c.ending.ensures ∙ c.in-None.is) c.in_ok-watch_turn.ensures
+    c.loop-done.invariant (sym c.ending.ensures ∙ c.in-None.is) c.in-Ok.ensures.whole
+
+pub returns-in-Err-clause-part : goal.returns-in-Err-clause-part
+returns-in-Err-clause-part g c =
+    watch_begun g.row.N c.args.functions.now c.args.limit c.loop-done.done c.args.board.now.state c.loop-done.board.state
+    (g.W.Write.contents c.args.out.now) (g.W.Write.contents c.loop-done.out) (g.W.Write.contents c.watch_turn.new.out)
+    c.loop-done.invariant (sym c.ending.ensures ∙ c.in-None.is) (omega arith) c.in-Err.ensures.part
