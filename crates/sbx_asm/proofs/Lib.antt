@@ -16,5 +16,6 @@ mod Turning
 mod Making
 mod Agreement
 mod Meanings
+mod Numbering
 mod Worked
 pub mod Fitting

@@ -41,6 +41,18 @@ BlankLinesChangeNothing = (front after : List Item) (i : Item) → i.labels ≡ 
     → (least_of (faults_of (front ++ i ∷ after)) ≡ least_of (faults_of (front ++ after)))
     × (least_of (faults_of (front ++ after)) ≡ None → image_of (front ++ i ∷ after) ≡ image_of (front ++ after))
 
+-- the same line, and the same fault, by another number
+abbrev pub renumbered : (ℕ → ℕ) → Item → Item
+renumbered number i = record i { number = number i.number }
+
+abbrev pub retold : (ℕ → ℕ) → AsmFault → AsmFault
+retold number f = record f { line = number f.line }
+
+-- Numbers of lines up to 1,000,000 show in the lines of faults, and nowhere else.
+abbrev pub NumbersShowInFaultsAlone : Type 0
+NumbersShowInFaultsAlone = (number : ℕ → ℕ) (items : List Item) → AllByRecursion (λ i. (i.number ≤ 1000000) × (number i.number ≤ 1000000)) items
+    → (image_of (map (renumbered number) items) ≡ image_of items) × (faults_of (map (renumbered number) items) ≡ map (retold number) (faults_of items))
+
 abbrev pub renamed : (List ℕ → List ℕ) → Label → Label
 renamed rename l = record l { name = rename l.name }
 

@@ -1,5 +1,5 @@
 //! What holds of the source meaning itself. Each law is the contract of a function that does nothing.
-ghost use Rattle.sbx_asm.specs.Laws.{MeantImagesFitTheirFields, CodeIsItsStatements, WordsLookAheadByLabelsAlone, BlankLinesSayNothing, BlankLinesChangeNothing, LabelsMayBeRenamed, TheLeastFaultIsTold};
+ghost use Rattle.sbx_asm.specs.Laws.{MeantImagesFitTheirFields, CodeIsItsStatements, WordsLookAheadByLabelsAlone, BlankLinesSayNothing, BlankLinesChangeNothing, NumbersShowInFaultsAlone, LabelsMayBeRenamed, TheLeastFaultIsTold};
 ghost use Rattle.sbx_asm.specs.Examples.{KnownSourcesHaveTheirMeanings};
 
 /// Of each image that a source means, each number is one that its field can hold, and the data are bytes.
@@ -19,10 +19,12 @@ pub fn words_look_ahead_by_labels_alone()
     ensures { WordsLookAheadByLabelsAlone }
 {}
 
-/// A blank line or a comment has no label and says nothing, and such a line changes the numbers of lines alone.
+/// A blank line or a comment has no label and says nothing; such a line changes the numbers of lines alone, and these show in
+/// faults alone.
 pub fn blank_lines_change_numbers_alone()
     ensures nothing { BlankLinesSayNothing }
     ensures anywhere { BlankLinesChangeNothing }
+    ensures numbers { NumbersShowInFaultsAlone }
 {}
 
 /// Labels may be renamed one to one.

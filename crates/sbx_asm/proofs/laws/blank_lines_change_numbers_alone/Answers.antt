@@ -1,4 +1,5 @@
 use Rattle.sbx_asm.proofs.Meanings.{blank_says, blank_changes}
+use Rattle.sbx_asm.proofs.Numbering.{numbers_show}
 use Rattle.sbx_asm.proofs.laws.blank_lines_change_numbers_alone.Goals as goal
 
 pub returns-clause-nothing : goal.returns-clause-nothing
@@ -6,3 +7,6 @@ returns-clause-nothing c = blank_says
 
 pub returns-clause-anywhere : goal.returns-clause-anywhere
 returns-clause-anywhere c = blank_changes
+
+pub returns-clause-numbers : goal.returns-clause-numbers
+returns-clause-numbers c = numbers_show
