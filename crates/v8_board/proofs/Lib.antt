@@ -1,4 +1,6 @@
 pub mod Placed
+pub mod Bytes
+pub mod Regions
 pub mod Running
 pub mod MarkSums
 pub mod Joined

@@ -1,12 +1,13 @@
 -- RAM with everything placed in it.
-use Rattle.std.proofs.Common.{◌≡◌, ℕ, zero, suc, ◌+◌, ◌-◌, ◌*◌, ◌/◌, ◌<◌, ◌≤◌, ◌⊎◌, inl, inr, Bool, true, false, cond, List, ◌∷◌, length, slice_index, Some, refl, sym, ap, ◌∙◌, subst, arith}
-use Rattle.std.specs.Prelude.{nat_le, replicate, take}
-use Rattle.std.proofs.lemmas.List.{get_or-replicate, length-replicate}
+use Rattle.std.proofs.Common.{◌≡◌, ℕ, ◌+◌, ◌*◌, ◌/◌, ◌<◌, ◌≤◌, ◌⊎◌, inl, inr, Bool, true, false, cond, List, length, slice_index, Some, refl, sym, ap, ◌∙◌, subst, arith}
+use Rattle.std.specs.Prelude.{nat_le}
+use Rattle.std.proofs.lemmas.List.{length-take, take_all}
 use Rattle.std.proofs.lemmas.Bool.Decides.{nat_tests}
 use Rattle.sbx_image.specs.Parts.{Parts}
+use Rattle.sbx_image.specs.Regions.{laid, page_rights}
 use Rattle.v8_core.specs.Ram.{AreBytes, entry_of}
 use Rattle.v8_contained.specs.Handlers.{trap_word, handler_word}
-use Rattle.v8_contained.specs.Layout.{AreFew, HasTables, IsLoaded, data_count, is_writable}
+use Rattle.v8_contained.specs.Layout.{AreFew, HasTables, IsLoaded, data_count}
 use Rattle.v8_contained.specs.Contained.{IsKept}
 use Rattle.v8_layout.specs.Laws.{IsMapped}
 use Rattle.v8_layout.specs.Tables.{table_word}
@@ -45,34 +46,21 @@ most_is most n = by_test (nat_le n most) refl
     by_test true e = grind (arith, nat_tests)
     by_test false e = omega arith
 
+-- the rights of 64 pages at most are all taken
+pub rights_are : (p : Parts) → length (page_rights p.regions) ≤ 64 → (pages_of p).writable ≡ page_rights p.regions
+unfolding pages_of
+rights_are p few = take_all 64 (page_rights p.regions) few
+
 -- how many pages of data there are
-pub data_counted : (p : Parts) → data_count (pages_of p) ≡ at_most 64 ((length p.bytes + 4095) / 4096)
-unfolding pages_of
-data_counted p = length-replicate (at_most 64 ((length p.bytes + 4095) / 4096)) true
-
--- each of them may be written
-pub all_writable : (p : Parts) (i : ℕ) → i < data_count (pages_of p) → is_writable (pages_of p) i ≡ true
-unfolding pages_of
-all_writable p i less =
-    let count = at_most 64 ((length p.bytes + 4095) / 4096) in
-    get_or-replicate count i true false (subst (λ k. i < k) (length-replicate count true) less)
-
--- the first of 64 rights
-pub first_rights : (count : ℕ) → count ≤ 64 → take count (replicate 64 true) ≡ replicate count true
-first_rights count few = let whole : count + (64 - count) ≡ 64 = omega arith in ap (λ k. take count (replicate k true)) (sym whole) ∙ by_count count (64 - count)
-  where
-    by_count : (n k : ℕ) → take n (replicate (n + k) true) ≡ replicate n true
-    by_count zero k = refl
-    by_count (suc n) k =
-        let more : suc n + k ≡ suc (n + k) = omega arith in
-        ap (λ m. take (suc n) (replicate m true)) more ∙ ap (λ (l : List Bool). true ∷ l) (by_count n k)
+pub data_counted : (p : Parts) → length (page_rights p.regions) ≤ 64 → data_count (pages_of p) ≡ length (page_rights p.regions)
+data_counted p few = ap length (rights_are p few)
 
 pub pages_few : (p : Parts) → AreFew (pages_of p)
 unfolding pages_of
 pages_few p =
     record {
       code = most_is 64 ((length p.words + 1023) / 1024);
-      data_pages = subst (λ k. k ≤ 64) (sym (data_counted p)) (most_is 64 ((length p.bytes + 4095) / 4096));
+      data_pages = (let most = length-take 64 (page_rights p.regions) in omega arith);
       stack = most_is 16 p.stack_pages;
     }
 
@@ -81,7 +69,7 @@ pages_few p =
 pub placed : (n : ℕ) (p : Parts) (cc dc : ℕ) (t h w m0 m1 m2 m3 m4 m5 : List ℕ) →
     (pages_of p).code_count ≡ cc → data_count (pages_of p) ≡ dc → length m5 ≡ 0x100000 →
     ((k : ℕ) → k < 1024 → slice_index t k ≡ trap_word k) → ((k : ℕ) → k < 1024 → slice_index h k ≡ handler_word n k) → ((k : ℕ) → k < 896 → slice_index w k ≡ table_word (pages_of p) k) →
-    HasWords 0 t 1024 m0 m1 → HasWords 0x1000 h 1024 m1 m2 → HasWords 0x2000 w 896 m2 m3 → HasWords 0x10000 p.words (1024 * cc) m3 m4 → HasBytesOf 0x50000 p.bytes (4096 * dc) m4 m5 → IsPlaced n p m0 m5
+    HasWords 0 t 1024 m0 m1 → HasWords 0x1000 h 1024 m1 m2 → HasWords 0x2000 w 896 m2 m3 → HasWords 0x10000 p.words (1024 * cc) m3 m4 → HasBytesOf 0x50000 (laid p.regions) (4096 * dc) m4 m5 → IsPlaced n p m0 m5
 placed n p cc dc t h w m0 m1 m2 m3 m4 m5 codes bytes size trap handler tables a b c d e =
     let few = pages_few p in
     let few_code : cc ≤ 64 = (let f = few.code in omega arith) in
@@ -89,20 +77,20 @@ placed n p cc dc t h w m0 m1 m2 m3 m4 m5 codes bytes size trap handler tables a 
     record {
       size = size;
       trap = λ k less.
-          below_bytes 0x50000 (4096 * dc) (4 * k) p.bytes m4 m5 e (omega arith) ∙ below_words 0x10000 (1024 * cc) (4 * k) p.words m3 m4 d (omega arith)
+          below_bytes 0x50000 (4096 * dc) (4 * k) (laid p.regions) m4 m5 e (omega arith) ∙ below_words 0x10000 (1024 * cc) (4 * k) p.words m3 m4 d (omega arith)
           ∙ below_words 0x2000 896 (4 * k) w m2 m3 c (omega arith) ∙ below_words 0x1000 1024 (4 * k) h m1 m2 b (omega arith)
           ∙ (let sum : 4 * k ≡ 0 + 4 * k = omega arith in ap (entry_of m1) sum) ∙ a.words_are k less ∙ ap Some (trap k less);
       handler = λ k less.
-          below_bytes 0x50000 (4096 * dc) (0x1000 + 4 * k) p.bytes m4 m5 e (omega arith) ∙ below_words 0x10000 (1024 * cc) (0x1000 + 4 * k) p.words m3 m4 d (omega arith)
+          below_bytes 0x50000 (4096 * dc) (0x1000 + 4 * k) (laid p.regions) m4 m5 e (omega arith) ∙ below_words 0x10000 (1024 * cc) (0x1000 + 4 * k) p.words m3 m4 d (omega arith)
           ∙ below_words 0x2000 896 (0x1000 + 4 * k) w m2 m3 c (omega arith) ∙ b.words_are k less ∙ ap Some (handler k less);
       tables = λ k less.
-          below_bytes 0x50000 (4096 * dc) (0x2000 + 4 * k) p.bytes m4 m5 e (omega arith) ∙ below_words 0x10000 (1024 * cc) (0x2000 + 4 * k) p.words m3 m4 d (omega arith)
+          below_bytes 0x50000 (4096 * dc) (0x2000 + 4 * k) (laid p.regions) m4 m5 e (omega arith) ∙ below_words 0x10000 (1024 * cc) (0x2000 + 4 * k) p.words m3 m4 d (omega arith)
           ∙ c.words_are k less ∙ ap Some (tables k less);
-      code = λ i less. below_bytes 0x50000 (4096 * dc) (0x10000 + 4 * i) p.bytes m4 m5 e (omega arith) ∙ d.words_are i (omega arith);
+      code = λ i less. below_bytes 0x50000 (4096 * dc) (0x10000 + 4 * i) (laid p.regions) m4 m5 e (omega arith) ∙ d.words_are i (omega arith);
       bytes = λ i less. e.bytes_are i (omega arith);
       stack = λ i high. e.others i (inr (omega arith)) ∙ d.others i (inr (omega arith)) ∙ c.others i (inr (omega arith)) ∙ b.others i (inr (omega arith)) ∙ a.others i (inr (omega arith));
       fit = λ start.
-          bytes_fit 0x50000 (4096 * dc) p.bytes m4 m5 e (words_fit 0x10000 (1024 * cc) p.words m3 m4 d
+          bytes_fit 0x50000 (4096 * dc) (laid p.regions) m4 m5 e (words_fit 0x10000 (1024 * cc) p.words m3 m4 d
           (words_fit 0x2000 896 w m2 m3 c (words_fit 0x1000 1024 h m1 m2 b (words_fit 0 1024 t m0 m1 a start))));
     }
 

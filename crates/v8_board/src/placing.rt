@@ -1,9 +1,11 @@
 //! What loading an image places in RAM.
-ghost use Rattle.std.specs.Prelude.{◌≡◌, ℕ, ◌+◌, ◌-◌, ◌*◌, ◌/◌, ◌^◌, ◌<◌, ◌≤◌, length, replicate, true, false, None};
+ghost use Rattle.std.specs.Prelude.{◌≡◌, ℕ, ◌+◌, ◌-◌, ◌*◌, ◌/◌, ◌^◌, ◌<◌, ◌≤◌, length, take, None};
 ghost use Rattle.v8_mmu.specs.Ram.{AreBytes};
+ghost use Rattle.v8_contained.specs.Placing.{HasBytesOf};
+ghost use Rattle.sbx_image.specs.Regions.{laid, page_rights};
 ghost use Rattle.v8_board.specs.Start.{IsPlaced, at_most, pages_of};
 
-use sbx_image::Image;
+use sbx_image::{Image, Region};
 use v8_contained::{Memory, Port};
 use v8_handlers::{handler_page, trap_table};
 use v8_layout::{Pages, page_tables};
@@ -28,16 +30,32 @@ fn at_most(most: u32, count: u32) -> u32
     if count <= most { count } else { most }
 }
 
-/// The pages that an image takes, given rights to write as many pages of data as there can be.
-fn pages_of<'a>(image: &Image, rights: &'a [bool; 64]) -> Pages<'a>
-    requires { rights.now ≡ replicate 64 true }
+/// Whether each page of data may be written, by the regions, one after another, and how many pages there are.
+fn rights_of(regions: &[Region], rights: &mut [bool; 64]) -> usize
+    requires { length (page_rights regions.now) ≤ 64 }
+    ensures count { result ≡ length (page_rights regions.now) }
+    ensures rights { take result rights.new ≡ page_rights regions.now }
+{
+    let mut pages = 0;
+    for region in regions {
+        let bytes = region.bytes.as_slice();
+        let more = page_count(bytes.len() as u64, 4096, 64) as usize;
+        rights[pages..pages + more].fill(region.writable);
+        pages += more;
+    }
+    pages
+}
+
+/// The pages that an image takes, given the rights of its pages of data.
+fn pages_of<'a>(image: &Image, rights: &'a [bool]) -> Pages<'a>
+    requires rights { rights.now ≡ page_rights image.now.regions }
+    requires few { length rights.now ≤ 64 }
     ensures { record { code_count = result.code; writable = result.writable.now; stack_count = result.stack } ≡ pages_of image.now }
 {
     let code = page_count(image.words().len() as u64, 1024, 64);
-    let data = page_count(image.bytes().len() as u64, 4096, 64);
     Pages {
         code: code as u32,
-        writable: &rights[..data as usize],
+        writable: rights,
         stack: at_most(16, u32::from(image.stack_pages())),
     }
 }
@@ -49,11 +67,21 @@ fn code_words(pages: &Pages) -> u64
     1024 * u64::from(pages.code)
 }
 
-/// How many bytes of data are placed.
-fn data_bytes(pages: &Pages) -> u64
-    ensures { result ≡ 4096 * length pages.now.writable.now }
+/// Places the regions of data, one after another, each from a page's start on, and 0 in the rest of its last page.
+fn place_data<P: Port>(memory: &mut Memory<P>, regions: &[Region])
+    requires { length (page_rights regions.now) ≤ 64 }
+    ensures data { HasBytesOf DATA_PLACE (laid regions.now) (4096 * length (page_rights regions.now)) memory.old.ram memory.new.ram }
+    ensures port { memory.new.port ≡ memory.old.port }
+    ensures ended { memory.new.ended ≡ memory.old.ended }
+    ensures stopped { memory.new.stopped ≡ memory.old.stopped }
 {
-    4096 * pages.writable.len() as u64
+    let mut pages = 0;
+    for region in regions {
+        let bytes = region.bytes.as_slice();
+        let more = page_count(bytes.len() as u64, 4096, 64);
+        memory.set_bytes(DATA_PLACE as u64 + 4096 * pages, bytes, 4096 * more);
+        pages += more;
+    }
 }
 
 /// Places the trap table, the handlers, the tables and an image's code and data in RAM, and takes back the device's stop and the end
@@ -67,12 +95,13 @@ pub(crate) fn place<const N: usize, P: Port>(memory: &mut Memory<P>, image: &Ima
     ensures ended { memory.new.ended ≡ false }
     ensures stopped { memory.new.stopped ≡ None }
 {
-    let rights = [true; 64];
-    let pages = pages_of(image, &rights);
+    let mut rights = [false; 64];
+    let count = rights_of(image.regions(), &mut rights);
+    let pages = pages_of(image, &rights[..count]);
     memory.set_words(0, &trap_table::<N>(), 1024);
     memory.set_words(HANDLERS_PLACE as u64, &handler_page::<N>(), 1024);
     memory.set_words(CONTEXT_TABLE as u64, &page_tables(&pages), 896);
     memory.set_words(CODE_PLACE as u64, image.words(), code_words(&pages));
-    memory.set_bytes(DATA_PLACE as u64, image.bytes(), data_bytes(&pages));
+    place_data(memory, image.regions());
     memory.restart();
 }

@@ -1,9 +1,8 @@
-use Rattle.std.proofs.Common.{rules, ap, ◌∙◌}
-use Rattle.std.specs.Prelude.{take}
+use Rattle.std.proofs.Common.{length, rules, subst, sym, ◌≤◌, ◌∙◌, List, Bool}
 use Rattle.v8_board.specs.Start.{pages_of}
-use Rattle.v8_board.proofs.Placed.{first_rights}
+use Rattle.v8_board.proofs.Placed.{rights_are}
 use Rattle.v8_board.proofs.placing.pages_of.Goals as goal
 
 pub returns : goal.returns
 unfolding pages_of
-returns c = rw (ap (take c.page_count-data.result) c.requires ∙ first_rights c.page_count-data.result c.page_count-data.ensures.bound) (search rules)
+returns c = rw (c.requires.rights ∙ sym (rights_are c.args.image.now (subst (λ (rs : List Bool). length rs ≤ 64) c.requires.rights c.requires.few))) (search rules)

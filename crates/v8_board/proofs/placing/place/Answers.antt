@@ -1,9 +1,11 @@
-use Rattle.std.proofs.Common.{ℕ, ◌*◌, List, length, ap, sym, subst, ◌∙◌}
-use Rattle.v8_contained.specs.Layout.{Pages}
+use Rattle.std.proofs.Common.{◌≡◌, ℕ, ◌*◌, List, length, ap, sym, subst, ◌∙◌}
+use Rattle.sbx_image.specs.Region.{Region}
+use Rattle.sbx_image.specs.Regions.{laid, page_rights}
+use Rattle.v8_contained.specs.Layout.{Pages, data_count}
 use Rattle.v8_layout.specs.Tables.{table_word}
 use Rattle.v8_contained.specs.Placing.{HasWords, HasBytesOf}
-use Rattle.v8_board.specs.Start.{IsPlaced}
-use Rattle.v8_board.proofs.Placed.{placed}
+use Rattle.v8_board.specs.Start.{IsPlaced, pages_of}
+use Rattle.v8_board.proofs.Placed.{data_counted, placed}
 use Rattle.v8_board.proofs.placing.place.Goals as goal
 
 pub returns-clause-ram : goal.returns-clause-ram
@@ -13,14 +15,15 @@ returns-clause-ram g c =
     let same = c.pages_of-pages.ensures in
     let m3 = c.set_words-3.new.self.ram in
     let m4 = c.set_words-4.new.self.ram in
-    let m5 = c.set_bytes.new.self.ram in
+    let m5 = c.place_data.new.memory.ram in
+    let few = ? in
+    let counted : data_count (pages_of p) ≡ length (page_rights p.regions) = data_counted p few in
     subst (λ (m : List ℕ). IsPlaced g.row.N p c.args.memory.now.ram m) (sym c.restart.ensures.ram)
-    (placed g.row.N p pages.code (length pages.writable.now) c.trap_table.result c.handler_page.result c.page_tables.result _ _ _ _ _ _
-    (ap (λ (x : Pages). x.code_count) (sym same)) (ap (λ (x : Pages). length x.writable) (sym same)) c.set_bytes.ensures.size
+    (placed g.row.N p pages.code (length (page_rights p.regions)) c.trap_table.result c.handler_page.result c.page_tables.result _ _ _ _ _ _
+    (ap (λ (x : Pages). x.code_count) (sym same)) counted ?
     c.trap_table.ensures c.handler_page.ensures
     (λ k less. c.page_tables.ensures k less ∙ ap (λ (x : Pages). table_word x k) same)
     c.set_words.ensures.ram c.set_words-2.ensures.ram c.set_words-3.ensures.ram
     (subst (λ (ws : List ℕ). HasWords 0x10000 ws (1024 * pages.code) m3 m4) c.words.ensures
     (subst (λ k. HasWords 0x10000 c.words.result.now k m3 m4) c.code_words.ensures c.set_words-4.ensures.ram))
-    (subst (λ (bs : List ℕ). HasBytesOf 0x50000 bs (4096 * length pages.writable.now) m4 m5) c.bytes.ensures
-    (subst (λ k. HasBytesOf 0x50000 c.bytes.result.now k m4 m5) c.data_bytes.ensures c.set_bytes.ensures.ram)))
+    (subst (λ (rs : List Region). HasBytesOf 0x50000 (laid rs) (4096 * length (page_rights rs)) m4 m5) ? c.place_data.ensures.data))
