@@ -28,8 +28,9 @@ use Rattle.v8_meaning.specs.declared.operation.Operation.TheVariants as operatio
 use Rattle.v8_meaning.specs.declared.operation.Transfer.{Transfer}
 use Rattle.v8_meaning.specs.declared.operation.Transfer.TheVariants as transfers
 use Rattle.sbx_image.specs.Parts.{Parts}
+use Rattle.sbx_image.specs.Regions.{in_one_region}
 use Rattle.sbx_image.specs.Services.{Services}
-use Rattle.sbx_flat.specs.Effects.{address_in, branched, declares, does, gets, high_word, is_base, is_stack_pointer, leaves_in_data, leaves_in_slot, operand_value, restores, served, serves, service_of, slot_of, takes, transfers_data, transfers_in, with_regs, writes, writes_some}
+use Rattle.sbx_flat.specs.Effects.{address_in, branched, declares, does, found, gets, high_word, is_base, is_stack_pointer, leaves_in_data, leaves_in_slot, operand_value, restores, served, serves, service_of, slot_of, takes, transfers_data, transfers_in, with_regs, writes, writes_some}
 use Rattle.sbx_flat.specs.Memory.{Bytes, byte_of, followed_by, number_at, with_number}
 use Rattle.sbx_flat.specs.Registers.{Frame, Fresh, IsFresh, Registers, popped, pushed, with_slot, written}
 use Rattle.sbx_flat.specs.Calls.{base, cell, depth, slot}
@@ -195,9 +196,13 @@ module _ (pages : ℕ) where
       with_calls s (with_slot a (sent (reg s) t rd) s.registers) (calls_slot pages a (sent (reg s) t rd) word s.registers r.there fits h.calls) h)
       (λ e. h)
 
-  transfer_fine : (t : Transfer) (rd a : ℕ) (o : Option ℕ) (s : State) → slot_of t s a ≡ o → IsWellFormed pages s → Fine (transfers_in t rd a o s)
-  transfer_fine t rd a None s e h = data_fine t rd a (number_at s.memory a (bytes_in (size_of t))) s (number_bound s.memory a (bytes_in (size_of t)) h.memory) h
-  transfer_fine t rd a (Some word) s e h =
+  found_bound : (parts : Parts) (t : Transfer) (a : ℕ) (memory : Bytes) → AreData memory → IfSome (found parts t a memory) (λ n. n < 256 ^ bytes_in (size_of t))
+  found_bound parts t a memory all = pick (λ (o : Option ℕ). IfSome o (λ n. n < 256 ^ bytes_in (size_of t))) (in_one_region parts.regions (writes_memory t) a (bytes_in (size_of t))) (number_at memory a (bytes_in (size_of t))) None
+      (λ e. number_bound memory a (bytes_in (size_of t)) all) (λ e. tt)
+
+  transfer_fine : (parts : Parts) (t : Transfer) (rd a : ℕ) (o : Option ℕ) (s : State) → slot_of t s a ≡ o → IsWellFormed pages s → Fine (transfers_in parts t rd a o s)
+  transfer_fine parts t rd a None s e h = data_fine t rd a (found parts t a s.memory) s (found_bound parts t a s.memory h.memory) h
+  transfer_fine parts t rd a (Some word) s e h =
       let r = reaches t rd a word s e in
       let small : word < 2 ^ 32 = h.calls.words.newest.slots a word r.there in
       let fits : word < 256 ^ bytes_in (size_of t) = subst (λ n. word < 256 ^ n) (sym r.size) small in
@@ -272,7 +277,7 @@ module _ (pages : ℕ) where
       on (record s { y = y }) (with_codes s s.icc y (xor_lt 32 (reg s f.rs1) (operand_value s f.operand2) (word_of s f.rs1 h) (operand_word s f.operand2 small h)) h)
   does_fine parts fresh (operation.Transfer t m) s same fresh_words can small h =
       let a = address_in s m in
-      pick Fine (a % bytes_in (size_of t) == 0) (transfers_in t m.rd a (slot_of t s a) s) (Fails Misaligned) (λ e. transfer_fine t m.rd a (slot_of t s a) s refl h) (λ e. tt)
+      pick Fine (a % bytes_in (size_of t) == 0) (transfers_in parts t m.rd a (slot_of t s a) s) (Fails Misaligned) (λ e. transfer_fine parts t m.rd a (slot_of t s a) s refl h) (λ e. tt)
   does_fine parts fresh (Save f) s same fresh_words can small h = saved_fine parts fresh f.rd (address (reg s) f.rs1 f.operand2) s same fresh_words (omega arith) h
   does_fine parts fresh (Restore f) s same fresh_words can small h = restored_fine f.rd (address (reg s) f.rs1 f.operand2) (popped s.registers) s refl (omega arith) h
   does_fine parts fresh (Call displacement) s same fresh_words can small h = moved (with_reg 15 s.pc s) (target s.pc displacement) (target_place s.pc displacement h.pc) (with_word_in 15 s.pc s (omega arith) (omega arith) h.pc.word h)
