@@ -1,9 +1,10 @@
 //! Parts that keep every limit and order of the format.
-ghost use Rattle.std.specs.Prelude.{◌≡◌, ◌≤◌, length, Ok, Err, IfOk, IfErr, All};
-ghost use Rattle.sbx_image.specs.Spelling.{IsCountedFunction, IsTyped};
+ghost use Rattle.std.specs.Prelude.{◌≡◌, ◌≤◌, length, All, Ok, Err, IfOk, IfErr};
+ghost use Rattle.sbx_image.specs.Spelling.{IsCountedFunction, IsTyped, IsTypedRegion};
+ghost use Rattle.sbx_parts.specs.Regions.{byte_count, holds, page_rights};
 ghost use Rattle.sbx_parts.specs.Rules.{parts_keep};
 
-use sbx_parts::{Function, ImageFault, Parts, Services};
+use sbx_parts::{Function, ImageFault, Parts, Region, Services, holds};
 use std::marker::Model;
 
 /// An image: parts that keep every limit and order of the format. Contracts see the parts.
@@ -35,8 +36,8 @@ impl Image {
     }
 
     /// The image of parts that keep every limit and order, made without memory. Else the parts come back as they
-    /// are, with the fault of the first field, in the order of the format, that breaks a rule: `Service`, `Limit`,
-    /// `Order` or `Range`.
+    /// are, with the fault of the first field, in the order of the format, that breaks a rule: `Version`, `Service`,
+    /// `Limit`, `Order` or `Range`.
     pub fn from_parts(parts: Parts) -> Result<Image, (Parts, ImageFault)>
         ensures made { IfOk result (λ image. (image ≡ parts) × (parts_keep parts ≡ Ok tt)) }
         ensures refused { IfErr result (λ back. (back.0 ≡ parts) × (parts_keep parts ≡ Err back.1)) }
@@ -45,6 +46,14 @@ impl Image {
             Ok(()) => Ok(Image::of(parts)),
             Err(fault) => Err((parts, fault)),
         }
+    }
+
+    /// The version of the format, 1.
+    pub fn version(&self) -> u16
+        ensures value { result ≡ self.now.version }
+        ensures known { result ≡ 1 }
+    {
+        self.parts.version
     }
 
     /// The services that it may ask for.
@@ -71,13 +80,12 @@ impl Image {
         self.parts.words.len() as u32
     }
 
-    /// How many bytes of data there are, up to 262,144.
-    #[tactic(auto, using(sbx_parts::proofs::Limits::bytes_within))]
+    /// How many bytes of data there are in all regions, up to 262,144.
     pub fn byte_count(&self) -> u32
-        ensures count { result ≡ length self.now.bytes }
+        ensures count { result ≡ byte_count self.now.regions }
         ensures few { result ≤ 262144 }
     {
-        self.parts.bytes.len() as u32
+        byte_count(self.parts.regions.as_slice())
     }
 
     /// How many functions there are, 1 to 256.
@@ -88,11 +96,22 @@ impl Image {
         self.parts.functions.len() as u16
     }
 
-    /// The data.
-    pub fn bytes(&self) -> &[u8]
-        ensures { result.now ≡ self.now.bytes }
+    /// The regions of data: the first begins at the start of the data's addresses, each next one at the page behind the last page of
+    /// the one before. They take at most 64 pages.
+    pub fn regions(&self) -> &[Region]
+        ensures value { result.now ≡ self.now.regions }
+        ensures few { length self.now.regions ≤ 8 }
+        ensures pages { length (page_rights self.now.regions) ≤ 64 }
+        ensures bytes { All IsTypedRegion self.now.regions }
     {
-        self.parts.bytes.as_slice()
+        self.parts.regions.as_slice()
+    }
+
+    /// Whether one region has all bytes from the address `low` up to but not at `high`, and may be written where `writes` is set.
+    pub fn holds(&self, low: i64, high: i64, writes: bool) -> bool
+        ensures { result ≡ holds self.now.regions low high writes }
+    {
+        holds(self.parts.regions.as_slice(), low, high, writes)
     }
 
     /// Pages of stack, 1 to 16.

@@ -12,6 +12,6 @@ pub use heads::{FunctionHead, Header};
 pub use image::Image;
 pub use reading::{block_of, function_head_of, header_of, parse, ranges_of};
 pub use sbx_parts::{
-    Block, Cell, Function, ImageFault, Items, Kind, Next, Parts, Range, Services, Term,
+    Block, Cell, Function, ImageFault, Items, Kind, Next, Parts, Range, Region, Services, Term, behind,
 };
 pub use writing::write;

@@ -12,6 +12,7 @@ use Rattle.sbx_parts.specs.declared.parts.Cell.{Cell}
 use Rattle.sbx_parts.specs.declared.parts.Term.{Term}
 use Rattle.sbx_parts.specs.declared.parts.Block.{Block}
 use Rattle.sbx_parts.specs.declared.parts.Function.{Function}
+use Rattle.sbx_parts.specs.declared.parts.Region.{Region}
 use Rattle.sbx_parts.specs.declared.parts.Parts.{Parts}
 
 -- one step after another, up to the first fault
@@ -113,14 +114,26 @@ function_keeps end place f = do
 abbrev pub is_known : ℕ → Bool
 is_known services = bit_and services 7 == services
 
+-- the one version that is known
+abbrev pub is_version : ℕ → Bool
+is_version n = n == 1
+
+-- whole double words
 abbrev pub is_data_length : ℕ → Bool
 is_data_length n = nat_le n 262144 && n % 8 == 0
 
+-- the data of version 1: no region, or one that has bytes and may be written
+abbrev pub is_data : List Region → Bool
+is_data [] = true
+is_data (r ∷ []) = r.writable && (nat_lt 0 (length r.bytes) && is_data_length (length r.bytes))
+is_data (r ∷ s ∷ rest) = false
+
 unfoldable pub parts_keep : Parts → Result (Unit {0}) ImageFault
 parts_keep p = do
+  _ ← wants (is_version p.version) fault.Version
   _ ← wants (is_known p.services.0) fault.Service
   _ ← wants (between 1 65536 (length p.words)) fault.Limit
-  _ ← wants (is_data_length (length p.bytes)) fault.Limit
+  _ ← wants (is_data p.regions) fault.Limit
   _ ← wants (between 1 16 p.stack_pages) fault.Limit
   _ ← wants (between 1 256 (length p.functions)) fault.Limit
   _ ← each (function_keeps (code_start + 4 * length p.words)) (Exactly code_start, 0) p.functions

@@ -8,6 +8,8 @@ use Rattle.sbx_parts.specs.declared.parts.Term.{Term}
 use Rattle.sbx_parts.specs.declared.parts.Block.{Block}
 use Rattle.sbx_parts.specs.declared.parts.Function.{Function}
 use Rattle.sbx_parts.specs.declared.parts.Parts.{Parts}
+use Rattle.sbx_parts.specs.declared.parts.Region.{Region}
+use Rattle.sbx_parts.specs.Regions.{AreBytes}
 
 -- Each number is one that its field can hold.
 pub record IsTypedRange (r : Range) : Type 0 where
@@ -32,9 +34,15 @@ pub record IsTypedFunction (f : Function) : Type 0 where
   pub results : AllByRecursion IsTypedRange f.results
   pub blocks : AllByRecursion IsTypedBlock f.blocks
 
+-- The bytes of a region.
+abbrev pub IsTypedRegion : Region → Type 0
+IsTypedRegion r = AreBytes r.bytes
+
 pub record IsTyped (p : Parts) : Type 0 where
+  pub version : p.version < 2 ^ 16
   pub services : p.services.0 < 2 ^ 16
   pub words : AllByRecursion (λ w. w < 2 ^ 32) p.words
+  pub regions : AllByRecursion IsTypedRegion p.regions
   pub functions : AllByRecursion IsTypedFunction p.functions
 
 -- Each list has a length that its count can say.

@@ -2,12 +2,12 @@
 ghost use Rattle.std.specs.Prelude.{◌≡◌, ◌≤◌, ◌+◌, ◌-◌, true, false, MatchResult, IfOk};
 ghost use Rattle.sbx_parts.specs.declared.order.Next.TheVariants.{Exactly};
 ghost use Rattle.sbx_parts.specs.declared.fault.ImageFault.TheVariants as fault;
-ghost use Rattle.sbx_parts.specs.Rules.{wants, between, range_keeps, location_keeps, cell_keeps, term_keeps, block_keeps, function_keeps, parts_keep, is_data_length, is_known, each, code_start};
+ghost use Rattle.sbx_parts.specs.Rules.{wants, between, range_keeps, location_keeps, cell_keeps, term_keeps, block_keeps, function_keeps, parts_keep, is_data, is_known, is_version, each, code_start};
 
 use crate::fault::ImageFault;
 use crate::lists::{Checked, check_each};
 use crate::order::{Next, admits, is_coefficient, is_fuel};
-use crate::parts::{Block, Cell, Function, Parts, Range, Term};
+use crate::parts::{Block, Cell, Function, Parts, Range, Region, Term};
 use crate::services::Services;
 use v8_map::CODE_START;
 
@@ -30,11 +30,25 @@ fn is_known(services: Services) -> bool
     services.0 & 7 == services.0
 }
 
-/// Whether so many bytes are whole double words, at most 262,144.
-fn is_data_length(n: usize) -> bool
-    ensures { result ≡ is_data_length n }
+/// Whether the version is one that is known.
+fn is_version(version: u16) -> bool
+    ensures { result ≡ is_version version }
 {
-    n <= 262144 && n % 8 == 0
+    version == 1
+}
+
+/// Whether regions are data of version 1: none, or one that has whole double words, up to 262,144 bytes, and may be written.
+fn is_data(regions: &[Region]) -> bool
+    ensures { result ≡ is_data regions.now }
+{
+    match regions {
+        [] => true,
+        [only] => {
+            let count = only.bytes.len();
+            only.writable && (0 < count && (count <= 262144 && count % 8 == 0))
+        }
+        _ => false,
+    }
 }
 
 fn check_location(last: u16, location: u16) -> Result<(), ImageFault>
@@ -148,15 +162,16 @@ fn check_functions(end: u32, functions: &[Function]) -> Result<(Next, u16), Imag
 
 impl Parts {
     /// Whether they keep every limit and order; else the fault of the first field, in the order of the format, that breaks
-    /// a rule: `Service`, `Limit`, `Order` or `Range`.
+    /// a rule: `Version`, `Service`, `Limit`, `Order` or `Range`.
     #[tactic(auto, unfolding(crate::specs::Rules::parts_keep))]
     pub fn check(&self) -> Result<(), ImageFault>
         ensures { result ≡ parts_keep self.now }
     {
         let count = self.words.len();
+        wants(is_version(self.version), ImageFault::Version)?;
         wants(is_known(self.services), ImageFault::Service)?;
         wants(between(1, 65536, count as u64), ImageFault::Limit)?;
-        wants(is_data_length(self.bytes.len()), ImageFault::Limit)?;
+        wants(is_data(self.regions.as_slice()), ImageFault::Limit)?;
         wants(between(1, 16, self.stack_pages as u64), ImageFault::Limit)?;
         wants(
             between(1, 256, self.functions.len() as u64),

@@ -8,11 +8,13 @@ pub mod laws;
 mod lists;
 mod order;
 mod parts;
+mod regions;
 mod services;
 mod widths;
 
 pub use fault::ImageFault;
 pub use items::Items;
 pub use order::{Next, admits, is_coefficient, is_fuel};
-pub use parts::{Block, Cell, Function, Kind, Parts, Range, Term};
+pub use parts::{Block, Cell, Function, Kind, Parts, Range, Region, Term};
+pub use regions::{behind, holds};
 pub use services::{Services, services_of};

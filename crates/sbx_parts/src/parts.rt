@@ -68,14 +68,25 @@ pub struct Function {
     pub blocks: Items<Block>,
 }
 
+/// Data that lie on pages of their own.
+#[derive(Debug, Drop)]
+pub struct Region {
+    /// In an image 1 or more, up to 262,144, and a multiple of 8.
+    pub bytes: Items<u8>,
+    /// Whether the program may write them, and not read them alone.
+    pub writable: bool,
+}
+
 /// The fields of an image, whatever they hold.
 #[derive(Debug, Drop)]
 pub struct Parts {
+    /// The format's version, 1 in an image.
+    pub version: u16,
     pub services: Services,
     /// The code, 1 to 65,536 words.
     pub words: Items<u32>,
-    /// The data, at most 262,144 bytes and a multiple of 8.
-    pub bytes: Items<u8>,
+    /// The data, from the start of the data's addresses on. Version 1 has no region, or one that is writable.
+    pub regions: Items<Region>,
     /// Pages of stack, 1 to 16.
     pub stack_pages: u16,
     /// 1 to 256; the first one is where a run begins.

@@ -1,9 +1,9 @@
 //! What the types of an image's fields say of its numbers, as one statement about its parts.
 ghost use Rattle.std.specs.Prelude.{◌<◌, ◌^◌};
-ghost use Rattle.sbx_parts.specs.Widths.{IsTyped, IsTypedBlock, IsTypedCell, IsTypedFunction, IsTypedRange, IsTypedTerm};
+ghost use Rattle.sbx_parts.specs.Widths.{IsTyped, IsTypedBlock, IsTypedCell, IsTypedFunction, IsTypedRange, IsTypedRegion, IsTypedTerm};
 
 use crate::lists::{Typed, each_fits};
-use crate::parts::{Block, Cell, Function, Parts, Range, Term};
+use crate::parts::{Block, Cell, Function, Parts, Range, Region, Term};
 
 impl Typed for Range {
     ghost is_typed = { IsTypedRange };
@@ -52,6 +52,14 @@ impl Typed for Function {
     }
 }
 
+impl Typed for Region {
+    ghost is_typed = { IsTypedRegion };
+
+    fn fits(&self) {
+        let _bytes = self.bytes.as_slice();
+    }
+}
+
 impl Typed for u32 {
     ghost is_typed = { λ word. word < 2 ^ 32 };
 
@@ -65,8 +73,10 @@ impl Parts {
     pub fn fit(&self)
         ensures { IsTyped self.now }
     {
+        let _version = self.version;
         let _services = self.services.0;
         each_fits(self.words.as_slice());
+        each_fits(self.regions.as_slice());
         each_fits(self.functions.as_slice());
     }
 }

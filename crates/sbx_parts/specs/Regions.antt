@@ -1,0 +1,88 @@
+-- Where the data of an image lie: its regions one after another, each on pages of its own.
+use Rattle.std.specs.Prelude.{ℕ, ◌+◌, ◌-◌, ◌*◌, ◌/◌, ◌<◌, ◌^◌, ℤ, pos, Bool, false, not, ◌&&◌, ◌||◌, List, [], ◌∷◌, ◌++◌, length, replicate, Option, None, Some, nat_lt, int_lt, slice_get, slice_index, if◌then◌else◌}
+use Rattle.v8_map.specs.declared.TheConstants.{DATA_START}
+use Rattle.sbx_parts.specs.declared.parts.Region.{Region}
+
+abbrev pub data_start : ℕ
+data_start = DATA_START
+
+-- the pages of 4,096 bytes that so many bytes take
+abbrev pub pages_for : ℕ → ℕ
+pages_for n = (n + 4095) / 4096
+
+-- whether each page of data may be written
+abbrev pub page_rights : List Region → List Bool
+page_rights [] = []
+page_rights (r ∷ rs) = replicate (pages_for (length r.bytes)) r.writable ++ page_rights rs
+
+-- a region's bytes, and zeros up to the end of its last page
+abbrev pub on_pages : List ℕ → List ℕ
+on_pages bytes = bytes ++ replicate (4096 * pages_for (length bytes) - length bytes) 0
+
+-- the bytes of the data's pages, from the first one
+abbrev pub laid : List Region → List ℕ
+laid [] = []
+laid (r ∷ rs) = on_pages r.bytes ++ laid rs
+
+-- the regions' bytes alone, and how many there are
+abbrev pub all_bytes : List Region → List ℕ
+all_bytes [] = []
+all_bytes (r ∷ rs) = r.bytes ++ all_bytes rs
+
+abbrev pub byte_count : List Region → ℕ
+byte_count [] = 0
+byte_count (r ∷ rs) = length r.bytes + byte_count rs
+
+-- where a region lies that begins at an address
+pub record Placed : Type 0 where
+  pub address : ℕ
+  pub bytes : List ℕ
+  pub writable : Bool
+
+-- the next region begins at the page behind a region's last one
+abbrev pub behind : ℕ → Region → ℕ
+behind start r = start + 4096 * pages_for (length r.bytes)
+
+abbrev pub placed_from : ℕ → List Region → List Placed
+placed_from start [] = []
+placed_from start (r ∷ rs) = record { address = start; bytes = r.bytes; writable = r.writable } ∷ placed_from (behind start r) rs
+
+abbrev pub placed : List Region → List Placed
+placed regions = placed_from data_start regions
+
+-- ---- the byte at an address, which is a region's own
+
+abbrev pub or_else : Option ℕ → Option ℕ → Option ℕ
+or_else None other = other
+or_else (Some byte) other = Some byte
+
+abbrev pub byte_of_region : Placed → ℕ → Option ℕ
+byte_of_region r address = if nat_lt address r.address then None else slice_get r.bytes (address - r.address)
+
+abbrev pub byte_in : List Placed → ℕ → Option ℕ
+byte_in [] address = None
+byte_in (r ∷ rs) address = or_else (byte_of_region r address) (byte_in rs address)
+
+abbrev pub data_at : List Region → ℕ → Option ℕ
+data_at regions address = byte_in (placed regions) address
+
+-- ---- what may be reached: the bytes from low up to but not at high, all in one region, that may be written where they are
+
+abbrev pub region_holds : ℤ → ℤ → Bool → Placed → Bool
+region_holds low high writes r = not (int_lt low (pos r.address)) && not (int_lt (pos (r.address + length r.bytes)) high) && (not writes || r.writable)
+
+abbrev pub one_holds : ℤ → ℤ → Bool → List Placed → Bool
+one_holds low high writes [] = false
+one_holds low high writes (r ∷ rs) = region_holds low high writes r || one_holds low high writes rs
+
+unfoldable pub holds : List Region → ℤ → ℤ → Bool → Bool
+holds regions low high writes = one_holds low high writes (placed regions)
+
+-- so many bytes from an address on
+abbrev pub in_one_region : List Region → ℕ → ℕ → Bool → Bool
+in_one_region regions address size writes = holds regions (pos address) (pos (address + size)) writes
+
+-- ---- numbers
+
+abbrev pub AreBytes : List ℕ → Type 0
+AreBytes bytes = (i : ℕ) → slice_index bytes i < 2 ^ 8

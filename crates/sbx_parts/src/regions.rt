@@ -1,0 +1,39 @@
+//! Where the regions of data lie, and what they hold.
+ghost use Rattle.std.specs.Prelude.{◌≡◌, ◌≤◌, length};
+ghost use Rattle.sbx_parts.specs.Regions.{behind, holds, page_rights, pages_for};
+
+use crate::parts::Region;
+use v8_map::{DATA_START, PAGE};
+
+/// How many pages so many bytes take.
+fn pages_for(count: usize) -> usize
+    ensures { result ≡ pages_for count }
+{
+    count / 4096 + usize::from(count % 4096 > 0)
+}
+
+/// The address of the page behind the last one of a region that begins at `start`, where the next one begins.
+pub fn behind(start: u32, region: &Region) -> u32
+    requires start { start ≤ 0xC0000 }
+    requires small { pages_for (length region.now.bytes) ≤ 64 }
+    ensures { result ≡ behind start region.now }
+{
+    start + PAGE * pages_for(region.bytes.len()) as u32
+}
+
+/// Whether one region has all bytes from the address `low` up to but not at `high`, and may be written where `writes` is set.
+/// An address is a whole number.
+pub fn holds(regions: &[Region], low: i64, high: i64, writes: bool) -> bool
+    requires { length (page_rights regions.now) ≤ 64 }
+    ensures { result ≡ holds regions.now low high writes }
+{
+    let mut start = DATA_START;
+    for region in regions {
+        let end = i64::from(start) + region.bytes.len() as i64;
+        if !(low < i64::from(start)) && (!(end < high) && (!writes || region.writable)) {
+            return true;
+        }
+        start = behind(start, region);
+    }
+    false
+}
