@@ -1,6 +1,8 @@
 //! Laws of the flat machine's definitions. Each is the contract of a function that does nothing.
 ghost use Rattle.std.specs.Prelude.{◌≡◌, ◌≢◌, ℕ, ◌+◌, ◌-◌, ◌<◌, ◌≤◌, ◌%◌, ◌*◌, ◌^◌, ◌==◌, if◌then◌else◌, List, [], ◌∷◌, ◌++◌, length, Option, None, Some, Bool, false, true};
+ghost use Rattle.std.specs.List.{AllByRecursion};
 ghost use Rattle.sbx_image.specs.Parts.{Parts};
+ghost use Rattle.sbx_image.specs.Spelling.{IsTypedRegion};
 ghost use Rattle.sbx_flat.specs.Alike.{Alike, AlikeRegisters, Known, PopsAlike, known_popped, known_pushed, known_slot, known_written, knows};
 ghost use Rattle.sbx_flat.specs.Examples.{at_first, at_restore, at_save, at_second, at_third, based, called_by, save_and_restore, step_of, with_addresses, with_region, with_slots, with_two_regions};
 ghost use Rattle.sbx_flat.specs.Invariants.{IsInvariant};
@@ -53,9 +55,9 @@ pub fn states_go_on_or_are_wrong()
 /// Each state that a run reaches is well-formed: registers, slots, Y and the exit word are words, the data, the input and the output bytes,
 /// PC and nPC multiples of 4, and the open calls have 64 bytes each on the stack, one below the other, with their slots between them.
 pub fn states_stay_well_formed()
-    ensures starts { (parts : Parts) (input : List ℕ) (s : State) → 1 ≤ parts.stack_pages → AreBytes parts.bytes → AreBytes input → IsStart parts input s → IsWellFormed parts.stack_pages s }
+    ensures starts { (parts : Parts) (input : List ℕ) (s : State) → 1 ≤ parts.stack_pages → AllByRecursion IsTypedRegion parts.regions → AreBytes input → IsStart parts input s → IsWellFormed parts.stack_pages s }
     ensures steps { (parts : Parts) (s next : State) → IsWellFormed parts.stack_pages s → Step parts s next → IsWellFormed parts.stack_pages next }
-    ensures runs { (parts : Parts) (input : List ℕ) (path : List Place) (s : State) → 1 ≤ parts.stack_pages → AreBytes parts.bytes → AreBytes input → FlatRun parts input path s → IsWellFormed parts.stack_pages s }
+    ensures runs { (parts : Parts) (input : List ℕ) (path : List Place) (s : State) → 1 ≤ parts.stack_pages → AllByRecursion IsTypedRegion parts.regions → AreBytes input → FlatRun parts input path s → IsWellFormed parts.stack_pages s }
 {}
 
 /// An invariant of two runs makes an image safe, whichever relation it is; and it holds of the states that two runs over one input reach
@@ -143,7 +145,7 @@ pub fn restore_goes_back()
 {}
 
 /// LD and ST of a slot: `ld [%sp+64],%o0` and `st %o1,[%sp+64]` with %sp at 000FFF60. A byte of a slot is out of reach.
-#[tactic(auto, unfolding(crate::specs::Turns::turn, crate::specs::Turns::word_at, crate::specs::States::reg, crate::specs::Registers::written, v8_formats::specs::Table::meaning, v8_meaning::specs::Operations::operation_of, v8_meaning::specs::Admitted::is_admitted))]
+#[tactic(auto, unfolding(crate::specs::Turns::turn, crate::specs::Turns::word_at, crate::specs::States::reg, crate::specs::Registers::written, sbx_parts::specs::Regions::holds, v8_formats::specs::Table::meaning, v8_meaning::specs::Operations::operation_of, v8_meaning::specs::Admitted::is_admitted))]
 pub fn slots_hold_words()
     ensures loads { (parts : Parts) (fresh : Fresh) (s : State) → step_of 0xD003A040 parts fresh (with_slots (λ a. Some a) (based 0xFFF60 s)) ≡ Goes (at_second (with_reg 8 0xFFFA0 (with_slots (λ a. Some a) (based 0xFFF60 s)))) }
     ensures stores { (parts : Parts) (fresh : Fresh) (s : State) → step_of 0xD223A040 parts fresh (with_slots (λ a. Some a) (based 0xFFF60 s)) ≡ Goes (at_second (with_slots (λ a. if a == 0xFFFA0 then Some 0xFFF60 else Some a) (based 0xFFF60 s))) }
@@ -154,7 +156,7 @@ pub fn slots_hold_words()
 /// Loads take bytes in big-endian order, at a multiple of their size, and only where they all lie in one region, whether or not it may
 /// be written: `lduh [%l0+4]`, `ldsb [%l0+128]`, `ld [%l0+8]` and `ldd [%l0+8]`, all into %o0, with %l0 at the start of the data, of
 /// regions of 136, 16 and 15 bytes; `lduh [5]` and `ldd [4]`. Every byte is its address.
-#[tactic(auto, unfolding(crate::specs::Turns::turn, crate::specs::Turns::word_at, crate::specs::States::reg, crate::specs::Registers::written, v8_formats::specs::Table::meaning, v8_meaning::specs::Operations::operation_of, v8_meaning::specs::Admitted::is_admitted))]
+#[tactic(auto, unfolding(crate::specs::Turns::turn, crate::specs::Turns::word_at, crate::specs::States::reg, crate::specs::Registers::written, sbx_parts::specs::Regions::holds, v8_formats::specs::Table::meaning, v8_meaning::specs::Operations::operation_of, v8_meaning::specs::Admitted::is_admitted))]
 pub fn loads_are_big_endian()
     ensures half { (parts : Parts) (writable : Bool) (fresh : Fresh) (s : State) → step_of 0xD0142004 (with_region writable 136 parts) fresh (with_addresses s) ≡ Goes (at_second (with_reg 8 0x0405 (with_addresses s))) }
     ensures signed { (parts : Parts) (writable : Bool) (fresh : Fresh) (s : State) → step_of 0xD04C2080 (with_region writable 136 parts) fresh (with_addresses s) ≡ Goes (at_second (with_reg 8 0xFFFFFF80 (with_addresses s))) }
@@ -171,7 +173,7 @@ pub fn loads_are_big_endian()
 
 /// Stores, and the two accesses that load and store, reach only a region that may be written: `stb %o1,[%l0+5]`, `std %o0,[%l0+8]`,
 /// `ldstub [%l0+5],%o0` and `swap [%l0+8],%o0`, with %l0 at the start of the data, of a region of 16 bytes; and `swap [5],%o0`.
-#[tactic(auto, unfolding(crate::specs::Turns::turn, crate::specs::Turns::word_at, crate::specs::States::reg, crate::specs::Registers::written, v8_formats::specs::Table::meaning, v8_meaning::specs::Operations::operation_of, v8_meaning::specs::Admitted::is_admitted))]
+#[tactic(auto, unfolding(crate::specs::Turns::turn, crate::specs::Turns::word_at, crate::specs::States::reg, crate::specs::Registers::written, sbx_parts::specs::Regions::holds, v8_formats::specs::Table::meaning, v8_meaning::specs::Operations::operation_of, v8_meaning::specs::Admitted::is_admitted))]
 pub fn stores_are_big_endian()
     ensures byte { (parts : Parts) (fresh : Fresh) (s : State) → step_of 0xD22C2005 (with_region true 16 parts) fresh (with_addresses s) ≡ Goes (at_second (record (with_addresses s) { memory = with_number (with_addresses s).memory 0x80005 1 (reg s 9 % 2 ^ 8) })) }
     ensures double { (parts : Parts) (fresh : Fresh) (s : State) → step_of 0xD03C2008 (with_region true 16 parts) fresh (with_addresses s) ≡ Goes (at_second (record (with_addresses s) { memory = with_number (with_addresses s).memory 0x80008 8 (reg s 8 * 2 ^ 32 + reg s 9) })) }
