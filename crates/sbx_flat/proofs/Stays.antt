@@ -29,7 +29,7 @@ use Rattle.v8_meaning.specs.declared.operation.Transfer.{Transfer}
 use Rattle.v8_meaning.specs.declared.operation.Transfer.TheVariants as transfers
 use Rattle.sbx_image.specs.Parts.{Parts}
 use Rattle.sbx_image.specs.Region.{Region}
-use Rattle.sbx_image.specs.Regions.{Placed, behind, byte_in, byte_of_region, data_start, in_one_region, or_else, placed_from}
+use Rattle.sbx_image.specs.Regions.{Placed, behind, byte_in, byte_of_region, data_start, or_else, placed_from}
 use Rattle.sbx_image.specs.Spelling.{IsTypedRegion}
 use Rattle.sbx_image.specs.Services.{Services}
 use Rattle.sbx_flat.specs.Effects.{address_in, branched, declares, does, found, gets, high_word, is_base, is_stack_pointer, leaves_in_data, leaves_in_slot, operand_value, restores, served, serves, service_of, slot_of, takes, transfers_data, transfers_in, with_regs, writes, writes_some}
@@ -198,12 +198,12 @@ module _ (pages : ℕ) where
       with_calls s (with_slot a (sent (reg s) t rd) s.registers) (calls_slot pages a (sent (reg s) t rd) word s.registers r.there fits h.calls) h)
       (λ e. h)
 
-  found_bound : (parts : Parts) (t : Transfer) (a : ℕ) (memory : Bytes) → AreData memory → IfSome (found parts t a memory) (λ n. n < 256 ^ bytes_in (size_of t))
-  found_bound parts t a memory all = pick (λ (o : Option ℕ). IfSome o (λ n. n < 256 ^ bytes_in (size_of t))) (in_one_region parts.regions a (bytes_in (size_of t)) (writes_memory t)) (number_at memory a (bytes_in (size_of t))) None
-      (λ e. number_bound memory a (bytes_in (size_of t)) all) (λ e. tt)
+  found_bound : (t : Transfer) (a : ℕ) (memory : Bytes) (lies : Bool) → AreData memory → IfSome (if lies then number_at memory a (bytes_in (size_of t)) else None) (λ n. n < 256 ^ bytes_in (size_of t))
+  found_bound t a memory true all = number_bound memory a (bytes_in (size_of t)) all
+  found_bound t a memory false all = tt
 
   transfer_fine : (parts : Parts) (t : Transfer) (rd a : ℕ) (o : Option ℕ) (s : State) → slot_of t s a ≡ o → IsWellFormed pages s → Fine (transfers_in parts t rd a o s)
-  transfer_fine parts t rd a None s e h = data_fine t rd a (found parts t a s.memory) s (found_bound parts t a s.memory h.memory) h
+  transfer_fine parts t rd a None s e h = data_fine t rd a (found parts t a s.memory) s (found_bound t a s.memory _ h.memory) h
   transfer_fine parts t rd a (Some word) s e h =
       let r = reaches t rd a word s e in
       let small : word < 2 ^ 32 = h.calls.words.newest.slots a word r.there in
