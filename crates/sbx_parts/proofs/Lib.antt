@@ -3,3 +3,5 @@ pub mod Limits
 pub mod Eaches
 pub mod Every
 pub mod Ordered
+pub mod Placing
+pub mod Within

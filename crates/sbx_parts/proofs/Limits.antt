@@ -1,7 +1,7 @@
 -- What parts that keep every limit and order are known to keep, taken apart.
-use Rattle.std.proofs.Common.{◌≡◌, ℕ, ◌+◌, ◌-◌, ◌*◌, ◌≤◌, ltb, true, List, [], ◌∷◌, length, All, Result, Ok, ap, arith}
+use Rattle.std.proofs.Common.{◌≡◌, ℕ, ◌+◌, ◌-◌, ◌*◌, ◌%◌, ◌≤◌, ◌<◌, leb, ltb, true, List, [], ◌∷◌, length, All, Result, Ok, ap, arith}
 use Rattle.std.specs.List.{AllByRecursion}
-use Rattle.std.proofs.lemmas.Bool.{leb-true}
+use Rattle.std.proofs.lemmas.Bool.{eqb-true, leb-true, ltb-true}
 use Rattle.std.proofs.lemmas.List.Elements.{All-from_recursion}
 use Rattle.sbx_parts.specs.declared.fault.ImageFault.{ImageFault}
 use Rattle.sbx_parts.specs.declared.fault.ImageFault.TheVariants as fault
@@ -13,7 +13,10 @@ use Rattle.sbx_parts.specs.declared.parts.Term.{Term}
 use Rattle.sbx_parts.specs.declared.parts.Block.{Block}
 use Rattle.sbx_parts.specs.declared.parts.Function.{Function}
 use Rattle.sbx_parts.specs.declared.parts.Parts.{Parts}
-use Rattle.sbx_parts.specs.Rules.{◌>>=◌, wants, between, each, Place, code_start, admits, is_location, is_fuel, is_coefficient, is_known, is_data_length, in_order, range_keeps, location_keeps, cell_keeps, term_keeps, block_keeps, ranges_keep, function_keeps, parts_keep}
+use Rattle.sbx_parts.specs.declared.parts.Region.{Region}
+use Rattle.sbx_parts.specs.Regions.{AreData}
+use Rattle.sbx_parts.proofs.Placing.{page_count}
+use Rattle.sbx_parts.specs.Rules.{◌>>=◌, wants, between, each, Place, code_start, admits, is_location, is_fuel, is_coefficient, is_known, is_version, is_data, in_order, range_keeps, location_keeps, cell_keeps, term_keeps, block_keeps, ranges_keep, function_keeps, parts_keep}
 use Rattle.sbx_parts.specs.Widths.{IsCountedBlock, IsCountedFunction}
 use Rattle.sbx_parts.proofs.Steps.{bind_ok, wanted, wanted_last, both_true, is_between, ok_is}
 
@@ -124,9 +127,10 @@ function_kept end place f state e =
     }
 
 pub record KeptParts (p : Parts) : Type 0 where
+  pub version : is_version p.version ≡ true
   pub services : is_known p.services.0 ≡ true
   pub word_count : between 1 65536 (length p.words) ≡ true
-  pub byte_count : is_data_length (length p.bytes) ≡ true
+  pub regions : is_data p.regions ≡ true
   pub stack_pages : between 1 16 p.stack_pages ≡ true
   pub function_count : between 1 256 (length p.functions) ≡ true
   pub last : Place
@@ -135,21 +139,46 @@ pub record KeptParts (p : Parts) : Type 0 where
 pub parts_kept : (p : Parts) → parts_keep p ≡ Ok tt → KeptParts p
 unfolding parts_keep
 parts_kept p e =
-    let services = wanted (is_known p.services.0) fault.Service _ _ e in
+    let version = wanted (is_version p.version) fault.Version _ _ e in
+    let services = wanted (is_known p.services.0) fault.Service _ _ version.1 in
     let word_count = wanted (between 1 65536 (length p.words)) fault.Limit _ _ services.1 in
-    let byte_count = wanted (is_data_length (length p.bytes)) fault.Limit _ _ word_count.1 in
-    let stack_pages = wanted (between 1 16 p.stack_pages) fault.Limit _ _ byte_count.1 in
+    let regions = wanted (is_data p.regions) fault.Limit _ _ word_count.1 in
+    let stack_pages = wanted (between 1 16 p.stack_pages) fault.Limit _ _ regions.1 in
     let function_count = wanted (between 1 256 (length p.functions)) fault.Limit _ _ stack_pages.1 in
     let functions = bind_ok (each (function_keeps (code_start + 4 * length p.words)) (Exactly code_start, 0) p.functions) (λ _. Ok tt) tt function_count.1 in
-    record { services = services.0; word_count = word_count.0; byte_count = byte_count.0; stack_pages = stack_pages.0; function_count = function_count.0; last = functions.0; functions = functions.1 }
+    record { version = version.0; services = services.0; word_count = word_count.0; regions = regions.0; stack_pages = stack_pages.0; function_count = function_count.0; last = functions.0; functions = functions.1 }
 
 -- the code has 1 to 65,536 words
 pub words_within : (p : Parts) → parts_keep p ≡ Ok tt → (1 ≤ length p.words) × (length p.words ≤ 65536)
 words_within p e = is_between 1 65536 (length p.words) (parts_kept p e).word_count
 
--- the data has at most 262,144 bytes
-pub bytes_within : (p : Parts) → parts_keep p ≡ Ok tt → length p.bytes ≤ 262144
-bytes_within p e = leb-true (length p.bytes) 262144 (both_true _ _ (parts_kept p e).byte_count).0
+one_is_data : (r : Region) → is_data (r ∷ []) ≡ true → AreData (r ∷ [])
+one_is_data r e =
+    let tests = both_true r.writable _ e in
+    let sizes = both_true (ltb 0 (length r.bytes)) _ tests.1 in
+    let whole = both_true (leb (length r.bytes) 262144) _ sizes.1 in
+    let some : 0 < length r.bytes = ltb-true _ _ sizes.0 in
+    let few : length r.bytes ≤ 262144 = leb-true _ _ whole.0 in
+    let eights : length r.bytes % 8 ≡ 0 = eqb-true _ _ whole.1 in
+    record {
+      few = omega arith;
+      pages = omega (arith, page_count r []);
+      bytes = omega arith;
+      each = (record { some = omega arith; few = few; whole = eights }, tt);
+    }
+
+data_of : (rs : List Region) → is_data rs ≡ true → AreData rs
+data_of [] e = record { few = omega arith; pages = omega arith; bytes = omega arith; each = tt }
+data_of (r ∷ []) e = one_is_data r e
+data_of (r ∷ s ∷ rest) e = absurd cc
+
+-- the data keep their limits
+pub data_within : (p : Parts) → parts_keep p ≡ Ok tt → AreData p.regions
+data_within p e = data_of p.regions (parts_kept p e).regions
+
+-- one version is known
+pub version_is : (p : Parts) → parts_keep p ≡ Ok tt → p.version ≡ 1
+version_is p e = eqb-true p.version 1 (parts_kept p e).version
 
 -- 1 to 16 pages of stack
 pub stack_within : (p : Parts) → parts_keep p ≡ Ok tt → (1 ≤ p.stack_pages) × (p.stack_pages ≤ 16)

@@ -1,5 +1,6 @@
 -- Where the data of an image lie: its regions one after another, each on pages of its own.
-use Rattle.std.specs.Prelude.{ℕ, ◌+◌, ◌-◌, ◌*◌, ◌/◌, ◌<◌, ◌^◌, ℤ, pos, Bool, false, not, ◌&&◌, ◌||◌, List, [], ◌∷◌, ◌++◌, length, replicate, Option, None, Some, nat_lt, int_lt, slice_get, slice_index, if◌then◌else◌}
+use Rattle.std.specs.Prelude.{ℕ, ◌+◌, ◌-◌, ◌*◌, ◌/◌, ◌%◌, ◌<◌, ◌≤◌, ◌^◌, ◌≡◌, ℤ, pos, Bool, false, not, ◌&&◌, ◌||◌, List, [], ◌∷◌, ◌++◌, length, replicate, Option, None, Some, nat_lt, int_lt, slice_get, slice_index, if◌then◌else◌}
+use Rattle.std.specs.List.{AllByRecursion}
 use Rattle.v8_map.specs.declared.TheConstants.{DATA_START}
 use Rattle.sbx_parts.specs.declared.parts.Region.{Region}
 
@@ -83,6 +84,19 @@ abbrev pub in_one_region : List Region → ℕ → ℕ → Bool → Bool
 in_one_region regions address size writes = holds regions (pos address) (pos (address + size)) writes
 
 -- ---- numbers
+
+-- A region has whole double words, and one or more.
+pub record IsSized (r : Region) : Type 0 where
+  pub some : 8 ≤ length r.bytes
+  pub few : length r.bytes ≤ 262144
+  pub whole : length r.bytes % 8 ≡ 0
+
+-- The data of an image: at most 8 regions on at most 64 pages.
+pub record AreData (regions : List Region) : Type 0 where
+  pub few : length regions ≤ 8
+  pub pages : length (page_rights regions) ≤ 64
+  pub bytes : byte_count regions ≤ 262144
+  pub each : AllByRecursion IsSized regions
 
 abbrev pub AreBytes : List ℕ → Type 0
 AreBytes bytes = (i : ℕ) → slice_index bytes i < 2 ^ 8

@@ -1,6 +1,6 @@
 //! Where the regions of data lie, and what they hold.
 ghost use Rattle.std.specs.Prelude.{◌≡◌, ◌≤◌, length};
-ghost use Rattle.sbx_parts.specs.Regions.{behind, holds, page_rights, pages_for};
+ghost use Rattle.sbx_parts.specs.Regions.{behind, holds, page_rights, pages_for, region_holds};
 
 use crate::parts::Region;
 use v8_map::{DATA_START, PAGE};
@@ -21,6 +21,15 @@ pub fn behind(start: u32, region: &Region) -> u32
     start + PAGE * pages_for(region.bytes.len()) as u32
 }
 
+/// Whether a region that begins at `start` has all bytes from `low` up to but not at `high`, and may be written where `writes` is set.
+fn region_holds(start: u32, region: &Region, low: i64, high: i64, writes: bool) -> bool
+    requires { pages_for (length region.now.bytes) ≤ 64 }
+    ensures { result ≡ region_holds low high writes (record { address = start; bytes = region.now.bytes; writable = region.now.writable }) }
+{
+    let end = i64::from(start) + region.bytes.len() as i64;
+    !(low < i64::from(start)) && !(end < high) && (!writes || region.writable)
+}
+
 /// Whether one region has all bytes from the address `low` up to but not at `high`, and may be written where `writes` is set.
 /// An address is a whole number.
 pub fn holds(regions: &[Region], low: i64, high: i64, writes: bool) -> bool
@@ -29,8 +38,7 @@ pub fn holds(regions: &[Region], low: i64, high: i64, writes: bool) -> bool
 {
     let mut start = DATA_START;
     for region in regions {
-        let end = i64::from(start) + region.bytes.len() as i64;
-        if !(low < i64::from(start)) && (!(end < high) && (!writes || region.writable)) {
+        if region_holds(start, region, low, high, writes) {
             return true;
         }
         start = behind(start, region);

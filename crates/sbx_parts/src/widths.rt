@@ -1,5 +1,6 @@
 //! What the types of an image's fields say of its numbers, as one statement about its parts.
 ghost use Rattle.std.specs.Prelude.{◌<◌, ◌^◌};
+ghost use Rattle.sbx_parts.specs.Regions.{AreBytes};
 ghost use Rattle.sbx_parts.specs.Widths.{IsTyped, IsTypedBlock, IsTypedCell, IsTypedFunction, IsTypedRange, IsTypedRegion, IsTypedTerm};
 
 use crate::lists::{Typed, each_fits};
@@ -52,11 +53,18 @@ impl Typed for Function {
     }
 }
 
+/// Tells that bytes are bytes.
+fn tells_bytes(bytes: &[u8])
+    ensures { AreBytes bytes.now }
+{
+    let _count = bytes.len();
+}
+
 impl Typed for Region {
     ghost is_typed = { IsTypedRegion };
 
     fn fits(&self) {
-        let _bytes = self.bytes.as_slice();
+        tells_bytes(self.bytes.as_slice());
     }
 }
 
