@@ -3,7 +3,7 @@ use Rattle.std.proofs.Common.{◌≡◌, ℕ, ◌+◌, ◌≤◌, ◌<◌, ℤ, 
 use Rattle.std.specs.Prelude.{replicate}
 use Rattle.std.proofs.lemmas.List.{length-append, length-replicate, drop_more, drop_all}
 use Rattle.sbx_parts.specs.declared.parts.Region.{Region}
-use Rattle.sbx_parts.specs.Regions.{behind, one_holds, page_rights, pages_for, placed_from, region_holds}
+use Rattle.sbx_parts.specs.Regions.{behind, byte_count, one_holds, page_rights, pages_for, placed_from, region_holds}
 
 -- a region's pages, and those of the regions behind it
 pub page_count : (r : Region) (rs : List Region) → length (page_rights (r ∷ rs)) ≡ pages_for (length r.bytes) + length (page_rights rs)
@@ -36,3 +36,11 @@ module _ (low high : ℤ) (writes : Bool) where
 
   pub is_done : (rs : List Region) (i start : ℕ) (total : Bool) → length rs ≤ i → from start (drop i rs) ≡ total → false ≡ total
   is_done rs i start total le so_far = sym (ap (from start) (drop_all i rs le)) ∙ so_far
+
+-- ---- counting bytes, as a loop does
+
+pub bytes_behind : (rs : List Region) (i : ℕ) (r : Region) → i < length rs → r ≡ get_or rs i r → byte_count (drop i rs) ≡ length r.bytes + byte_count (drop (i + 1) rs)
+bytes_behind rs i r lt is = ap byte_count (drop_more rs i r lt) ∙ ap (λ (q : Region). length q.bytes + byte_count (drop (i + 1) rs)) (sym is)
+
+pub no_bytes_behind : (rs : List Region) (i : ℕ) → length rs ≤ i → byte_count (drop i rs) ≡ 0
+no_bytes_behind rs i le = ap byte_count (drop_all i rs le)

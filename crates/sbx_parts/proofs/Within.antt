@@ -1,12 +1,15 @@
 -- What is in the data's pages: each region's bytes, and zeros behind them; and what may be reached there.
-use Rattle.std.proofs.Common.{◌≡◌, ℕ, zero, ◌+◌, ◌-◌, ◌*◌, ◌≤◌, ◌<◌, ℤ, pos, Bool, true, false, not, ◌&&◌, ◌||◌, List, [], ◌∷◌, ◌++◌, length, get_or, refl, sym, ap, subst, ◌∙◌, arith, inl, inr}
+use Rattle.std.proofs.Common.{◌≡◌, ℕ, zero, ◌+◌, ◌-◌, ◌*◌, ◌%◌, ◌^◌, ◌≤◌, ◌<◌, ℤ, pos, Bool, true, false, not, ◌&&◌, ◌||◌, List, [], ◌∷◌, ◌++◌, length, get_or, refl, sym, ap, subst, ◌∙◌, arith, inl, inr}
 use Rattle.std.specs.Prelude.{◌≤ℤ◌, Option, None, Some, replicate, slice_get, slice_index, int_lt, nat_lt, if◌then◌else◌}
 use Rattle.std.proofs.lemmas.Int.{ints}
 use Rattle.std.proofs.lemmas.Bool.{cases_lt, le-ltb, ltb-false}
 use Rattle.std.proofs.lemmas.List.{get_or_append_left, get_or-append_right, get_or-replicate, get_or_past, length-append, length-replicate}
 use Rattle.std.proofs.lemmas.Option.{slice_get_past, slice_get_within, slice_get-get_or, get_or_from_slice_get}
 use Rattle.sbx_parts.specs.declared.parts.Region.{Region}
-use Rattle.sbx_parts.specs.Regions.{Placed, behind, byte_in, byte_of_region, data_at, data_start, holds, in_one_region, laid, on_pages, one_holds, or_else, page_rights, pages_for, placed, placed_from, region_holds}
+use Rattle.v8_map.specs.declared.TheConstants.{DATA_END}
+use Rattle.std.specs.List.{AllByRecursion}
+use Rattle.sbx_parts.specs.Widths.{IsTypedRegion}
+use Rattle.sbx_parts.specs.Regions.{AreBytes, LieApart, LiesInOne, LiesInPages, Placed, behind, byte_in, byte_of_region, data_at, data_start, holds, in_one_region, laid, on_pages, one_holds, or_else, page_rights, pages_for, placed, placed_from, region_holds}
 use Rattle.sbx_parts.proofs.Placing.{page_count}
 use Rattle.sbx_parts.proofs.Steps.{both_true}
 
@@ -55,20 +58,14 @@ is_at r a b e = by (nat_lt a r.address) refl e
     by true t h = absurd cc
     by false t h = (ltb-false a r.address t, h)
 
--- where a byte lies in the data's pages
-pub record LiesAt (start : ℕ) (rs : List Region) (a b : ℕ) : Type 0 where
-  pub from : start ≤ a
-  pub to : a < start + 4096 * length (page_rights rs)
-  pub is : slice_index (laid rs) (a - start) ≡ b
-
-lies_first : (start : ℕ) (r : Region) (rs : List Region) (a b : ℕ) → (start ≤ a) × (slice_get r.bytes (a - start) ≡ Some b) → LiesAt start (r ∷ rs) a b
+lies_first : (start : ℕ) (r : Region) (rs : List Region) (a b : ℕ) → (start ≤ a) × (slice_get r.bytes (a - start) ≡ Some b) → LiesInPages start (r ∷ rs) a b
 lies_first start r rs a b (from, e) =
     let less = slice_get_within r.bytes (a - start) b e in
     let count = page_count r rs in
     let within : a - start < 4096 * pages_for (length r.bytes) = omega (arith, less) in
     record { from = from; to = omega (arith, within, count, from); is = laid_front r rs (a - start) within ∙ get_or_from_slice_get r.bytes (a - start) b 0 e }
 
-lies_later : (start : ℕ) (r : Region) (rs : List Region) (a b : ℕ) → LiesAt (behind start r) rs a b → LiesAt start (r ∷ rs) a b
+lies_later : (start : ℕ) (r : Region) (rs : List Region) (a b : ℕ) → LiesInPages (behind start r) rs a b → LiesInPages start (r ∷ rs) a b
 lies_later start r rs a b l =
     let count = page_count r rs in
     let f : start + 4096 * pages_for (length r.bytes) ≤ a = l.from in
@@ -76,16 +73,16 @@ lies_later start r rs a b l =
     let place : a - start - 4096 * pages_for (length r.bytes) ≡ a - behind start r = omega arith in
     record { from = omega (arith, f); to = omega (arith, t, count); is = laid_behind r rs (a - start) (omega (arith, f)) ∙ ap (λ i. slice_index (laid rs) i) place ∙ l.is }
 
-lies_at : (start : ℕ) (rs : List Region) (a b : ℕ) → byte_in (placed_from start rs) a ≡ Some b → LiesAt start rs a b
+lies_at : (start : ℕ) (rs : List Region) (a b : ℕ) → byte_in (placed_from start rs) a ≡ Some b → LiesInPages start rs a b
 lies_at start [] a b e = absurd cc
 lies_at start (r ∷ rs) a b e = by (lies_at (behind start r) rs a b) (byte_of_region (placed_at start r) a) refl e
   where
-    by : (byte_in (placed_from (behind start r) rs) a ≡ Some b → LiesAt (behind start r) rs a b) → (o : Option ℕ) → byte_of_region (placed_at start r) a ≡ o → or_else o (byte_in (placed_from (behind start r) rs) a) ≡ Some b → LiesAt start (r ∷ rs) a b
+    by : (byte_in (placed_from (behind start r) rs) a ≡ Some b → LiesInPages (behind start r) rs a b) → (o : Option ℕ) → byte_of_region (placed_at start r) a ≡ o → or_else o (byte_in (placed_from (behind start r) rs) a) ≡ Some b → LiesInPages start (r ∷ rs) a b
     by later (Some c) first h = lies_first start r rs a b (is_at (placed_at start r) a b (first ∙ h))
     by later None first h = lies_later start r rs a b (later h)
 
 -- each byte of the data lies so in its pages
-pub data_lies_at : (rs : List Region) (a b : ℕ) → data_at rs a ≡ Some b → LiesAt data_start rs a b
+pub data_lies_at : (rs : List Region) (a b : ℕ) → data_at rs a ≡ Some b → LiesInPages data_start rs a b
 data_lies_at rs a b e = lies_at data_start rs a b e
 
 -- one region alone
@@ -133,16 +130,6 @@ fewer_held low high lower higher writes (r ∷ rs) l h e = by (fewer_held low hi
         rw (from, to, k.may) refl
     by later false held e = rw (later e) (or_true (region_holds low high writes r))
 
--- so many bytes from an address on, one or more, that one region holds: where they lie in the data's pages, which right their pages have, and
--- that each is a byte of the data
-pub record IsReached (start : ℕ) (rs : List Region) (a size : ℕ) (writes : Bool) : Type 0 where
-  pub from : start ≤ a
-  pub to : a + size ≤ start + 4096 * length (page_rights rs)
-  pub right : Bool
-  pub may : (not writes || right) ≡ true
-  pub pages : (k : ℕ) → a < start + 4096 * k + 4096 → start + 4096 * k < a + size → slice_get (page_rights rs) k ≡ Some right
-  pub bytes : (i : ℕ) → i < size → byte_in (placed_from start rs) (a + i) ≡ Some (slice_index (laid rs) (a + i - start))
-
 is_byte : (r : Placed) (a : ℕ) → r.address ≤ a → a < r.address + length r.bytes → byte_of_region r a ≡ Some (slice_index r.bytes (a - r.address))
 is_byte r a from to =
     let test : nat_lt a r.address ≡ false = le-ltb _ _ from in
@@ -166,7 +153,7 @@ later_right n w rest k right past e =
     slice_get-get_or (replicate n w ++ rest) k right (omega (arith, length-append (replicate n w) rest, count, less, past))
     ∙ ap Some (get_or-append_right (replicate n w) rest n k right count past ∙ get_or_from_slice_get rest (k - n) right right e)
 
-reached_first : (start : ℕ) (r : Region) (rs : List Region) (a size : ℕ) (writes : Bool) → 0 < size → HeldBy (pos a) (pos (a + size)) writes (placed_at start r) → IsReached start (r ∷ rs) a size writes
+reached_first : (start : ℕ) (r : Region) (rs : List Region) (a size : ℕ) (writes : Bool) → 0 < size → HeldBy (pos a) (pos (a + size)) writes (placed_at start r) → LiesInOne start (r ∷ rs) a size writes
 reached_first start r rs a size writes some h =
     let from : start ≤ a = omega (arith, ints, h.from) in
     let to : a + size ≤ start + length r.bytes = omega (arith, ints, h.to) in
@@ -183,7 +170,7 @@ reached_first start r rs a size writes some h =
           ap (λ o. or_else o (byte_in (placed_from (behind start r) rs) (a + i))) (is_byte (placed_at start r) (a + i) (omega (arith, from)) within) ∙ ap Some (sym (laid_front r rs (a + i - start) place));
     }
 
-reached_later : (start : ℕ) (r : Region) (rs : List Region) (a size : ℕ) (writes : Bool) → IsReached (behind start r) rs a size writes → IsReached start (r ∷ rs) a size writes
+reached_later : (start : ℕ) (r : Region) (rs : List Region) (a size : ℕ) (writes : Bool) → LiesInOne (behind start r) rs a size writes → LiesInOne start (r ∷ rs) a size writes
 reached_later start r rs a size writes h =
     let p = pages_for (length r.bytes) in
     let count = page_count r rs in
@@ -203,16 +190,16 @@ reached_later start r rs a size writes h =
           ∙ h.bytes i less ∙ ap Some (sym (laid_behind r rs (a + i - start) (omega (arith, from)) ∙ ap (λ j. slice_index (laid rs) j) place));
     }
 
-reached_from : (start : ℕ) (rs : List Region) (a size : ℕ) (writes : Bool) → 0 < size → one_holds (pos a) (pos (a + size)) writes (placed_from start rs) ≡ true → IsReached start rs a size writes
+reached_from : (start : ℕ) (rs : List Region) (a size : ℕ) (writes : Bool) → 0 < size → one_holds (pos a) (pos (a + size)) writes (placed_from start rs) ≡ true → LiesInOne start rs a size writes
 reached_from start [] a size writes some e = absurd cc
 reached_from start (r ∷ rs) a size writes some e = by (reached_from (behind start r) rs a size writes some) (region_holds (pos a) (pos (a + size)) writes (placed_at start r)) refl e
   where
-    by : (one_holds (pos a) (pos (a + size)) writes (placed_from (behind start r) rs) ≡ true → IsReached (behind start r) rs a size writes)
-        → (t : Bool) → region_holds (pos a) (pos (a + size)) writes (placed_at start r) ≡ t → (t || one_holds (pos a) (pos (a + size)) writes (placed_from (behind start r) rs)) ≡ true → IsReached start (r ∷ rs) a size writes
+    by : (one_holds (pos a) (pos (a + size)) writes (placed_from (behind start r) rs) ≡ true → LiesInOne (behind start r) rs a size writes)
+        → (t : Bool) → region_holds (pos a) (pos (a + size)) writes (placed_at start r) ≡ t → (t || one_holds (pos a) (pos (a + size)) writes (placed_from (behind start r) rs)) ≡ true → LiesInOne start (r ∷ rs) a size writes
     by later true held _ = reached_first start r rs a size writes some (held_by (pos a) (pos (a + size)) writes (placed_at start r) held)
     by later false held e = reached_later start r rs a size writes (later e)
 
-pub reached : (rs : List Region) (a size : ℕ) (writes : Bool) → 0 < size → in_one_region rs a size writes ≡ true → IsReached data_start rs a size writes
+pub reached : (rs : List Region) (a size : ℕ) (writes : Bool) → 0 < size → in_one_region rs a size writes ≡ true → LiesInOne data_start rs a size writes
 unfolding holds
 reached rs a size writes some e = reached_from data_start rs a size writes some e
 
@@ -240,3 +227,30 @@ bounds_from start (r ∷ rs) low high writes e = by (bounds_from (behind start r
 pub held_bounds : (rs : List Region) (low high : ℤ) (writes : Bool) → holds rs low high writes ≡ true → (pos data_start ≤ℤ low) × (high ≤ℤ pos (data_start + 4096 * length (page_rights rs)))
 unfolding holds
 held_bounds rs low high writes e = bounds_from data_start rs low high writes e
+
+-- ---- they lie apart
+
+apart_from : (from start : ℕ) (rs : List Region) → from ≤ start → start % 4096 ≡ 0 → start + 4096 * length (page_rights rs) ≤ DATA_END → LieApart from (placed_from start rs)
+apart_from from start [] past page room = omega (arith, past, room)
+apart_from from start (r ∷ rs) past page room =
+    let count = page_count r rs in
+    let p = pages_for (length r.bytes) in
+    let next : start + length r.bytes ≤ start + 4096 * p = omega arith in
+    let page_next : (start + 4096 * p) % 4096 ≡ 0 = omega (arith, page) in
+    (past, page, apart_from (start + length r.bytes) (behind start r) rs next page_next (omega (arith, room, count)))
+
+pub lie_apart : (rs : List Region) → length (page_rights rs) ≤ 64 → LieApart data_start (placed rs)
+lie_apart rs few = apart_from data_start data_start rs (omega arith) refl (omega (arith, few))
+
+-- ---- each is a byte
+
+pub laid_bytes : (rs : List Region) → AllByRecursion IsTypedRegion rs → AreBytes (laid rs)
+laid_bytes [] all i = omega arith
+laid_bytes (r ∷ rs) all i =
+    elim (cases_lt i (4096 * pages_for (length r.bytes))) [
+      | inl less ↦ rw (laid_front r rs i less) (all.0 i)
+      | inr past ↦ rw (laid_behind r rs i past) (laid_bytes rs all.1 (i - 4096 * pages_for (length r.bytes)))
+    ]
+
+pub data_is_byte : (rs : List Region) (a b : ℕ) → AllByRecursion IsTypedRegion rs → data_at rs a ≡ Some b → b < 2 ^ 8
+data_is_byte rs a b all e = let l = data_lies_at rs a b e in rw (← l.is) (laid_bytes rs all (a - data_start))

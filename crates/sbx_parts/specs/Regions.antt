@@ -1,7 +1,7 @@
 -- Where the data of an image lie: its regions one after another, each on pages of its own.
-use Rattle.std.specs.Prelude.{ℕ, ◌+◌, ◌-◌, ◌*◌, ◌/◌, ◌%◌, ◌<◌, ◌≤◌, ◌^◌, ◌≡◌, ℤ, pos, Bool, false, not, ◌&&◌, ◌||◌, List, [], ◌∷◌, ◌++◌, length, replicate, Option, None, Some, nat_lt, int_lt, slice_get, slice_index, if◌then◌else◌}
+use Rattle.std.specs.Prelude.{ℕ, ◌+◌, ◌-◌, ◌*◌, ◌/◌, ◌%◌, ◌<◌, ◌≤◌, ◌^◌, ◌≡◌, ℤ, pos, Bool, true, false, not, ◌&&◌, ◌||◌, List, [], ◌∷◌, ◌++◌, length, replicate, Option, None, Some, nat_lt, int_lt, slice_get, slice_index, if◌then◌else◌}
 use Rattle.std.specs.List.{AllByRecursion}
-use Rattle.v8_map.specs.declared.TheConstants.{DATA_START}
+use Rattle.v8_map.specs.declared.TheConstants.{DATA_END, DATA_START}
 use Rattle.sbx_parts.specs.declared.parts.Region.{Region}
 
 abbrev pub data_start : ℕ
@@ -100,3 +100,25 @@ pub record AreData (regions : List Region) : Type 0 where
 
 abbrev pub AreBytes : List ℕ → Type 0
 AreBytes bytes = (i : ℕ) → slice_index bytes i < 2 ^ 8
+
+-- ---- where they lie
+
+-- A byte lies in the pages of regions that begin at an address.
+pub record LiesInPages (start : ℕ) (rs : List Region) (a b : ℕ) : Type 0 where
+  pub from : start ≤ a
+  pub to : a < start + 4096 * length (page_rights rs)
+  pub is : slice_index (laid rs) (a - start) ≡ b
+
+-- So many bytes from an address on lie in one region: their pages have one right, and each of them is a byte of the data.
+pub record LiesInOne (start : ℕ) (rs : List Region) (a size : ℕ) (writes : Bool) : Type 0 where
+  pub from : start ≤ a
+  pub to : a + size ≤ start + 4096 * length (page_rights rs)
+  pub right : Bool
+  pub may : (not writes || right) ≡ true
+  pub pages : (k : ℕ) → a < start + 4096 * k + 4096 → start + 4096 * k < a + size → slice_get (page_rights rs) k ≡ Some right
+  pub bytes : (i : ℕ) → i < size → byte_in (placed_from start rs) (a + i) ≡ Some (slice_index (laid rs) (a + i - start))
+
+-- Each region begins with a page, and not before the end of the one before it; the last one ends in the data's addresses.
+abbrev pub LieApart : ℕ → List Placed → Type 0
+LieApart from [] = from ≤ DATA_END
+LieApart from (r ∷ rs) = (from ≤ r.address) × (r.address % 4096 ≡ 0) × LieApart (r.address + length r.bytes) rs

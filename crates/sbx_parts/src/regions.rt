@@ -1,6 +1,6 @@
 //! Where the regions of data lie, and what they hold.
 ghost use Rattle.std.specs.Prelude.{◌≡◌, ◌≤◌, length};
-ghost use Rattle.sbx_parts.specs.Regions.{behind, holds, page_rights, pages_for, region_holds};
+ghost use Rattle.sbx_parts.specs.Regions.{behind, byte_count, holds, page_rights, pages_for, region_holds};
 
 use crate::parts::Region;
 use v8_map::{DATA_START, PAGE};
@@ -44,4 +44,16 @@ pub fn holds(regions: &[Region], low: i64, high: i64, writes: bool) -> bool
         start = behind(start, region);
     }
     false
+}
+
+/// How many bytes all regions have.
+pub fn byte_count(regions: &[Region]) -> u32
+    requires { byte_count regions.now ≤ 262144 }
+    ensures { result ≡ byte_count regions.now }
+{
+    let mut count = 0;
+    for region in regions {
+        count += region.bytes.len() as u32;
+    }
+    count
 }
