@@ -330,7 +330,7 @@ either_byte : (o p : Option ℕ) (byte : ℕ) → (o ≡ Some byte → byte < 2 
 either_byte None p byte first other e = other e
 either_byte (Some b) p byte first other e = first e
 
-data_bytes : (start : ℕ) (regions : List Region) (address byte : ℕ) → AllByRecursion IsTypedRegion regions → byte_in (placed_from start regions) address ≡ Some byte → byte < 2 ^ 8
+pub data_bytes : (start : ℕ) (regions : List Region) (address byte : ℕ) → AllByRecursion IsTypedRegion regions → byte_in (placed_from start regions) address ≡ Some byte → byte < 2 ^ 8
 data_bytes start [] address byte all e = absurd (cc)
 data_bytes start (r ∷ rs) address byte all e =
     let here : Placed = record { address = start; bytes = r.bytes; writable = r.writable } in
