@@ -22,9 +22,12 @@ use Rattle.sbx_parts.specs.declared.parts.Block.{Block}
 use Rattle.sbx_parts.specs.declared.parts.Function.{Function}
 use Rattle.sbx_parts.specs.declared.parts.Parts.{Parts}
 use Rattle.sbx_parts.specs.declared.services.Services.{Services}
-use Rattle.sbx_parts.specs.Rules.{◌>>=◌, between, is_known, is_data_length, each, Place, code_start, range_keeps, location_keeps, cell_keeps, term_keeps, block_keeps, function_keeps, parts_keep}
-use Rattle.sbx_image.specs.Reading.{number_at, items_at, range_at, location_at, cell_at, term_at, block_head_at, block_at, kind_at, counts_at, bounds_at, function_head_at, function_at, services_at, data_length_at, header_at, parts_at, reading}
-use Rattle.sbx_image.specs.Spelling.{IsTyped, IsTypedRange, IsTypedCell, IsTypedTerm, IsTypedBlock, IsTypedFunction, signed, kind_code, range_text, cell_text, term_text, block_text, function_head_text, function_text, header_text, spelling}
+use Rattle.sbx_parts.specs.Rules.{◌>>=◌, between, is_known, is_version, is_data_length, each, Place, code_start, range_keeps, location_keeps, cell_keeps, term_keeps, block_keeps, function_keeps, parts_keep}
+use Rattle.sbx_image.specs.Reading.{number_at, bytes_at, items_at, range_at, location_at, cell_at, term_at, block_head_at, block_at, kind_at, counts_at, bounds_at, function_head_at, function_at, services_at, data_length_at, header_at, parts_at, reading}
+use Rattle.sbx_image.specs.Spelling.{IsTyped, IsTypedRange, IsTypedCell, IsTypedTerm, IsTypedBlock, IsTypedFunction, signed, kind_code, range_text, region_text, cell_text, term_text, block_text, function_head_text, function_text, header_text, spelling}
+use Rattle.sbx_parts.specs.declared.parts.Region.{Region}
+use Rattle.sbx_parts.specs.Regions.{byte_count}
+use Rattle.sbx_image.proofs.DataLaws.{again, all_count, count_keeps}
 use Rattle.sbx_image.proofs.Fields.{bind_ok, both_true, ok_is, wants_true, number_reads, number_in_reads, signed_reads, bytes_again, wide8, wide16, wide32, wide64, signed32, signed64}
 use Rattle.sbx_image.proofs.TakesLaws.{head_text, HeadKeeps, counts_text, HeaderKeeps}
 use Rattle.sbx_parts.proofs.Limits.{range_kept, location_kept, cell_kept, term_kept, block_kept, function_kept, parts_kept}
@@ -175,16 +178,17 @@ function_reads end place f state rest typed e =
 
 -- ---- the whole
 
-services_read : (s : Services) (bytes rest : List ℕ) → bytes ≡ to_be_bytes w32 0x53425838 ++ (to_be_bytes w16 1 ++ (to_be_bytes w16 s.0 ++ rest)) → s.0 < 2 ^ 16
-    → is_known s.0 ≡ true → services_at bytes ≡ Ok (s, rest)
+services_read : (v : ℕ) (s : Services) (bytes rest : List ℕ) → bytes ≡ to_be_bytes w32 0x53425838 ++ (to_be_bytes w16 v ++ (to_be_bytes w16 s.0 ++ rest)) → v < 2 ^ 16 → s.0 < 2 ^ 16
+    → is_version v ≡ true → is_known s.0 ≡ true → services_at bytes ≡ Ok ((v, s), rest)
 unfolding services_at
-services_read s bytes rest b short known =
+services_read v s bytes rest b narrow short version known =
     let r2 = to_be_bytes w16 s.0 ++ rest in
-    let r1 = to_be_bytes w16 1 ++ r2 in
+    let r1 = to_be_bytes w16 v ++ r2 in
     then_is _ _ _ _ (number_in_reads w32 (2 ^ 32) wide32 0x53425838 0x53425838 fault.Magic 0x53425838 bytes r1 b (lit< tt) refl)
-    (then_is _ _ _ _ (number_in_reads w16 (2 ^ 16) wide16 1 1 fault.Version 1 r1 r2 refl (lit< tt) refl)
+    (then_is _ _ _ _ (number_reads w16 (2 ^ 16) wide16 v r1 r2 refl narrow)
+    (then_is _ _ _ _ (wants_true _ fault.Version version)
     (then_is _ _ _ _ (number_reads w16 (2 ^ 16) wide16 s.0 r2 rest refl short)
-    (then_is _ _ _ _ (wants_true _ fault.Service known) refl)))
+    (then_is _ _ _ _ (wants_true _ fault.Service known) refl))))
 
 data_length_reads : (n : ℕ) (rest : List ℕ) → is_data_length n ≡ true → data_length_at (to_be_bytes w32 n ++ rest) ≡ Ok (n, rest)
 unfolding data_length_at
@@ -193,14 +197,14 @@ data_length_reads n rest whole =
     then_is _ _ _ _ (number_reads w32 (2 ^ 32) wide32 n (to_be_bytes w32 n ++ rest) rest refl few)
     (then_is _ _ _ _ (wants_true _ fault.Limit whole) refl)
 
-header_reads : (h : Header) (bytes rest : List ℕ) → bytes ≡ counts_text h ++ rest → HeaderKeeps h → h.services.0 < 2 ^ 16 → header_at bytes ≡ Ok (h, rest)
+header_reads : (h : Header) (bytes rest : List ℕ) → bytes ≡ counts_text h ++ rest → HeaderKeeps h → h.version < 2 ^ 16 → h.services.0 < 2 ^ 16 → header_at bytes ≡ Ok (h, rest)
 unfolding header_at
-header_reads h bytes rest b k services =
+header_reads h bytes rest b k version services =
     let r4 = to_be_bytes w16 h.functions ++ rest in
     let r3 = to_be_bytes w16 h.stack_pages ++ r4 in
     let r2 = to_be_bytes w32 h.bytes ++ r3 in
     let r1 = to_be_bytes w32 h.words ++ r2 in
-    then_is _ _ _ _ (services_read h.services bytes r1 b services k.services)
+    then_is _ _ _ _ (services_read h.version h.services bytes r1 b version services k.version k.services)
     (then_is _ _ _ _ (number_in_reads w32 (2 ^ 32) wide32 1 65536 fault.Limit h.words r1 r2 refl (lit< tt) k.words)
     (then_is _ _ _ _ (data_length_reads h.bytes r3 k.bytes)
     (then_is _ _ _ _ (number_in_reads w16 (2 ^ 16) wide16 1 16 fault.Limit h.stack_pages r3 r4 refl (lit< tt) k.stack_pages)
@@ -222,16 +226,18 @@ parts_read : (p : Parts) (rest : List ℕ) → IsTyped p → parts_keep p ≡ Ok
 unfolding parts_at header_text spelling
 parts_read p rest typed e =
     let k = parts_kept p e in
-    let header : Header = record { services = p.services; words = length p.words; bytes = length p.bytes; stack_pages = p.stack_pages; functions = length p.functions } in
+    let header : Header = record { version = p.version; services = p.services; words = length p.words; bytes = byte_count p.regions; stack_pages = p.stack_pages; functions = length p.functions } in
     let words = flat_map (to_be_bytes w32) p.words in
     let functions = flat_map function_text p.functions in
+    let bytes = flat_map region_text p.regions in
     let end = code_start + 4 * length p.words in
-    let grouped : spelling p ++ rest ≡ counts_text header ++ (words ++ (p.bytes ++ (functions ++ rest))) = unnest4 (counts_text header) words p.bytes functions rest in
-    let keeps : HeaderKeeps header = record { services = k.services; words = k.word_count; bytes = k.byte_count; stack_pages = k.stack_pages; functions = k.function_count } in
-    then_is _ _ _ _ (header_reads header (spelling p ++ rest) (words ++ (p.bytes ++ (functions ++ rest))) grouped keeps typed.services)
-    (then_is _ _ _ _ (items_read (number_at w32) (λ _ y. y) any_word (to_be_bytes w32) (λ w. w < 2 ^ 32) (λ _ w _ y t _. word_reads w y t) p.words tt tt (p.bytes ++ (functions ++ rest)) typed.words (all_words p.words))
-    (then_is _ _ _ _ (bytes_again p.bytes (functions ++ rest))
-    (then_is _ _ _ _ (items_read (function_at end) (λ s y. (s, y)) (function_keeps end) function_text IsTypedFunction (function_reads end) p.functions (Exactly code_start, 0) k.last rest typed.functions k.functions) refl)))
+    let grouped : spelling p ++ rest ≡ counts_text header ++ (words ++ (bytes ++ (functions ++ rest))) = unnest4 (counts_text header) words bytes functions rest in
+    let keeps : HeaderKeeps header = record { version = k.version; services = k.services; words = k.word_count; bytes = count_keeps p.regions k.regions; stack_pages = k.stack_pages; functions = k.function_count } in
+    then_is _ _ _ _ (header_reads header (spelling p ++ rest) (words ++ (bytes ++ (functions ++ rest))) grouped keeps typed.version typed.services)
+    (then_is _ _ _ _ (items_read (number_at w32) (λ _ y. y) any_word (to_be_bytes w32) (λ w. w < 2 ^ 32) (λ _ w _ y t _. word_reads w y t) p.words tt tt (bytes ++ (functions ++ rest)) typed.words (all_words p.words))
+    (then_is _ _ _ _ (ap (λ (n : ℕ). bytes_at n (bytes ++ (functions ++ rest))) (sym (all_count p.regions)) ∙ bytes_again bytes (functions ++ rest))
+    (then_is _ _ _ _ (items_read (function_at end) (λ s y. (s, y)) (function_keeps end) function_text IsTypedFunction (function_reads end) p.functions (Exactly code_start, 0) k.last rest typed.functions k.functions)
+    (ap (λ (rs : List Region). Ok (record p { regions = rs }, rest)) (again p.regions k.regions)))))
 
 pub reading_again : (p : Parts) → IsTyped p → parts_keep p ≡ Ok tt → reading (spelling p) ≡ Ok p
 unfolding reading

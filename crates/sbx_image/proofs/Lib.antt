@@ -1,7 +1,10 @@
 pub mod Loops
 pub mod Fields
+pub mod DataLaws
 pub mod TakesLaws
 pub mod Appends
 pub mod AgainLaws
 pub use Rattle.sbx_parts.proofs.Limits
 pub use Rattle.sbx_parts.proofs.Ordered
+pub use Rattle.sbx_parts.proofs.Placing
+pub use Rattle.sbx_parts.proofs.Within

@@ -23,9 +23,11 @@ use Rattle.sbx_parts.specs.declared.parts.Block.{Block}
 use Rattle.sbx_parts.specs.declared.parts.Function.{Function}
 use Rattle.sbx_parts.specs.declared.parts.Parts.{Parts}
 use Rattle.sbx_parts.specs.declared.services.Services.{Services}
-use Rattle.sbx_parts.specs.Rules.{between, each, Place, code_start, admits, is_fuel, is_coefficient, is_known, is_data_length, in_order, range_keeps, location_keeps, cell_keeps, term_keeps, block_keeps, function_keeps, parts_keep}
-use Rattle.sbx_image.specs.Reading.{number_at, items_at, range_at, location_at, cell_at, term_at, block_head_at, block_at, kind_at, counts_at, bounds_at, function_head_at, function_at, services_at, data_length_at, header_at, parts_at, reading}
-use Rattle.sbx_image.specs.Spelling.{IsBytes, signed, kind_code, range_text, cell_text, term_text, block_text, function_head_text, function_text, header_text, spelling}
+use Rattle.sbx_parts.specs.Rules.{between, each, Place, code_start, admits, is_fuel, is_coefficient, is_known, is_version, is_data, is_data_length, in_order, range_keeps, location_keeps, cell_keeps, term_keeps, block_keeps, function_keeps, parts_keep}
+use Rattle.sbx_image.specs.Reading.{number_at, items_at, range_at, location_at, cell_at, term_at, block_head_at, block_at, kind_at, counts_at, bounds_at, function_head_at, function_at, services_at, data_length_at, header_at, regions_of, parts_at, reading}
+use Rattle.sbx_image.specs.Spelling.{IsBytes, signed, kind_code, range_text, region_text, cell_text, term_text, block_text, function_head_text, function_text, header_text, spelling}
+use Rattle.sbx_parts.specs.Regions.{byte_count}
+use Rattle.sbx_image.proofs.DataLaws.{read_bytes, read_count, read_keeps}
 use Rattle.sbx_image.proofs.Fields.{bind_ok, wanted, is_between, ok_is, Takes, Takes-then, wide8, wide16, wide32, wide64, signed32, signed64, number_takes, number_in_takes, signed_takes, bytes_take}
 
 range_keeps_by : (r : Range) → in_order r.lo r.hi ≡ true → between 0 3 r.alignment ≡ true → range_keeps r ≡ Ok tt
@@ -251,9 +253,10 @@ function_takes end place bytes x fits e =
 -- ---- the whole
 
 abbrev pub counts_text : Header → List ℕ
-counts_text h = to_be_bytes w32 0x53425838 ++ to_be_bytes w16 1 ++ to_be_bytes w16 h.services.0 ++ to_be_bytes w32 h.words ++ to_be_bytes w32 h.bytes ++ to_be_bytes w16 h.stack_pages ++ to_be_bytes w16 h.functions
+counts_text h = to_be_bytes w32 0x53425838 ++ to_be_bytes w16 h.version ++ to_be_bytes w16 h.services.0 ++ to_be_bytes w32 h.words ++ to_be_bytes w32 h.bytes ++ to_be_bytes w16 h.stack_pages ++ to_be_bytes w16 h.functions
 
 pub record HeaderKeeps (h : Header) : Type 0 where
+  pub version : is_version h.version ≡ true
   pub services : is_known h.services.0 ≡ true
   pub words : between 1 65536 h.words ≡ true
   pub bytes : is_data_length h.bytes ≡ true
@@ -263,23 +266,23 @@ pub record HeaderKeeps (h : Header) : Type 0 where
 only : (k n : ℕ) → between k k n ≡ true → n ≡ k
 only k n h = let b = is_between k k n h in omega (arith, b.0, b.1)
 
-services_take : (bytes : List ℕ) (x : Services × List ℕ) → IsBytes bytes → services_at bytes ≡ Ok x
-    → Takes bytes (to_be_bytes w32 0x53425838 ++ to_be_bytes w16 1 ++ to_be_bytes w16 x.0.0) x.1 × (is_known x.0.0 ≡ true)
+services_take : (bytes : List ℕ) (x : (ℕ × Services) × List ℕ) → IsBytes bytes → services_at bytes ≡ Ok x
+    → Takes bytes (to_be_bytes w32 0x53425838 ++ to_be_bytes w16 x.0.0 ++ to_be_bytes w16 x.0.1.0) x.1 × (is_version x.0.0 ≡ true) × (is_known x.0.1.0 ≡ true)
 unfolding services_at
 services_take bytes x fits e =
     let magic = bind_ok _ _ _ e in
     let version = bind_ok _ _ _ magic.2 in
-    let services = bind_ok _ _ _ version.2 in
+    let first = wanted (is_version version.0.0) fault.Version _ _ version.2 in
+    let services = bind_ok _ _ _ first.1 in
     let known = wanted (is_known services.0.0) fault.Service _ _ services.2 in
     let t0 = number_in_takes w32 (2 ^ 32) wide32 0x53425838 0x53425838 fault.Magic bytes magic.0 fits magic.1 in
-    let t1 = number_in_takes w16 (2 ^ 16) wide16 1 1 fault.Version magic.0.1 version.0 t0.0.rest_fits version.1 in
+    let t1 = number_takes w16 (2 ^ 16) wide16 magic.0.1 version.0 t0.0.rest_fits version.1 in
     let t2 = number_takes w16 (2 ^ 16) wide16 version.0.1 services.0 t1.0.rest_fits services.1 in
     let m0 : Takes bytes (to_be_bytes w32 0x53425838) magic.0.1 = subst (λ (n : ℕ). Takes bytes (to_be_bytes w32 n) magic.0.1) (only 0x53425838 magic.0.0 t0.1) t0.0 in
-    let m1 : Takes magic.0.1 (to_be_bytes w16 1) version.0.1 = subst (λ (n : ℕ). Takes magic.0.1 (to_be_bytes w16 n) version.0.1) (only 1 version.0.0 t1.1) t1.0 in
-    let whole = Takes-then _ _ _ _ _ (Takes-then _ _ _ _ _ m0 m1) t2.0 in
-    let made : Services × List ℕ = (record { 0 = services.0.0 }, services.0.1) in
-    subst (λ (y : Services × List ℕ). Takes bytes (to_be_bytes w32 0x53425838 ++ to_be_bytes w16 1 ++ to_be_bytes w16 y.0.0) y.1 × (is_known y.0.0 ≡ true)) (ok_is made x known.1)
-    (whole, known.0)
+    let whole = Takes-then _ _ _ _ _ (Takes-then _ _ _ _ _ m0 t1.0) t2.0 in
+    let made : (ℕ × Services) × List ℕ = ((version.0.0, record { 0 = services.0.0 }), services.0.1) in
+    subst (λ (y : (ℕ × Services) × List ℕ). Takes bytes (to_be_bytes w32 0x53425838 ++ to_be_bytes w16 y.0.0 ++ to_be_bytes w16 y.0.1.0) y.1 × (is_version y.0.0 ≡ true) × (is_known y.0.1.0 ≡ true)) (ok_is made x known.1)
+    (whole, first.0, known.0)
 
 data_length_takes : (bytes : List ℕ) (x : ℕ × List ℕ) → IsBytes bytes → data_length_at bytes ≡ Ok x → Takes bytes (to_be_bytes w32 x.0) x.1 × (is_data_length x.0 ≡ true)
 unfolding data_length_at
@@ -303,9 +306,9 @@ header_takes bytes x fits e =
     let t3 = number_in_takes w16 (2 ^ 16) wide16 1 16 fault.Limit data_bytes.0.1 stack_pages.0 t2.0.rest_fits stack_pages.1 in
     let t4 = number_in_takes w16 (2 ^ 16) wide16 1 256 fault.Limit stack_pages.0.1 functions.0 t3.0.rest_fits functions.1 in
     let whole = Takes-then _ _ _ _ _ (Takes-then _ _ _ _ _ (Takes-then _ _ _ _ _ (Takes-then _ _ _ _ _ t0.0 t1.0) t2.0) t3.0) t4.0 in
-    let made : Header × List ℕ = (record { services = services.0.0; words = words.0.0; bytes = data_bytes.0.0; stack_pages = stack_pages.0.0; functions = functions.0.0 }, functions.0.1) in
+    let made : Header × List ℕ = (record { version = services.0.0.0; services = services.0.0.1; words = words.0.0; bytes = data_bytes.0.0; stack_pages = stack_pages.0.0; functions = functions.0.0 }, functions.0.1) in
     subst (λ (y : Header × List ℕ). Takes bytes (counts_text y.0) y.1 × HeaderKeeps y.0) (ok_is made x functions.2)
-    (whole, record { services = t0.1; words = t1.1; bytes = t2.1; stack_pages = t3.1; functions = t4.1 })
+    (whole, record { version = t0.1; services = t0.2; words = t1.1; bytes = t2.1; stack_pages = t3.1; functions = t4.1 })
 
 abbrev done_with : ℕ → Result (Unit {0}) ImageFault
 done_with _ = Ok tt
@@ -326,14 +329,16 @@ parts_take bytes x fits e =
     let d = bytes_take header.0.0.bytes words.0.1 data_bytes.0 w.0.rest_fits data_bytes.1 in
     let f = items_take (function_at end) (λ y. y.1) (λ y. y.0) (function_keeps end) function_text (λ y z g k. function_takes end y.0 y.1 z g k) header.0.0.functions ((Exactly code_start, 0), data_bytes.0.1) functions.0 d.0.rest_fits functions.1 in
     let lists = Takes-then _ _ _ _ _ (Takes-then _ _ _ _ _ (Takes-then _ _ _ _ _ h.0 w.0) d.0) f.0 in
-    let counted : Header = record { services = header.0.0.services; words = length words.0.0; bytes = length data_bytes.0.0; stack_pages = header.0.0.stack_pages; functions = length functions.0.0 } in
-    let same : header.0.0 ≡ counted = rw (w.1, d.1, f.1) refl in
-    let whole = subst (λ (g : Header). Takes bytes (counts_text g ++ flat_map (to_be_bytes w32) words.0.0 ++ data_bytes.0.0 ++ flat_map function_text functions.0.0) functions.0.1.1) same lists in
+    let counted : Header = record { version = header.0.0.version; services = header.0.0.services; words = length words.0.0; bytes = byte_count (regions_of data_bytes.0.0); stack_pages = header.0.0.stack_pages; functions = length functions.0.0 } in
+    let count : byte_count (regions_of data_bytes.0.0) ≡ header.0.0.bytes = read_count data_bytes.0.0 ∙ d.1 in
+    let same : header.0.0 ≡ counted = rw (w.1, count, f.1) refl in
+    let whole = subst (λ (g : Header). Takes bytes (counts_text g ++ flat_map (to_be_bytes w32) words.0.0 ++ flat_map region_text (regions_of data_bytes.0.0) ++ flat_map function_text functions.0.0) functions.0.1.1) same (rw (read_bytes data_bytes.0.0) lists) in
     let k : HeaderKeeps counted = subst HeaderKeeps same h.1 in
+    let kept : is_data (regions_of data_bytes.0.0) ≡ true = read_keeps data_bytes.0.0 (subst (λ (n : ℕ). is_data_length n ≡ true) (read_count data_bytes.0.0) k.bytes) in
     let in_turn : each (function_keeps (code_start + 4 * length words.0.0)) (Exactly code_start, 0) functions.0.0 ≡ Ok functions.0.1.0 = subst (λ (n : ℕ). each (function_keeps (code_start + 4 * n)) (Exactly code_start, 0) functions.0.0 ≡ Ok functions.0.1.0) (sym w.1) f.2 in
-    let made : Parts × List ℕ = (record { services = header.0.0.services; words = words.0.0; bytes = data_bytes.0.0; stack_pages = header.0.0.stack_pages; functions = functions.0.0 }, functions.0.1.1) in
+    let made : Parts × List ℕ = (record { version = header.0.0.version; services = header.0.0.services; words = words.0.0; regions = regions_of data_bytes.0.0; stack_pages = header.0.0.stack_pages; functions = functions.0.0 }, functions.0.1.1) in
     subst (λ (y : Parts × List ℕ). Takes bytes (spelling y.0) y.1 × (parts_keep y.0 ≡ Ok tt)) (ok_is made x functions.2)
-    (whole, rw (k.services, k.words, k.bytes, k.stack_pages, k.functions, in_turn) refl)
+    (whole, rw (k.version, k.services, k.words, kept, k.stack_pages, k.functions, in_turn) refl)
 
 pub reading_takes : (bytes : List ℕ) (p : Parts) → IsBytes bytes → reading bytes ≡ Ok p → (bytes ≡ spelling p) × (parts_keep p ≡ Ok tt)
 unfolding reading

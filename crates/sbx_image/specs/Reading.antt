@@ -1,5 +1,5 @@
 -- Reading from left to right: a field is a value and the bytes after it, or the first fault that is met.
-use Rattle.std.specs.Prelude.{◌≡◌, ◌≢◌, ℕ, zero, suc, ◌+◌, ◌-◌, ◌*◌, ℤ, List, [], ◌∷◌, length, take, drop, Result, Ok, Err, MatchResult, nat_lt, ◌==◌, if◌then◌else◌}
+use Rattle.std.specs.Prelude.{◌≡◌, ◌≢◌, ℕ, zero, suc, ◌+◌, ◌-◌, ◌*◌, ℤ, true, List, [], ◌∷◌, length, take, drop, Result, Ok, Err, MatchResult, nat_lt, ◌==◌, if◌then◌else◌}
 use Rattle.std.specs.Int.{Width, w8, w16, w32, w64, byte_len, from_be_bytes, cast_signed}
 use Rattle.sbx_parts.specs.declared.fault.ImageFault.{ImageFault}
 use Rattle.sbx_parts.specs.declared.fault.ImageFault.TheVariants as fault
@@ -19,8 +19,9 @@ use Rattle.sbx_parts.specs.declared.parts.Term.{Term}
 use Rattle.sbx_parts.specs.declared.parts.Block.{Block}
 use Rattle.sbx_parts.specs.declared.parts.Function.{Function}
 use Rattle.sbx_parts.specs.declared.parts.Parts.{Parts}
+use Rattle.sbx_parts.specs.declared.parts.Region.{Region}
 use Rattle.sbx_parts.specs.declared.services.Services.{Services}
-use Rattle.sbx_parts.specs.Rules.{◌>>=◌, wants, between, code_start, admits, is_fuel, is_coefficient, is_known, is_data_length, in_order, Place}
+use Rattle.sbx_parts.specs.Rules.{◌>>=◌, wants, between, code_start, admits, is_fuel, is_coefficient, is_known, is_version, is_data_length, in_order, Place}
 
 -- What a function returned, seen by view, is what reading gives, unless memory ran out.
 abbrev pub Gives : {X Y : Type 0} → (X → Y) → Result X ImageFault → Result Y ImageFault → Type 0
@@ -140,14 +141,15 @@ function_at end cursor = do
   blocks ← items_at (block_at end) head.0.blocks (Exactly head.0.entry, results.1)
   Ok (record { kind = head.0.kind; params = params.0; results = results.0; entry = head.0.entry; frame = head.0.frame; stack_room = head.0.stack_room; budget = head.0.budget; blocks = blocks.0 }, ((blocks.1.0, cursor.0.1 + head.0.blocks), blocks.1.1))
 
--- the services, behind what tells an image of this version
-unfoldable pub services_at : List ℕ → Result (Services × List ℕ) ImageFault
+-- version and services, behind what tells an image
+unfoldable pub services_at : List ℕ → Result ((ℕ × Services) × List ℕ) ImageFault
 services_at bytes = do
   magic ← number_in w32 0x53425838 0x53425838 fault.Magic bytes
-  version ← number_in w16 1 1 fault.Version magic.1
+  version ← number_at w16 magic.1
+  _ ← wants (is_version version.0) fault.Version
   services ← number_at w16 version.1
   _ ← wants (is_known services.0) fault.Service
-  Ok (record { 0 = services.0 }, services.1)
+  Ok ((version.0, record { 0 = services.0 }), services.1)
 
 unfoldable pub data_length_at : List ℕ → Result (ℕ × List ℕ) ImageFault
 data_length_at bytes = do
@@ -162,7 +164,12 @@ header_at bytes = do
   data_bytes ← data_length_at words.1
   stack_pages ← number_in w16 1 16 fault.Limit data_bytes.1
   functions ← number_in w16 1 256 fault.Limit stack_pages.1
-  Ok (record { services = services.0; words = words.0; bytes = data_bytes.0; stack_pages = stack_pages.0; functions = functions.0 }, functions.1)
+  Ok (record { version = services.0.0; services = services.0.1; words = words.0; bytes = data_bytes.0; stack_pages = stack_pages.0; functions = functions.0 }, functions.1)
+
+-- the data of version 1: one region that may be written, or none where there are no bytes
+abbrev pub regions_of : List ℕ → List Region
+regions_of [] = []
+regions_of (b ∷ bytes) = record { bytes = b ∷ bytes; writable = true } ∷ []
 
 unfoldable pub parts_at : List ℕ → Result (Parts × List ℕ) ImageFault
 parts_at bytes = do
@@ -170,7 +177,7 @@ parts_at bytes = do
   words ← items_at (number_at w32) header.0.words header.1
   data_bytes ← bytes_at header.0.bytes words.1
   functions ← items_at (function_at (code_start + 4 * header.0.words)) header.0.functions ((Exactly code_start, 0), data_bytes.1)
-  Ok (record { services = header.0.services; words = words.0; bytes = data_bytes.0; stack_pages = header.0.stack_pages; functions = functions.0 }, functions.1.1)
+  Ok (record { version = header.0.version; services = header.0.services; words = words.0; regions = regions_of data_bytes.0; stack_pages = header.0.stack_pages; functions = functions.0 }, functions.1.1)
 
 -- The image that all of the bytes spell.
 unfoldable pub reading : List ℕ → Result Parts ImageFault

@@ -10,7 +10,9 @@ use Rattle.sbx_parts.specs.declared.parts.Term.{Term}
 use Rattle.sbx_parts.specs.declared.parts.Block.{Block}
 use Rattle.sbx_parts.specs.declared.parts.Function.{Function}
 use Rattle.sbx_parts.specs.declared.parts.Parts.{Parts}
-pub use Rattle.sbx_parts.specs.Widths.{IsTypedRange, IsTypedCell, IsTypedTerm, IsTypedBlock, IsTypedFunction, IsTyped, IsCountedBlock, IsCountedFunction}
+use Rattle.sbx_parts.specs.declared.parts.Region.{Region}
+use Rattle.sbx_parts.specs.Regions.{byte_count}
+pub use Rattle.sbx_parts.specs.Widths.{IsTypedRange, IsTypedRegion, IsTypedCell, IsTypedTerm, IsTypedBlock, IsTypedFunction, IsTyped, IsCountedBlock, IsCountedFunction}
 
 -- a signed number as the unsigned one of the same bits
 abbrev pub signed : Width → ℤ → List ℕ
@@ -33,6 +35,10 @@ block_text b =
     ++ signed w64 b.fuel
     ++ flat_map cell_text b.cells
     ++ flat_map term_text b.terms
+
+-- a region's bytes alone; version 1 says how many there are, and no more
+abbrev pub region_text : Region → List ℕ
+region_text r = r.bytes
 
 abbrev pub kind_code : Kind → ℕ
 kind_code Leaf = 0
@@ -57,14 +63,14 @@ function_text f =
     ++ flat_map range_text f.results
     ++ flat_map block_text f.blocks
 
--- `SBX8`, version 1, and how much follows
+-- `SBX8`, the version, and how much follows
 unfoldable pub header_text : Parts → List ℕ
 header_text p =
     to_be_bytes w32 0x53425838
-    ++ to_be_bytes w16 1
+    ++ to_be_bytes w16 p.version
     ++ to_be_bytes w16 p.services.0
     ++ to_be_bytes w32 (length p.words)
-    ++ to_be_bytes w32 (length p.bytes)
+    ++ to_be_bytes w32 (byte_count p.regions)
     ++ to_be_bytes w16 p.stack_pages
     ++ to_be_bytes w16 (length p.functions)
 
@@ -72,7 +78,7 @@ unfoldable pub spelling : Parts → List ℕ
 spelling p =
     header_text p
     ++ flat_map (to_be_bytes w32) p.words
-    ++ p.bytes
+    ++ flat_map region_text p.regions
     ++ flat_map function_text p.functions
 
 abbrev pub IsBytes : List ℕ → Type 0

@@ -4,6 +4,7 @@ use sbx_parts::{Kind, Services};
 /// What stands before the words.
 #[derive(Clone, Copy)]
 pub struct Header {
+    pub version: u16,
     pub services: Services,
     pub words: u32,
     pub bytes: u32,

@@ -1,10 +1,10 @@
 //! Parts that keep every limit and order of the format.
 ghost use Rattle.std.specs.Prelude.{◌≡◌, ◌≤◌, length, All, Ok, Err, IfOk, IfErr};
-ghost use Rattle.sbx_image.specs.Spelling.{IsCountedFunction, IsTyped, IsTypedRegion};
+ghost use Rattle.sbx_image.specs.Spelling.{IsCountedFunction, IsTyped};
 ghost use Rattle.sbx_parts.specs.Regions.{byte_count, holds, page_rights};
 ghost use Rattle.sbx_parts.specs.Rules.{parts_keep};
 
-use sbx_parts::{Function, ImageFault, Parts, Region, Services, holds};
+use sbx_parts::{Function, ImageFault, Parts, Region, Services, byte_count, holds};
 use std::marker::Model;
 
 /// An image: parts that keep every limit and order of the format. Contracts see the parts.
@@ -102,7 +102,6 @@ impl Image {
         ensures value { result.now ≡ self.now.regions }
         ensures few { length self.now.regions ≤ 8 }
         ensures pages { length (page_rights self.now.regions) ≤ 64 }
-        ensures bytes { All IsTypedRegion self.now.regions }
     {
         self.parts.regions.as_slice()
     }

@@ -12,6 +12,7 @@ pub use heads::{FunctionHead, Header};
 pub use image::Image;
 pub use reading::{block_of, function_head_of, header_of, parse, ranges_of};
 pub use sbx_parts::{
-    Block, Cell, Function, ImageFault, Items, Kind, Next, Parts, Range, Region, Services, Term, behind,
+    Block, Cell, Function, ImageFault, Items, Kind, Next, Parts, Range, Region, Services, Term,
+    behind,
 };
 pub use writing::write;

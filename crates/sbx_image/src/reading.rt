@@ -3,17 +3,17 @@ ghost use Rattle.std.specs.Prelude.{◌≡◌, ℕ, ◌+◌, ◌≤◌, List, If
 ghost use Rattle.std.specs.Int.{w8, w16, w32, w64};
 ghost use Rattle.sbx_parts.specs.declared.order.Next.{Next};
 ghost use Rattle.sbx_parts.specs.Rules.{Place};
-ghost use Rattle.sbx_image.specs.Reading.{Gives, number_at, bytes_at, items_at, range_at, location_at, cell_at, term_at, block_head_at, block_at, kind_at, counts_at, bounds_at, function_head_at, function_at, services_at, data_length_at, header_at, parts_at, reading};
+ghost use Rattle.sbx_image.specs.Reading.{Gives, number_at, bytes_at, items_at, range_at, location_at, cell_at, term_at, block_head_at, block_at, kind_at, counts_at, bounds_at, function_head_at, function_at, services_at, data_length_at, header_at, regions_of, parts_at, reading};
 ghost use Rattle.sbx_image.specs.Spelling.{spelling};
 
 use crate::heads::{BlockHead, Bounds, Counts, FunctionHead, Header};
 use crate::image::Image;
 use crate::numbers::{i32_at, i64_at, u8_in, u16_at, u16_in, u32_at, u32_in, u64_in};
 use sbx_parts::{
-    Block, Cell, Function, ImageFault, Items, Kind, Next, Parts, Range, Services, Term, admits,
-    is_coefficient, is_fuel, services_of,
+    Block, Cell, Function, ImageFault, Items, Kind, Next, Parts, Range, Region, Services, Term,
+    admits, is_coefficient, is_fuel, services_of,
 };
-use std::alloc::Global;
+use std::alloc::{AllocError, Global};
 use v8_map::CODE_START;
 
 /// An item of a list, as the format has it.
@@ -374,16 +374,19 @@ fn bytes_of(alloc: Global, count: u32, bytes: &[u8]) -> Result<(Vec<u8>, &[u8]),
     Ok((Vec::from_slice(alloc, front)?, rest))
 }
 
-/// The services, behind what tells an image of this version.
+/// Version and services, behind what tells an image.
 #[tactic(auto, unfolding(crate::specs::Reading::services_at))]
-fn services_in(bytes: &[u8]) -> Result<(Services, &[u8]), ImageFault>
+fn services_in(bytes: &[u8]) -> Result<((u16, Services), &[u8]), ImageFault>
     ensures { Gives (λ x. (x.0, x.1.now)) result (services_at bytes.now) }
 {
     let (_, rest) = u32_in(bytes, 0x5342_5838, 0x5342_5838, ImageFault::Magic)?;
-    let (_, rest) = u16_in(rest, 1, 1, ImageFault::Version)?;
+    let (version, rest) = u16_at(rest)?;
+    if version != 1 {
+        return Err(ImageFault::Version);
+    }
     let (bits, rest) = u16_at(rest)?;
     match services_of(bits) {
-        Some(services) => Ok((services, rest)),
+        Some(services) => Ok(((version, services), rest)),
         None => Err(ImageFault::Service),
     }
 }
@@ -405,12 +408,13 @@ pub fn header_of(bytes: &[u8]) -> Result<(Header, &[u8]), ImageFault>
     ensures reads { Gives (λ x. (x.0, x.1.now)) result (header_at bytes.now) }
     ensures bound { IfOk result (λ x. x.0.words ≤ 65536) }
 {
-    let (services, rest) = services_in(bytes)?;
+    let ((version, services), rest) = services_in(bytes)?;
     let (words, rest) = u32_in(rest, 1, 65536, ImageFault::Limit)?;
     let (data_bytes, rest) = data_length_of(rest)?;
     let (stack_pages, rest) = u16_in(rest, 1, 16, ImageFault::Limit)?;
     let (functions, rest) = u16_in(rest, 1, 256, ImageFault::Limit)?;
     let header = Header {
+        version,
         services,
         words,
         bytes: data_bytes,
@@ -418,6 +422,20 @@ pub fn header_of(bytes: &[u8]) -> Result<(Header, &[u8]), ImageFault>
         functions,
     };
     Ok((header, rest))
+}
+
+/// The data of version 1: one region that may be written, or none where there are no bytes.
+fn regions_of(alloc: Global, bytes: Vec<u8>) -> Result<Vec<Region>, AllocError>
+    ensures { IfOk result (λ v. v.items ≡ regions_of bytes.items) }
+{
+    let mut regions = Vec::new(alloc);
+    if !bytes.is_empty() {
+        regions.push(Region {
+            bytes: Items::new(bytes),
+            writable: true,
+        })?;
+    }
+    Ok(regions)
 }
 
 #[tactic(auto, unfolding(crate::specs::Reading::parts_at))]
@@ -429,11 +447,13 @@ fn parts_of(alloc: Global, bytes: &[u8]) -> Result<(Parts, &[u8]), ImageFault>
     let first = (Next::Exactly(CODE_START), 0);
     let (words, ((), rest)) = items_of(alloc, end, header.words, (), rest)?;
     let (data_bytes, rest) = bytes_of(alloc, header.bytes, rest)?;
+    let regions = regions_of(alloc, data_bytes)?;
     let (functions, (_, rest)) = items_of(alloc, end, header.functions as u32, first, rest)?;
     let parts = Parts {
+        version: header.version,
         services: header.services,
         words: Items::new(words),
-        bytes: Items::new(data_bytes),
+        regions: Items::new(regions),
         stack_pages: header.stack_pages,
         functions: Items::new(functions),
     };

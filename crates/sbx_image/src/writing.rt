@@ -2,10 +2,10 @@
 ghost use Rattle.std.specs.Prelude.{◌≡◌, ◌<◌, ◌^◌, ◌++◌, OnOk, IfOk, All};
 ghost use Rattle.std.specs.Int.{w8, w16, w32, w64, to_be_bytes};
 ghost use Rattle.std.specs.List.{flat_map};
-ghost use Rattle.sbx_image.specs.Spelling.{kind_code, signed, IsCountedBlock, IsCountedFunction, block_text, cell_text, function_head_text, function_text, header_text, range_text, spelling, term_text};
+ghost use Rattle.sbx_image.specs.Spelling.{kind_code, signed, IsCountedBlock, IsCountedFunction, block_text, cell_text, function_head_text, function_text, header_text, range_text, region_text, spelling, term_text};
 
 use crate::image::Image;
-use sbx_parts::{Block, Cell, Function, Kind, Range, Term};
+use sbx_parts::{Block, Cell, Function, Kind, Range, Region, Term};
 use std::alloc::{AllocError, Global};
 
 /// An item of a list, as the format spells it.
@@ -76,6 +76,14 @@ impl Writable for u32 {
 
     fn put(&self, out: &mut Vec<u8>) -> Result<(), AllocError> {
         put_u32(out, *self)
+    }
+}
+
+impl Writable for Region {
+    ghost text = { region_text };
+
+    fn put(&self, out: &mut Vec<u8>) -> Result<(), AllocError> {
+        out.extend_from_slice(self.bytes.as_slice())
     }
 }
 
@@ -173,7 +181,7 @@ fn put_header(out: &mut Vec<u8>, image: &Image) -> Result<(), AllocError>
     ensures { OnOk result (out.new.items ≡ out.old.items ++ header_text image.now) }
 {
     put_u32(out, 0x5342_5838)?;
-    put_u16(out, 1)?;
+    put_u16(out, image.version())?;
     put_u16(out, image.services().0)?;
     put_u32(out, image.word_count())?;
     put_u32(out, image.byte_count())?;
@@ -189,7 +197,7 @@ pub fn write(image: &Image, alloc: Global) -> Result<Vec<u8>, AllocError>
     let mut out = Vec::new(alloc);
     put_header(&mut out, image)?;
     put_each(&mut out, image.words())?;
-    out.extend_from_slice(image.bytes())?;
+    put_each(&mut out, image.regions())?;
     put_each(&mut out, image.functions())?;
     Ok(out)
 }

@@ -25,11 +25,7 @@ abbrev pub laid : List Region → List ℕ
 laid [] = []
 laid (r ∷ rs) = on_pages r.bytes ++ laid rs
 
--- the regions' bytes alone, and how many there are
-abbrev pub all_bytes : List Region → List ℕ
-all_bytes [] = []
-all_bytes (r ∷ rs) = r.bytes ++ all_bytes rs
-
+-- how many bytes all regions have
 abbrev pub byte_count : List Region → ℕ
 byte_count [] = 0
 byte_count (r ∷ rs) = length r.bytes + byte_count rs

@@ -1,5 +1,8 @@
-use Rattle.std.proofs.Common.{rules}
+use Rattle.sbx_parts.proofs.Limits.{data_within}
 use Rattle.sbx_image.proofs.image.Image.byte_count.Goals as goal
 
-pub returns-clause-count : goal.returns-clause-count
-returns-clause-count c = search rules
+pub byte_count-requires : goal.byte_count-requires
+byte_count-requires c = rw c.as_slice.ensures (data_within c.self.inside.parts c.self.invariant).bytes
+
+pub returns-clause-few : goal.returns-clause-few
+returns-clause-few c = rw (c.byte_count.ensures, c.as_slice.ensures) (data_within c.self.inside.parts c.self.invariant).bytes
