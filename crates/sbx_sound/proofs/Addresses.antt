@@ -15,7 +15,7 @@ use Rattle.sbx_image.specs.Parts.{Parts}
 use Rattle.sbx_image.specs.Range.{Range}
 use Rattle.sbx_image.specs.Region.{Region}
 use Rattle.sbx_image.specs.Regions.{data_start, holds, in_one_region}
-use Rattle.sbx_parts.proofs.Within.{held_bounds, held_part}
+use Rattle.sbx_image.proofs.Within.{held_bounds, held_part}
 use Rattle.sbx_form.specs.Forms.{Cells}
 use Rattle.sbx_range.specs.Ranges.{InInterval}
 use Rattle.sbx_range.specs.Table.{range_of_address}

@@ -20,7 +20,7 @@ use Rattle.sbx_image.specs.Function.{Function}
 use Rattle.sbx_image.specs.Parts.{Parts}
 use Rattle.sbx_image.specs.Range.{Range}
 use Rattle.sbx_image.specs.Regions.{data_start, laid, page_rights}
-use Rattle.sbx_parts.proofs.Within.{IsReached, reached}
+use Rattle.sbx_image.proofs.Within.{IsReached, reached}
 use Rattle.sbx_range.specs.Ranges.{all}
 use Rattle.sbx_flat.specs.Effects.{address_in, does, takes, transfers, transfers_data, writes}
 use Rattle.sbx_flat.specs.Memory.{byte_of, with_number}
