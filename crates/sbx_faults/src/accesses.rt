@@ -97,7 +97,12 @@ pub fn is_placed(image: &Image, function: &Function, operation: &Operation, stat
             Some(offset) => is_in_frame(function.frame, offset),
             None => {
                 let size = bytes_in(transfer.size());
-                is_in_data(image, size, transfer.writes_memory(), address_of(state, operand))
+                is_in_data(
+                    image,
+                    size,
+                    transfer.writes_memory(),
+                    address_of(state, operand),
+                )
             }
         },
         _ => true,

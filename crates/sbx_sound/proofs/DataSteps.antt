@@ -19,8 +19,8 @@ use Rattle.v8_meaning.specs.Transfers.{bytes_in, exchanged_size, filled, left_be
 use Rattle.sbx_image.specs.Function.{Function}
 use Rattle.sbx_image.specs.Parts.{Parts}
 use Rattle.sbx_image.specs.Range.{Range}
-use Rattle.sbx_image.specs.Regions.{data_start, laid, page_rights}
-use Rattle.sbx_image.proofs.Within.{IsReached, reached}
+use Rattle.sbx_image.specs.Regions.{LiesInOne, data_start, laid, page_rights}
+use Rattle.sbx_image.proofs.Within.{reached}
 use Rattle.sbx_range.specs.Ranges.{all}
 use Rattle.sbx_flat.specs.Effects.{address_in, does, takes, transfers, transfers_data, writes}
 use Rattle.sbx_flat.specs.Memory.{byte_of, with_number}
@@ -234,7 +234,7 @@ module _ (parts : Parts) (w : ℕ) (p : Spot parts w) (lent : window_of (functio
     some_bytes sizes.Word = omega arith
     some_bytes sizes.Double = omega arith
 
-    region : IsReached data_start parts.regions access.place (bytes_in (size_of t)) (writes_memory t)
+    region : LiesInOne data_start parts.regions access.place (bytes_in (size_of t)) (writes_memory t)
     region = reached parts.regions access.place (bytes_in (size_of t)) (writes_memory t) (some_bytes (size_of t)) access.inside.lies
 
     -- the number there
