@@ -12,9 +12,6 @@ use sbx_rules::{Entry, State};
 use v8_alu::TaggedOp;
 use v8_meaning::{MemoryOperand, Operation, bytes_in};
 
-/// The address of the first data byte.
-const DATA: i64 = 0x0008_0000;
-
 /// The addresses that an operand can have, where both of its parts are defined.
 fn address_of(state: &State, operand: &MemoryOperand) -> Option<Range>
     ensures { result ≡ address_of (register_entry (known state.now) operand.now.rs1) (operand_entry (known state.now) operand.now.operand2) }
@@ -76,20 +73,21 @@ fn is_in_frame(frame: u32, offset: i64) -> bool
     !(offset < 64) && !(i64::from(frame) - 4 < offset)
 }
 
-fn is_in_data(image: &Image, size: u32, range: Option<Range>) -> bool
+/// Whether so many bytes from each address of the range lie in one region, which may be written where they are.
+fn is_in_data(image: &Image, size: u32, writes: bool, range: Option<Range>) -> bool
     requires { size ≤ 8 }
-    ensures { result ≡ is_in_data image.now size range }
+    ensures { result ≡ is_in_data image.now size writes range }
 {
     match range {
         Some(range) => {
-            let end = DATA + i64::from(image.byte_count());
-            !(i64::from(range.lo) < DATA) && !(end < i64::from(range.hi) + i64::from(size))
+            let end = i64::from(range.hi) + i64::from(size);
+            image.holds(i64::from(range.lo), end, writes)
         }
         None => false,
     }
 }
 
-/// Whether what an operation reaches is shown to lie in the data or in the frame.
+/// Whether what an operation reaches is shown to lie in one region of the data or in the frame.
 #[tactic(auto, unfolding(sbx_rules::specs::Operations::access_of))]
 pub fn is_placed(image: &Image, function: &Function, operation: &Operation, state: &State) -> bool
     ensures { result ≡ is_placed_access image.now function.now.frame (access_of function.now operation.now (known state.now)) }
@@ -97,7 +95,15 @@ pub fn is_placed(image: &Image, function: &Function, operation: &Operation, stat
     match operation {
         Operation::Transfer(transfer, operand) => match frame_offset(function, *transfer, operand) {
             Some(offset) => is_in_frame(function.frame, offset),
-            None => is_in_data(image, bytes_in(transfer.size()), address_of(state, operand)),
+            None => {
+                let size = bytes_in(transfer.size());
+                is_in_data(
+                    image,
+                    size,
+                    transfer.writes_memory(),
+                    address_of(state, operand),
+                )
+            }
         },
         _ => true,
     }

@@ -12,8 +12,7 @@ use Rattle.v8_meaning.specs.declared.operation.Operation.TheVariants as operatio
 use Rattle.v8_meaning.specs.declared.operation.Transfer.{Transfer}
 use Rattle.sbx_image.specs.Parts.{Parts}
 use Rattle.sbx_image.specs.Services.{Services}
-use Rattle.sbx_flat.specs.Effects.{address_in, declares, does, high_word, is_base, is_stack_pointer, leaves_in_data, leaves_in_slot, operand_value, restores, served, serves, service_of, slot_of, takes, transfers_data, transfers_in, with_regs, writes, writes_some}
-use Rattle.sbx_flat.specs.Memory.{number_at}
+use Rattle.sbx_flat.specs.Effects.{address_in, declares, does, found, high_word, is_base, is_stack_pointer, leaves_in_data, leaves_in_slot, operand_value, restores, served, serves, service_of, slot_of, takes, transfers_data, transfers_in, with_regs, writes, writes_some}
 use Rattle.sbx_flat.specs.Registers.{Fresh, IsFresh, Registers, popped, pushed}
 use Rattle.sbx_flat.specs.States.{State, reg, with_reg, advanced, transferred, Turn, Goes, Fails, Over, Wrong, NotAdmitted, Misaligned, ZeroDivisor, TagOverflow, NoService, BadFrame, StackPointer}
 use Rattle.sbx_flat.specs.Turns.{IsWrong, asked, fetches, goes_on, turn, word_at}
@@ -46,9 +45,9 @@ data_goes : (t : Transfer) (rd a : ℕ) (o : Option ℕ) (s : State) → is_over
 data_goes t rd a None s = refl
 data_goes t rd a (Some number) s = taken (received t rd number) (leaves_in_data t a (sent (reg s) t rd) s)
 
-transfer_goes : (t : Transfer) (rd a : ℕ) (o : Option ℕ) (s : State) → is_over (transfers_in t rd a o s) ≡ false
-transfer_goes t rd a None s = data_goes t rd a (number_at s.memory a (bytes_in (size_of t))) s
-transfer_goes t rd a (Some word) s = taken (received t rd word) (leaves_in_slot t a (sent (reg s) t rd) s)
+transfer_goes : (parts : Parts) (t : Transfer) (rd a : ℕ) (o : Option ℕ) (s : State) → is_over (transfers_in parts t rd a o s) ≡ false
+transfer_goes parts t rd a None s = data_goes t rd a (found parts t a s.memory) s
+transfer_goes parts t rd a (Some word) s = taken (received t rd word) (leaves_in_slot t a (sent (reg s) t rd) s)
 
 restored_goes : (rd v : ℕ) (o : Option Registers) (s : State) → is_over (restores rd v o s) ≡ false
 restored_goes rd v None s = refl
@@ -67,7 +66,7 @@ does_goes parts fresh (ReadY rd) s = written_goes rd s.y s
 does_goes parts fresh (WriteY f) s = refl
 does_goes parts fresh (operation.Transfer t m) s =
     let a = address_in s m in
-    or_fails (a % bytes_in (size_of t) == 0) Misaligned (transfers_in t m.rd a (slot_of t s a) s) (transfer_goes t m.rd a (slot_of t s a) s)
+    or_fails (a % bytes_in (size_of t) == 0) Misaligned (transfers_in parts t m.rd a (slot_of t s a) s) (transfer_goes parts t m.rd a (slot_of t s a) s)
 does_goes parts fresh (Save f) s =
     let b = address (reg s) f.rs1 f.operand2 in
     or_fails ((f.rd == 14) && is_base parts (reg s 14) b) BadFrame (Goes (advanced (record s { registers = pushed fresh b s.registers }))) refl

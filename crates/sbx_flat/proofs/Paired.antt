@@ -4,9 +4,10 @@ use Rattle.std.specs.Prelude.{◌==◌, if◌then◌else◌}
 use Rattle.std.proofs.lemmas.Bool.Decides.{nat_tests}
 use Rattle.sbx_image.specs.Rules.{code_start}
 use Rattle.sbx_image.specs.Parts.{Parts}
+use Rattle.sbx_image.specs.Regions.{data_at}
 use Rattle.sbx_flat.specs.Invariants.{IsInvariant}
 use Rattle.sbx_flat.specs.Registers.{still}
-use Rattle.sbx_flat.specs.Runs.{AreBytes, FlatRun, FlatSafe, IsStart, Place, Run, data_at, place_of, weight, weight_at}
+use Rattle.sbx_flat.specs.Runs.{AreBytes, FlatRun, FlatSafe, IsStart, Place, Run, place_of, weight, weight_at}
 use Rattle.sbx_flat.specs.States.{State}
 use Rattle.sbx_flat.proofs.Goes.{goes}
 use Rattle.sbx_flat.proofs.Law.{Moves, safe, still_is_fresh}
@@ -21,7 +22,7 @@ calm_start parts input = record {
   icc = record { n = false; z = false; v = false; c = false };
   y = 0;
   registers = record { globals = λ _. 0; newest = record { locals = λ _. 0; outs = λ n. if n == 14 then 0x000FFFC0 else 0; slots = λ _. None }; older = []; oldest_ins = λ _. 0 };
-  memory = data_at parts.bytes;
+  memory = data_at parts.regions;
   input = input;
   output = [];
   exit = None;

@@ -28,12 +28,15 @@ use Rattle.v8_meaning.specs.declared.operation.Operation.TheVariants as operatio
 use Rattle.v8_meaning.specs.declared.operation.Transfer.{Transfer}
 use Rattle.v8_meaning.specs.declared.operation.Transfer.TheVariants as transfers
 use Rattle.sbx_image.specs.Parts.{Parts}
+use Rattle.sbx_image.specs.Region.{Region}
+use Rattle.sbx_image.specs.Regions.{Placed, behind, byte_in, byte_of_region, data_start, or_else, placed_from}
+use Rattle.sbx_image.specs.Spelling.{IsTypedRegion}
 use Rattle.sbx_image.specs.Services.{Services}
-use Rattle.sbx_flat.specs.Effects.{address_in, branched, declares, does, gets, high_word, is_base, is_stack_pointer, leaves_in_data, leaves_in_slot, operand_value, restores, served, serves, service_of, slot_of, takes, transfers_data, transfers_in, with_regs, writes, writes_some}
+use Rattle.sbx_flat.specs.Effects.{address_in, branched, declares, does, found, gets, high_word, is_base, is_stack_pointer, leaves_in_data, leaves_in_slot, operand_value, restores, served, serves, service_of, slot_of, takes, transfers_data, transfers_in, with_regs, writes, writes_some}
 use Rattle.sbx_flat.specs.Memory.{Bytes, byte_of, followed_by, number_at, with_number}
 use Rattle.sbx_flat.specs.Registers.{Frame, Fresh, IsFresh, Registers, popped, pushed, with_slot, written}
 use Rattle.sbx_flat.specs.Calls.{base, cell, depth, slot}
-use Rattle.sbx_flat.specs.Runs.{AreBytes, FlatRun, IsStart, Place, Run, data_at, data_start}
+use Rattle.sbx_flat.specs.Runs.{AreBytes, FlatRun, IsStart, Place, Run}
 use Rattle.sbx_flat.specs.States.{State, reg, with_reg, advanced, transferred, Turn, Goes, Fails, Over, Wrong, NotAdmitted, Misaligned, ZeroDivisor, TagOverflow, NoService, BadFrame, StackPointer}
 use Rattle.sbx_flat.specs.Turns.{Step, asked, fetches, goes_on, turn, word_at}
 use Rattle.sbx_flat.specs.WellFormed.{AreCalls, AreData, HasWords, IsPlace, IsStacked, IsWellFormed}
@@ -195,9 +198,13 @@ module _ (pages : ℕ) where
       with_calls s (with_slot a (sent (reg s) t rd) s.registers) (calls_slot pages a (sent (reg s) t rd) word s.registers r.there fits h.calls) h)
       (λ e. h)
 
-  transfer_fine : (t : Transfer) (rd a : ℕ) (o : Option ℕ) (s : State) → slot_of t s a ≡ o → IsWellFormed pages s → Fine (transfers_in t rd a o s)
-  transfer_fine t rd a None s e h = data_fine t rd a (number_at s.memory a (bytes_in (size_of t))) s (number_bound s.memory a (bytes_in (size_of t)) h.memory) h
-  transfer_fine t rd a (Some word) s e h =
+  found_bound : (t : Transfer) (a : ℕ) (memory : Bytes) (lies : Bool) → AreData memory → IfSome (if lies then number_at memory a (bytes_in (size_of t)) else None) (λ n. n < 256 ^ bytes_in (size_of t))
+  found_bound t a memory true all = number_bound memory a (bytes_in (size_of t)) all
+  found_bound t a memory false all = tt
+
+  transfer_fine : (parts : Parts) (t : Transfer) (rd a : ℕ) (o : Option ℕ) (s : State) → slot_of t s a ≡ o → IsWellFormed pages s → Fine (transfers_in parts t rd a o s)
+  transfer_fine parts t rd a None s e h = data_fine t rd a (found parts t a s.memory) s (found_bound t a s.memory _ h.memory) h
+  transfer_fine parts t rd a (Some word) s e h =
       let r = reaches t rd a word s e in
       let small : word < 2 ^ 32 = h.calls.words.newest.slots a word r.there in
       let fits : word < 256 ^ bytes_in (size_of t) = subst (λ n. word < 256 ^ n) (sym r.size) small in
@@ -272,7 +279,7 @@ module _ (pages : ℕ) where
       on (record s { y = y }) (with_codes s s.icc y (xor_lt 32 (reg s f.rs1) (operand_value s f.operand2) (word_of s f.rs1 h) (operand_word s f.operand2 small h)) h)
   does_fine parts fresh (operation.Transfer t m) s same fresh_words can small h =
       let a = address_in s m in
-      pick Fine (a % bytes_in (size_of t) == 0) (transfers_in t m.rd a (slot_of t s a) s) (Fails Misaligned) (λ e. transfer_fine t m.rd a (slot_of t s a) s refl h) (λ e. tt)
+      pick Fine (a % bytes_in (size_of t) == 0) (transfers_in parts t m.rd a (slot_of t s a) s) (Fails Misaligned) (λ e. transfer_fine parts t m.rd a (slot_of t s a) s refl h) (λ e. tt)
   does_fine parts fresh (Save f) s same fresh_words can small h = saved_fine parts fresh f.rd (address (reg s) f.rs1 f.operand2) s same fresh_words (omega arith) h
   does_fine parts fresh (Restore f) s same fresh_words can small h = restored_fine f.rd (address (reg s) f.rs1 f.operand2) (popped s.registers) s refl (omega arith) h
   does_fine parts fresh (Call displacement) s same fresh_words can small h = moved (with_reg 15 s.pc s) (target s.pc displacement) (target_place s.pc displacement h.pc) (with_word_in 15 s.pc s (omega arith) (omega arith) h.pc.word h)
@@ -315,9 +322,19 @@ one_call (f ∷ fs) e = absurd (cc)
 no_slot : (o : Option ℕ) (w : ℕ) → o ≡ None → o ≡ Some w → ⊥
 no_slot o w e f = cc
 
-data_bytes : (bytes : List ℕ) (address byte : ℕ) → AreBytes bytes → data_at bytes address ≡ Some byte → byte < 2 ^ 8
-data_bytes bytes address byte all e = pick (λ (o : Option ℕ). o ≡ Some byte → byte < 2 ^ 8) (nat_lt address data_start) None (slice_get bytes (address - data_start)) (λ h f. absurd (cc))
-    (λ h f. let g : slice_index bytes (address - data_start) ≡ byte = get_or_from_slice_get bytes (address - data_start) byte 0 f in let a = all (address - data_start) in omega (arith, g)) e
+region_bytes : (r : Placed) (address byte : ℕ) → AreBytes r.bytes → byte_of_region r address ≡ Some byte → byte < 2 ^ 8
+region_bytes r address byte all e = pick (λ (o : Option ℕ). o ≡ Some byte → byte < 2 ^ 8) (nat_lt address r.address) None (slice_get r.bytes (address - r.address)) (λ h f. absurd (cc))
+    (λ h f. let g : slice_index r.bytes (address - r.address) ≡ byte = get_or_from_slice_get r.bytes (address - r.address) byte 0 f in let a = all (address - r.address) in omega (arith, g)) e
+
+either_byte : (o p : Option ℕ) (byte : ℕ) → (o ≡ Some byte → byte < 2 ^ 8) → (p ≡ Some byte → byte < 2 ^ 8) → or_else o p ≡ Some byte → byte < 2 ^ 8
+either_byte None p byte first other e = other e
+either_byte (Some b) p byte first other e = first e
+
+pub data_bytes : (start : ℕ) (regions : List Region) (address byte : ℕ) → AllByRecursion IsTypedRegion regions → byte_in (placed_from start regions) address ≡ Some byte → byte < 2 ^ 8
+data_bytes start [] address byte all e = absurd (cc)
+data_bytes start (r ∷ rs) address byte all e =
+    let here : Placed = record { address = start; bytes = r.bytes; writable = r.writable } in
+    either_byte (byte_of_region here address) (byte_in (placed_from (behind start r) rs) address) byte (region_bytes here address byte all.0) (data_bytes (behind start r) rs address byte all.1) e
 
 first_base : (file : Registers) (b : ℕ) → file.newest.outs 14 ≡ b → base file 0 ≡ b
 unfolding cell
@@ -337,7 +354,7 @@ stacked_start pages file some one e =
       apart = λ k i less within. absurd (omega arith);
     }
 
-pub starts_well_formed : (parts : Parts) (input : List ℕ) (s : State) → 1 ≤ parts.stack_pages → AreBytes parts.bytes → AreBytes input → IsStart parts input s → IsWellFormed parts.stack_pages s
+pub starts_well_formed : (parts : Parts) (input : List ℕ) (s : State) → 1 ≤ parts.stack_pages → AllByRecursion IsTypedRegion parts.regions → AreBytes input → IsStart parts input s → IsWellFormed parts.stack_pages s
 starts_well_formed parts input s some bytes all start =
     let one = one_call s.registers.older start.one_frame in
     let single : depth s.registers ≡ 1 = ap suc one.1 in
@@ -357,7 +374,7 @@ starts_well_formed parts input s some bytes all start =
         stacked = stacked_start parts.stack_pages s.registers some single start.base;
         slots = λ k a w less e. absurd (let z : k ≡ 0 = omega (arith, single) in no_slot (s.registers.newest.slots a) w (start.slots a) (first_slot s.registers a w (subst (λ i. slot s.registers i a ≡ Some w) z e)));
       };
-      memory = λ a b e. data_bytes parts.bytes a b bytes (sym (start.memory a) ∙ e);
+      memory = λ a b e. data_bytes data_start parts.regions a b bytes (sym (start.memory a) ∙ e);
       input = subst AreBytes (sym start.input) all;
       output = subst AreBytes (sym start.output) no_bytes;
       exit = none_small s.exit start.exit;
@@ -375,5 +392,5 @@ run_stays : (parts : Parts) (path : List Place) (s t : State) → IsWellFormed p
 run_stays parts [] s t h run = subst (IsWellFormed parts.stack_pages) run h
 run_stays parts (p ∷ path) s t h run = run_stays parts path run.0 t (stays_well_formed parts s run.0 h run.2) run.3
 
-pub runs_well_formed : (parts : Parts) (input : List ℕ) (path : List Place) (s : State) → 1 ≤ parts.stack_pages → AreBytes parts.bytes → AreBytes input → FlatRun parts input path s → IsWellFormed parts.stack_pages s
+pub runs_well_formed : (parts : Parts) (input : List ℕ) (path : List Place) (s : State) → 1 ≤ parts.stack_pages → AllByRecursion IsTypedRegion parts.regions → AreBytes input → FlatRun parts input path s → IsWellFormed parts.stack_pages s
 runs_well_formed parts input path s some bytes all run = run_stays parts path run.0 s (starts_well_formed parts input run.0 some bytes all run.1) run.2

@@ -16,8 +16,8 @@ use Rattle.v8_meaning.specs.declared.operation.Transfer.TheVariants as transfers
 use Rattle.v8_word.specs.declared.Size.TheVariants as sizes
 use Rattle.sbx_image.specs.Parts.{Parts}
 use Rattle.sbx_image.specs.Services.{Services}
-use Rattle.sbx_flat.specs.Effects.{address_in, declares, does, gets, high_word, is_base, is_stack_pointer, leaves_in_data, leaves_in_slot, operand_value, restores, served, serves, service_of, slot_of, takes, transfers_data, transfers_in, with_regs, writes, writes_some}
-use Rattle.sbx_flat.specs.Memory.{number_at, with_number}
+use Rattle.sbx_flat.specs.Effects.{address_in, declares, does, found, gets, high_word, is_base, is_stack_pointer, leaves_in_data, leaves_in_slot, operand_value, restores, served, serves, service_of, slot_of, takes, transfers_data, transfers_in, with_regs, writes, writes_some}
+use Rattle.sbx_flat.specs.Memory.{with_number}
 use Rattle.sbx_flat.specs.Registers.{Fresh, Registers, popped, pushed, with_slot}
 use Rattle.sbx_flat.specs.Runs.{Place, Run, place_of, reached_at, reached_by}
 use Rattle.sbx_flat.specs.States.{State, reg, with_reg, advanced, transferred, Turn, Goes, Fails, Over, Wrong, NotAdmitted, Misaligned, ZeroDivisor, TagOverflow, NoService, BadFrame, StackPointer}
@@ -83,10 +83,10 @@ module _ (z : List ℕ) where
       let out = sent (reg s) t rd in
       ap (takes (received t rd n)) (data_left t a out s) ∙ taken (received t rd n) (leaves_in_data t a out s)
 
-  moved : (t : Transfer) (rd a : ℕ) (o : Option ℕ) (s : State) → Blind (transfers_in t rd a o (with_input z s)) (transfers_in t rd a o s)
+  moved : (parts : Parts) (t : Transfer) (rd a : ℕ) (o : Option ℕ) (s : State) → Blind (transfers_in parts t rd a o (with_input z s)) (transfers_in parts t rd a o s)
   unfolding reg
-  moved t rd a None s = data_moved t rd a (number_at s.memory a (bytes_in (size_of t))) s
-  moved t rd a (Some word) s =
+  moved parts t rd a None s = data_moved t rd a (found parts t a s.memory) s
+  moved parts t rd a (Some word) s =
       let out = sent (reg s) t rd in
       ap (takes (received t rd word)) (slot_left t a out s) ∙ taken (received t rd word) (leaves_in_slot t a out s)
 
@@ -117,8 +117,8 @@ module _ (z : List ℕ) where
   blind parts fresh (operation.Transfer t m) s none =
       let a = address_in s m in
       let o = slot_of t s a in
-      either (a % bytes_in (size_of t) == 0) (transfers_in t m.rd a (slot_of t (with_input z s) a) (with_input z s)) (Fails Misaligned) (transfers_in t m.rd a o s) (Fails Misaligned)
-      (ap (λ (x : Option ℕ). transfers_in t m.rd a x (with_input z s)) (same_slot t s a) ∙ moved t m.rd a o s) refl
+      either (a % bytes_in (size_of t) == 0) (transfers_in parts t m.rd a (slot_of t (with_input z s) a) (with_input z s)) (Fails Misaligned) (transfers_in parts t m.rd a o s) (Fails Misaligned)
+      (ap (λ (x : Option ℕ). transfers_in parts t m.rd a x (with_input z s)) (same_slot t s a) ∙ moved parts t m.rd a o s) refl
   blind parts fresh (Save f) s none =
       let b = address (reg s) f.rs1 f.operand2 in
       decides z ((f.rd == 14) && is_base parts (reg s 14) b) (Goes (advanced (record s { registers = pushed fresh b s.registers }))) (Fails BadFrame)

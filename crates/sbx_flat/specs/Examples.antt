@@ -1,7 +1,8 @@
 -- Codes of one or two words, and what a step of them comes to, for examples.
-use Rattle.std.specs.Prelude.{ℕ, ◌+◌, ◌%◌, ◌^◌, false, List, [], ◌∷◌, Option, None, Some}
-use Rattle.v8_map.specs.declared.TheConstants.{CODE_START}
+use Rattle.std.specs.Prelude.{ℕ, ◌+◌, ◌%◌, ◌^◌, Bool, false, true, List, [], ◌∷◌, replicate, Option, None, Some}
+use Rattle.v8_map.specs.declared.TheConstants.{CODE_START, DATA_START}
 use Rattle.sbx_image.specs.Parts.{Parts}
+use Rattle.sbx_image.specs.Region.{Region}
 use Rattle.sbx_flat.specs.Registers.{Frame, Fresh}
 use Rattle.sbx_flat.specs.Runs.{Place}
 use Rattle.sbx_flat.specs.States.{State, Turn}
@@ -43,6 +44,18 @@ with_slots slots s = record s { registers = record s.registers { newest = record
 abbrev pub called_by : Frame → List Frame → State → State
 called_by caller older s = record s { registers = record s.registers { older = caller ∷ older } }
 
--- with memory whose every byte is its address's low one
+-- with memory whose every byte is its address's low one, and %l0 at the start of the data
 abbrev pub with_addresses : State → State
-with_addresses s = record s { memory = λ a. Some (a % 2 ^ 8) }
+with_addresses s = record s { memory = λ a. Some (a % 2 ^ 8); registers = record s.registers { newest = record s.registers.newest { locals = λ _. DATA_START } } }
+
+-- so many bytes
+abbrev pub zeros : Bool → ℕ → Region
+zeros writable count = record { bytes = replicate count 0; writable = writable }
+
+-- with one region of so many bytes
+abbrev pub with_region : Bool → ℕ → Parts → Parts
+with_region writable count parts = record parts { regions = zeros writable count ∷ [] }
+
+-- with a region that is only read, and one that may be written
+abbrev pub with_two_regions : Parts → Parts
+with_two_regions parts = record parts { regions = zeros false 8 ∷ zeros true 8 ∷ [] }

@@ -15,6 +15,7 @@ pub mod Examples
 -- What its definitions are said in, for the crates above.
 pub use Rattle.sbx_image.specs.Rules
 pub use Rattle.sbx_image.specs.Parts
+pub use Rattle.sbx_image.specs.Regions
 pub use Rattle.sbx_image.specs.Services
 pub use Rattle.v8_meaning.specs.Transfers
 pub use Rattle.v8_meaning.specs.declared.operation.Operation

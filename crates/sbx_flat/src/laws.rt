@@ -1,8 +1,10 @@
 //! Laws of the flat machine's definitions. Each is the contract of a function that does nothing.
-ghost use Rattle.std.specs.Prelude.{◌≡◌, ◌≢◌, ℕ, ◌+◌, ◌-◌, ◌<◌, ◌≤◌, ◌%◌, ◌*◌, ◌^◌, ◌==◌, if◌then◌else◌, List, [], ◌∷◌, ◌++◌, length, Option, None, Some, false, true};
+ghost use Rattle.std.specs.Prelude.{◌≡◌, ◌≢◌, ℕ, ◌+◌, ◌-◌, ◌<◌, ◌≤◌, ◌%◌, ◌*◌, ◌^◌, ◌==◌, if◌then◌else◌, List, [], ◌∷◌, ◌++◌, length, Option, None, Some, Bool, false, true};
+ghost use Rattle.std.specs.List.{AllByRecursion};
 ghost use Rattle.sbx_image.specs.Parts.{Parts};
+ghost use Rattle.sbx_image.specs.Spelling.{IsTypedRegion};
 ghost use Rattle.sbx_flat.specs.Alike.{Alike, AlikeRegisters, Known, PopsAlike, known_popped, known_pushed, known_slot, known_written, knows};
-ghost use Rattle.sbx_flat.specs.Examples.{at_first, at_restore, at_save, at_second, at_third, based, called_by, save_and_restore, step_of, with_addresses, with_slots};
+ghost use Rattle.sbx_flat.specs.Examples.{at_first, at_restore, at_save, at_second, at_third, based, called_by, save_and_restore, step_of, with_addresses, with_region, with_slots, with_two_regions};
 ghost use Rattle.sbx_flat.specs.Invariants.{IsInvariant};
 ghost use Rattle.sbx_flat.specs.Locations.{location_in};
 ghost use Rattle.sbx_flat.specs.Memory.{with_number};
@@ -53,9 +55,9 @@ pub fn states_go_on_or_are_wrong()
 /// Each state that a run reaches is well-formed: registers, slots, Y and the exit word are words, the data, the input and the output bytes,
 /// PC and nPC multiples of 4, and the open calls have 64 bytes each on the stack, one below the other, with their slots between them.
 pub fn states_stay_well_formed()
-    ensures starts { (parts : Parts) (input : List ℕ) (s : State) → 1 ≤ parts.stack_pages → AreBytes parts.bytes → AreBytes input → IsStart parts input s → IsWellFormed parts.stack_pages s }
+    ensures starts { (parts : Parts) (input : List ℕ) (s : State) → 1 ≤ parts.stack_pages → AllByRecursion IsTypedRegion parts.regions → AreBytes input → IsStart parts input s → IsWellFormed parts.stack_pages s }
     ensures steps { (parts : Parts) (s next : State) → IsWellFormed parts.stack_pages s → Step parts s next → IsWellFormed parts.stack_pages next }
-    ensures runs { (parts : Parts) (input : List ℕ) (path : List Place) (s : State) → 1 ≤ parts.stack_pages → AreBytes parts.bytes → AreBytes input → FlatRun parts input path s → IsWellFormed parts.stack_pages s }
+    ensures runs { (parts : Parts) (input : List ℕ) (path : List Place) (s : State) → 1 ≤ parts.stack_pages → AllByRecursion IsTypedRegion parts.regions → AreBytes input → FlatRun parts input path s → IsWellFormed parts.stack_pages s }
 {}
 
 /// An invariant of two runs makes an image safe, whichever relation it is; and it holds of the states that two runs over one input reach
@@ -94,18 +96,23 @@ pub fn three_calls_overflow_four_windows()
     ensures { (parts : Parts) → traffic (record parts { words = save_and_restore }) 4 (at_save ∷ at_save ∷ at_save ∷ at_restore ∷ at_restore ∷ at_restore ∷ []) ≡ record { windows = 1; overflows = 1; underflows = 1; turns = 54 } }
 {}
 
-/// Two words are on the first page of the code alone, and eight bytes on the first of the data; two stack pages are the last below
-/// the stack's end.
+/// Two words are on the first page of the code alone, and eight bytes of a region on the first of the data, which is one for stores
+/// only where the region may be written; a second region is on the next page. Two stack pages are the last below the stack's end.
 pub fn pages_are_own_to_their_bounds()
     ensures code { (parts : Parts) → is_own_code_page (record parts { words = save_and_restore }) 0x40 ≡ true }
     ensures before_code { (parts : Parts) → is_own_code_page parts 0x3F ≡ false }
     ensures after_code { (parts : Parts) → is_own_code_page (record parts { words = save_and_restore }) 0x41 ≡ false }
-    ensures data { (parts : Parts) → is_own_data_page (record parts { bytes = 0 ∷ 0 ∷ 0 ∷ 0 ∷ 0 ∷ 0 ∷ 0 ∷ 0 ∷ []; stack_pages = 2 }) 0x80 ≡ true }
-    ensures after_data { (parts : Parts) → is_own_data_page (record parts { bytes = 0 ∷ 0 ∷ 0 ∷ 0 ∷ 0 ∷ 0 ∷ 0 ∷ 0 ∷ []; stack_pages = 2 }) 0x81 ≡ false }
-    ensures before_stack { (parts : Parts) → is_own_data_page (record parts { bytes = []; stack_pages = 2 }) 0xFD ≡ false }
-    ensures stack { (parts : Parts) → is_own_data_page (record parts { bytes = []; stack_pages = 2 }) 0xFE ≡ true }
-    ensures last { (parts : Parts) → is_own_data_page (record parts { bytes = []; stack_pages = 2 }) 0xFF ≡ true }
-    ensures after_stack { (parts : Parts) → is_own_data_page (record parts { bytes = []; stack_pages = 2 }) 0x100 ≡ false }
+    ensures data { (parts : Parts) → is_own_data_page (with_region true 8 parts) true 0x80 ≡ true }
+    ensures after_data { (parts : Parts) → is_own_data_page (record (with_region true 8 parts) { stack_pages = 2 }) false 0x81 ≡ false }
+    ensures loaded { (parts : Parts) → is_own_data_page (with_region false 8 parts) false 0x80 ≡ true }
+    ensures not_stored { (parts : Parts) → is_own_data_page (record (with_region false 8 parts) { stack_pages = 2 }) true 0x80 ≡ false }
+    ensures second { (parts : Parts) → is_own_data_page (with_two_regions parts) true 0x81 ≡ true }
+    ensures first_not_stored { (parts : Parts) → is_own_data_page (record (with_two_regions parts) { stack_pages = 2 }) true 0x80 ≡ false }
+    ensures after_second { (parts : Parts) → is_own_data_page (record (with_two_regions parts) { stack_pages = 2 }) false 0x82 ≡ false }
+    ensures before_stack { (parts : Parts) → is_own_data_page (record parts { regions = []; stack_pages = 2 }) false 0xFD ≡ false }
+    ensures stack { (parts : Parts) → is_own_data_page (record parts { regions = []; stack_pages = 2 }) true 0xFE ≡ true }
+    ensures last { (parts : Parts) → is_own_data_page (record parts { regions = []; stack_pages = 2 }) true 0xFF ≡ true }
+    ensures after_stack { (parts : Parts) → is_own_data_page (record parts { regions = []; stack_pages = 2 }) false 0x100 ≡ false }
 {}
 
 /// SAVE opens a frame: `save %sp,-96,%sp` with %sp at 000FFFC0. The same with -56, -100 and, of one stack page, -4040: less than 64
@@ -138,7 +145,7 @@ pub fn restore_goes_back()
 {}
 
 /// LD and ST of a slot: `ld [%sp+64],%o0` and `st %o1,[%sp+64]` with %sp at 000FFF60. A byte of a slot is out of reach.
-#[tactic(auto, unfolding(crate::specs::Turns::turn, crate::specs::Turns::word_at, crate::specs::States::reg, crate::specs::Registers::written, v8_formats::specs::Table::meaning, v8_meaning::specs::Operations::operation_of, v8_meaning::specs::Admitted::is_admitted))]
+#[tactic(auto, unfolding(crate::specs::Turns::turn, crate::specs::Turns::word_at, crate::specs::States::reg, crate::specs::Registers::written, sbx_parts::specs::Regions::holds, v8_formats::specs::Table::meaning, v8_meaning::specs::Operations::operation_of, v8_meaning::specs::Admitted::is_admitted))]
 pub fn slots_hold_words()
     ensures loads { (parts : Parts) (fresh : Fresh) (s : State) → step_of 0xD003A040 parts fresh (with_slots (λ a. Some a) (based 0xFFF60 s)) ≡ Goes (at_second (with_reg 8 0xFFFA0 (with_slots (λ a. Some a) (based 0xFFF60 s)))) }
     ensures stores { (parts : Parts) (fresh : Fresh) (s : State) → step_of 0xD223A040 parts fresh (with_slots (λ a. Some a) (based 0xFFF60 s)) ≡ Goes (at_second (with_slots (λ a. if a == 0xFFFA0 then Some 0xFFF60 else Some a) (based 0xFFF60 s))) }
@@ -146,27 +153,37 @@ pub fn slots_hold_words()
     ensures byte { (parts : Parts) (fresh : Fresh) (s : State) → step_of 0xD22BA040 parts fresh (record (with_slots (λ a. Some a) (based 0xFFF60 s)) { memory = λ a. None }) ≡ Fails OutsideData }
 {}
 
-/// Loads take bytes in big-endian order, at a multiple of their size, and only where bytes are: `lduh [4]`, `lduh [5]`, `ldsb [128]`,
-/// `ld [8]`, `ldd [8]` and `ldd [4]`, all into %o0, from memory whose every byte is its address.
-#[tactic(auto, unfolding(crate::specs::Turns::turn, crate::specs::Turns::word_at, crate::specs::States::reg, crate::specs::Registers::written, v8_formats::specs::Table::meaning, v8_meaning::specs::Operations::operation_of, v8_meaning::specs::Admitted::is_admitted))]
+/// Loads take bytes in big-endian order, at a multiple of their size, and only where they all lie in one region, whether or not it may
+/// be written: `lduh [%l0+4]`, `ldsb [%l0+128]`, `ld [%l0+8]` and `ldd [%l0+8]`, all into %o0, with %l0 at the start of the data, of
+/// regions of 136, 16 and 15 bytes; `lduh [5]` and `ldd [4]`. Every byte is its address.
+#[tactic(auto, unfolding(crate::specs::Turns::turn, crate::specs::Turns::word_at, crate::specs::States::reg, crate::specs::Registers::written, sbx_parts::specs::Regions::holds, v8_formats::specs::Table::meaning, v8_meaning::specs::Operations::operation_of, v8_meaning::specs::Admitted::is_admitted))]
 pub fn loads_are_big_endian()
-    ensures half { (parts : Parts) (fresh : Fresh) (s : State) → step_of 0xD0102004 parts fresh (with_addresses s) ≡ Goes (at_second (with_reg 8 0x0405 (with_addresses s))) }
-    ensures signed { (parts : Parts) (fresh : Fresh) (s : State) → step_of 0xD0482080 parts fresh (with_addresses s) ≡ Goes (at_second (with_reg 8 0xFFFFFF80 (with_addresses s))) }
-    ensures word { (parts : Parts) (fresh : Fresh) (s : State) → step_of 0xD0002008 parts fresh (with_slots (λ a. None) (with_addresses s)) ≡ Goes (at_second (with_reg 8 0x08090A0B (with_slots (λ a. None) (with_addresses s)))) }
-    ensures double { (parts : Parts) (fresh : Fresh) (s : State) → step_of 0xD0182008 parts fresh (with_addresses s) ≡ Goes (at_second (with_reg 8 0x08090A0B (with_reg 9 0x0C0D0E0F (with_addresses s)))) }
+    ensures half { (parts : Parts) (writable : Bool) (fresh : Fresh) (s : State) → step_of 0xD0142004 (with_region writable 136 parts) fresh (with_addresses s) ≡ Goes (at_second (with_reg 8 0x0405 (with_addresses s))) }
+    ensures signed { (parts : Parts) (writable : Bool) (fresh : Fresh) (s : State) → step_of 0xD04C2080 (with_region writable 136 parts) fresh (with_addresses s) ≡ Goes (at_second (with_reg 8 0xFFFFFF80 (with_addresses s))) }
+    ensures word { (parts : Parts) (writable : Bool) (fresh : Fresh) (s : State) → step_of 0xD0042008 (with_region writable 136 parts) fresh (with_slots (λ a. None) (with_addresses s)) ≡ Goes (at_second (with_reg 8 0x08090A0B (with_slots (λ a. None) (with_addresses s)))) }
+    ensures double { (parts : Parts) (writable : Bool) (fresh : Fresh) (s : State) → step_of 0xD01C2008 (with_region writable 136 parts) fresh (with_addresses s) ≡ Goes (at_second (with_reg 8 0x08090A0B (with_reg 9 0x0C0D0E0F (with_addresses s)))) }
     ensures misaligned { (parts : Parts) (fresh : Fresh) (s : State) → step_of 0xD0102005 parts fresh s ≡ Fails Misaligned }
     ensures double_misaligned { (parts : Parts) (fresh : Fresh) (s : State) → step_of 0xD0182004 parts fresh s ≡ Fails Misaligned }
-    ensures outside { (parts : Parts) (fresh : Fresh) (s : State) → step_of 0xD0102004 parts fresh (record s { memory = λ a. None }) ≡ Fails OutsideData }
+    ensures last { (parts : Parts) (writable : Bool) (fresh : Fresh) (s : State) → step_of 0xD01C2008 (with_region writable 16 parts) fresh (with_addresses s) ≡ Goes (at_second (with_reg 8 0x08090A0B (with_reg 9 0x0C0D0E0F (with_addresses s)))) }
+    ensures past { (parts : Parts) (writable : Bool) (fresh : Fresh) (s : State) → step_of 0xD01C2008 (with_region writable 15 parts) fresh (with_addresses s) ≡ Fails OutsideData }
+    ensures before { (parts : Parts) (writable : Bool) (fresh : Fresh) (s : State) → step_of 0xD0143FFE (with_region writable 136 parts) fresh (with_addresses s) ≡ Fails OutsideData }
+    ensures no_region { (parts : Parts) (fresh : Fresh) (s : State) → step_of 0xD0142004 (record parts { regions = [] }) fresh (with_addresses s) ≡ Fails OutsideData }
+    ensures no_bytes { (parts : Parts) (fresh : Fresh) (s : State) → step_of 0xD0102004 parts fresh (record s { memory = λ a. None }) ≡ Fails OutsideData }
 {}
 
-/// Stores, and the two accesses that load and store: `stb %o1,[5]`, `std %o0,[8]`, `ldstub [5],%o0`, `swap [8],%o0` and `swap [5],%o0`.
-#[tactic(auto, unfolding(crate::specs::Turns::turn, crate::specs::Turns::word_at, crate::specs::States::reg, crate::specs::Registers::written, v8_formats::specs::Table::meaning, v8_meaning::specs::Operations::operation_of, v8_meaning::specs::Admitted::is_admitted))]
+/// Stores, and the two accesses that load and store, reach only a region that may be written: `stb %o1,[%l0+5]`, `std %o0,[%l0+8]`,
+/// `ldstub [%l0+5],%o0` and `swap [%l0+8],%o0`, with %l0 at the start of the data, of a region of 16 bytes; and `swap [5],%o0`.
+#[tactic(auto, unfolding(crate::specs::Turns::turn, crate::specs::Turns::word_at, crate::specs::States::reg, crate::specs::Registers::written, sbx_parts::specs::Regions::holds, v8_formats::specs::Table::meaning, v8_meaning::specs::Operations::operation_of, v8_meaning::specs::Admitted::is_admitted))]
 pub fn stores_are_big_endian()
-    ensures byte { (parts : Parts) (fresh : Fresh) (s : State) → step_of 0xD2282005 parts fresh (with_addresses s) ≡ Goes (at_second (record s { memory = with_number (with_addresses s).memory 5 1 (reg s 9 % 2 ^ 8) })) }
-    ensures double { (parts : Parts) (fresh : Fresh) (s : State) → step_of 0xD0382008 parts fresh (with_addresses s) ≡ Goes (at_second (record s { memory = with_number (with_addresses s).memory 8 8 (reg s 8 * 2 ^ 32 + reg s 9) })) }
-    ensures load_store { (parts : Parts) (fresh : Fresh) (s : State) → step_of 0xD0682005 parts fresh (with_addresses s) ≡ Goes (at_second (with_reg 8 5 (record s { memory = with_number (with_addresses s).memory 5 1 0xFF }))) }
-    ensures swap { (parts : Parts) (fresh : Fresh) (s : State) → step_of 0xD0782008 parts fresh (with_addresses s) ≡ Goes (at_second (with_reg 8 0x08090A0B (record s { memory = with_number (with_addresses s).memory 8 4 (reg s 8) }))) }
+    ensures byte { (parts : Parts) (fresh : Fresh) (s : State) → step_of 0xD22C2005 (with_region true 16 parts) fresh (with_addresses s) ≡ Goes (at_second (record (with_addresses s) { memory = with_number (with_addresses s).memory 0x80005 1 (reg s 9 % 2 ^ 8) })) }
+    ensures double { (parts : Parts) (fresh : Fresh) (s : State) → step_of 0xD03C2008 (with_region true 16 parts) fresh (with_addresses s) ≡ Goes (at_second (record (with_addresses s) { memory = with_number (with_addresses s).memory 0x80008 8 (reg s 8 * 2 ^ 32 + reg s 9) })) }
+    ensures load_store { (parts : Parts) (fresh : Fresh) (s : State) → step_of 0xD06C2005 (with_region true 16 parts) fresh (with_addresses s) ≡ Goes (at_second (with_reg 8 5 (record (with_addresses s) { memory = with_number (with_addresses s).memory 0x80005 1 0xFF }))) }
+    ensures swap { (parts : Parts) (fresh : Fresh) (s : State) → step_of 0xD07C2008 (with_region true 16 parts) fresh (with_addresses s) ≡ Goes (at_second (with_reg 8 0x08090A0B (record (with_addresses s) { memory = with_number (with_addresses s).memory 0x80008 4 (reg s 8) }))) }
     ensures misaligned { (parts : Parts) (fresh : Fresh) (s : State) → step_of 0xD0782005 parts fresh s ≡ Fails Misaligned }
+    ensures read_only_byte { (parts : Parts) (fresh : Fresh) (s : State) → step_of 0xD22C2005 (with_region false 16 parts) fresh (with_addresses s) ≡ Fails OutsideData }
+    ensures read_only_double { (parts : Parts) (fresh : Fresh) (s : State) → step_of 0xD03C2008 (with_region false 16 parts) fresh (with_addresses s) ≡ Fails OutsideData }
+    ensures read_only_load_store { (parts : Parts) (fresh : Fresh) (s : State) → step_of 0xD06C2005 (with_region false 16 parts) fresh (with_addresses s) ≡ Fails OutsideData }
+    ensures read_only_swap { (parts : Parts) (fresh : Fresh) (s : State) → step_of 0xD07C2008 (with_region false 16 parts) fresh (with_addresses s) ≡ Fails OutsideData }
     ensures high { (bytes : ℕ → Option ℕ) → with_number bytes 8 4 0x01020304 8 ≡ Some 1 }
     ensures low { (bytes : ℕ → Option ℕ) → with_number bytes 8 4 0x01020304 11 ≡ Some 4 }
     ensures past { (bytes : ℕ → Option ℕ) → with_number bytes 8 4 0x01020304 12 ≡ bytes 12 }

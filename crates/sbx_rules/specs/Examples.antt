@@ -14,7 +14,7 @@ use Rattle.sbx_rules.specs.Verdicts.{Checked, IsFirst}
 
 -- all services, no data and one page of stack
 abbrev pub image_of : List ℕ → List Function → Parts
-image_of words functions = record { services = record { 0 = 7 }; words = words; bytes = []; stack_pages = 1; functions = functions }
+image_of words functions = record { version = 1; services = record { 0 = 7 }; words = words; regions = []; stack_pages = 1; functions = functions }
 
 -- a block without cells and terms
 abbrev pub bare_block : ℕ → ℤ → Block

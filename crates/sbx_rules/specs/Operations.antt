@@ -14,7 +14,7 @@ use Rattle.v8_meaning.specs.declared.operation.Transfer.{Transfer as Moving}
 use Rattle.v8_meaning.specs.declared.operation.Transfer.TheVariants.{Load, Store, Exchange}
 use Rattle.v8_meaning.specs.Admitted.{is_ret}
 use Rattle.v8_meaning.specs.Operands.{is_always}
-use Rattle.v8_meaning.specs.Transfers.{bytes_in, odd_of, size_of}
+use Rattle.v8_meaning.specs.Transfers.{bytes_in, odd_of, size_of, writes_memory}
 use Rattle.sbx_image.specs.Function.{Function}
 use Rattle.sbx_image.specs.Kind.{Kind}
 use Rattle.sbx_image.specs.Kind.TheVariants.{Leaf, Framed}
@@ -174,15 +174,17 @@ reads_y _ = false
 
 -- ---- bytes reached
 
--- so many bytes, at an offset from %sp where it is a frame word's form, else at an address of a range
+-- so many bytes, at an offset from %sp where it is a frame word's form, else at an address of a range; and whether it writes them
 pub record Access : Type 0 where
   pub size : ℕ
+  pub writes : Bool
   pub offset : Option ℤ
   pub range : Option Range
 
 unfoldable pub access_of : Function → Operation → Known → Option Access
 access_of function (Transfer t m) d = Some (record {
   size = bytes_in (size_of t);
+  writes = writes_memory t;
   offset = frame_offset function t m;
   range = address_of (register_entry d m.rs1) (operand_entry d m.operand2);
 })

@@ -19,9 +19,9 @@ use Rattle.sbx_image.specs.Kind.{Kind}
 use Rattle.sbx_image.specs.Kind.TheVariants.{Leaf, Framed}
 use Rattle.sbx_image.specs.Parts.{Parts}
 use Rattle.sbx_image.specs.Range.{Range}
+use Rattle.sbx_image.specs.Regions.{holds}
 use Rattle.sbx_image.specs.Services.{Services}
 use Rattle.sbx_domain.specs.Effects.{declares}
-use Rattle.sbx_domain.specs.Runs.{data_start}
 use Rattle.sbx_form.specs.Ranges.{is_within}
 use Rattle.sbx_form.specs.Table.{tagged_fits}
 use Rattle.sbx_domain.specs.declared.entry.Entry.{Entry}
@@ -114,13 +114,14 @@ is_aligned_access (Some a) = is_aligned_at a.offset a
 abbrev pub is_in_frame : ℕ → ℤ → Bool
 is_in_frame frame offset = not (int_lt offset (pos 64)) && not (int_lt (pos frame) (offset +ℤ pos 4))
 
-abbrev pub is_in_data : Parts → ℕ → Option Range → Bool
-is_in_data parts size None = false
-is_in_data parts size (Some r) = not (int_lt r.lo (pos data_start)) && not (int_lt (pos (data_start + length parts.bytes)) (r.hi +ℤ pos size))
+-- so many bytes from each address of the range lie in one region of the data, the same for all, which may be written if they are written
+abbrev pub is_in_data : Parts → ℕ → Bool → Option Range → Bool
+is_in_data parts size writes None = false
+is_in_data parts size writes (Some r) = holds parts.regions r.lo (r.hi +ℤ pos size) writes
 
 abbrev pub is_placed_at : Parts → ℕ → Option ℤ → Access → Bool
 is_placed_at parts frame (Some offset) a = is_in_frame frame offset
-is_placed_at parts frame None a = is_in_data parts a.size a.range
+is_placed_at parts frame None a = is_in_data parts a.size a.writes a.range
 
 abbrev pub is_placed_access : Parts → ℕ → Option Access → Bool
 is_placed_access parts frame None = true
@@ -280,7 +281,8 @@ module _ (parts : Parts) (f b i : ℕ) where
   abbrev pub MayBeMisaligned : Type 0
   MayBeMisaligned = IsTrue (runs_with (λ d. not (is_aligned_access (access_of function op d))) visits)
 
-  -- V9: an access isn't shown to lie in the image's data bytes, or, by %sp or %fp and an immediate, in the frame's words.
+  -- V9: an access isn't shown to lie in one region of the image's data, of a store one that may be written, or, by %sp or %fp and an
+  -- immediate, in the frame's words.
   abbrev pub MayBeOutside : Type 0
   MayBeOutside = IsTrue (runs_with (λ d. not (is_placed_access parts function.frame (access_of function op d))) visits)
 

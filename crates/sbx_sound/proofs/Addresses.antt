@@ -1,5 +1,5 @@
 -- Where an access reaches, by what is known: bytes of the data, or a word of the frame.
-use Rattle.std.proofs.Common.{◌≡◌, ℕ, ◌+◌, ◌-◌, ◌*◌, ◌/◌, ◌%◌, ◌^◌, ◌<◌, ◌≤◌, ℤ, Bool, true, false, length, Option, Some, None, ap, ◌∙◌, subst, inl, inr, arith}
+use Rattle.std.proofs.Common.{◌≡◌, ℕ, ◌+◌, ◌-◌, ◌*◌, ◌/◌, ◌%◌, ◌^◌, ◌<◌, ◌≤◌, ℤ, Bool, true, false, List, Option, Some, None, ap, ◌∙◌, subst, inl, inr, arith}
 use Rattle.std.specs.Prelude.{◌⊎◌, pos, negsuc, ◌+ℤ◌, ◌≤ℤ◌, int_lt, ◌&&◌, not, nat_le, if◌then◌else◌}
 use Rattle.std.proofs.lemmas.Bool.Decides.{nat_tests}
 use Rattle.std.proofs.lemmas.Int.{ints}
@@ -13,7 +13,9 @@ use Rattle.v8_meaning.specs.Operands.{sum_address}
 use Rattle.v8_meaning.specs.Transfers.{bytes_in}
 use Rattle.sbx_image.specs.Parts.{Parts}
 use Rattle.sbx_image.specs.Range.{Range}
-use Rattle.sbx_flat.specs.Runs.{data_start}
+use Rattle.sbx_image.specs.Region.{Region}
+use Rattle.sbx_image.specs.Regions.{data_start, holds, in_one_region}
+use Rattle.sbx_image.proofs.Within.{held_bounds, held_part}
 use Rattle.sbx_form.specs.Forms.{Cells}
 use Rattle.sbx_range.specs.Ranges.{InInterval}
 use Rattle.sbx_range.specs.Table.{range_of_address}
@@ -34,24 +36,21 @@ not_less x y h = grind (arith, ints)
 
 -- ---- the data
 
--- bytes within the data, from a multiple of their number on
-pub record IsInData (count a size : ℕ) : Type 0 where
-  pub from : data_start ≤ a
-  pub to : a + size ≤ data_start + count
+-- bytes in one region of the data, which may be written if they are written, from a multiple of their number on
+pub record IsInData (regions : List Region) (a size : ℕ) (writes : Bool) : Type 0 where
+  pub lies : in_one_region regions a size writes ≡ true
   pub multiple : a % size ≡ 0
 
-in_bounds : (count size z : ℕ) (r : Range) → z < 2 ^ 32 → InInterval r z → (not (int_lt r.lo (pos data_start)) && not (int_lt (pos (data_start + count)) (r.hi +ℤ pos size))) ≡ true
-    → (data_start ≤ z) × (z + size ≤ data_start + count)
-in_bounds count size z r small inside h =
-    let both = both_true (not (int_lt r.lo (pos data_start))) (not (int_lt (pos (data_start + count)) (r.hi +ℤ pos size))) h in
-    let low = not_less r.lo (pos data_start) both.0 in
-    let high = not_less (pos (data_start + count)) (r.hi +ℤ pos size) both.1 in
-    by_sign low high inside.low inside.high (signed-word z small)
+-- each word of a range that a region holds is an address there
+in_bounds : (regions : List Region) (size z : ℕ) (writes : Bool) (r : Range) → z < 2 ^ 32 → InInterval r z → holds regions r.lo (r.hi +ℤ pos size) writes ≡ true → in_one_region regions z size writes ≡ true
+in_bounds regions size z writes r small inside h =
+    let low = (held_bounds regions r.lo (r.hi +ℤ pos size) writes h).0 in
+    by_sign low inside.low inside.high (signed-word z small)
   where
-    by_sign : pos data_start ≤ℤ r.lo → (r.hi +ℤ pos size) ≤ℤ pos (data_start + count) → r.lo ≤ℤ signed z → signed z ≤ℤ r.hi
-        → ((signed z ≡ pos z) × (z < 2 ^ 31)) ⊎ (((signed z +ℤ pos (2 ^ 32)) ≡ pos z) × (2 ^ 31 ≤ z)) → (data_start ≤ z) × (z + size ≤ data_start + count)
-    by_sign low high l u (inl e) = (let same = e.0 in (omega (arith, ints), omega (arith, ints)))
-    by_sign low high l u (inr e) = absurd (let same = e.0 in omega (arith, ints))
+    by_sign : pos data_start ≤ℤ r.lo → r.lo ≤ℤ signed z → signed z ≤ℤ r.hi
+        → ((signed z ≡ pos z) × (z < 2 ^ 31)) ⊎ (((signed z +ℤ pos (2 ^ 32)) ≡ pos z) × (2 ^ 31 ≤ z)) → in_one_region regions z size writes ≡ true
+    by_sign low l u (inl e) = (let same = e.0 in held_part regions (pos z) (pos (z + size)) r.lo (r.hi +ℤ pos size) writes (omega (arith, ints)) (omega (arith, ints)) h)
+    by_sign low l u (inr e) = absurd (let same = e.0 in omega (arith, ints))
 
 at_most : (j k : ℕ) → nat_le j k ≡ true → j ≤ k
 at_most j k h = grind (arith, nat_tests)
@@ -69,17 +68,16 @@ sum_is : (x y : ℕ) → (outcome ops.Add x y no_codes 0).value ≡ sum_address 
 unfolding outcome
 sum_is x y = (let e : sum x y false ≡ sum_address x y = omega arith in e)
 
-pub lies_in_data : (start : Cells) (parts : Parts) (f : Size) (a b : Option Entry) (x y : ℕ) → x < 2 ^ 32 → y < 2 ^ 32 → Has start a x → Has start b y → HasAlignment (range_of_entry a) x → HasAlignment (range_of_entry b) y
-    → is_aligned_range (bytes_in f) (address_of a b) ≡ true → is_in_data parts (bytes_in f) (address_of a b) ≡ true → IsInData (length parts.bytes) (sum_address x y) (bytes_in f)
-lies_in_data start parts f None b x y p q r s u v aligned placed = absurd (cc)
-lies_in_data start parts f (Some a) None x y p q r s u v aligned placed = absurd (cc)
-lies_in_data start parts f (Some a) (Some b) x y p q r s u v aligned placed =
+pub lies_in_data : (start : Cells) (parts : Parts) (f : Size) (writes : Bool) (a b : Option Entry) (x y : ℕ) → x < 2 ^ 32 → y < 2 ^ 32 → Has start a x → Has start b y → HasAlignment (range_of_entry a) x → HasAlignment (range_of_entry b) y
+    → is_aligned_range (bytes_in f) (address_of a b) ≡ true → is_in_data parts (bytes_in f) writes (address_of a b) ≡ true → IsInData parts.regions (sum_address x y) (bytes_in f) writes
+lies_in_data start parts f writes None b x y p q r s u v aligned placed = absurd (cc)
+lies_in_data start parts f writes (Some a) None x y p q r s u v aligned placed = absurd (cc)
+lies_in_data start parts f writes (Some a) (Some b) x y p q r s u v aligned placed =
     let range = range_of_address a.range b.range in
     let z = sum_address x y in
     let inside : InInterval range z = subst (InInterval range) (sum_is x y) (in_range_of ops.Add a.range b.range x y no_codes 0 p q r.interval s.interval) in
     let multiple : z % 2 ^ range.alignment ≡ 0 = subst (λ w. w % 2 ^ range.alignment ≡ 0) (sum_is x y) (of_range_of ops.Add a.range b.range x y no_codes 0 p q r.interval s.interval u v) in
-    let bounds = in_bounds (length parts.bytes) (bytes_in f) z range (omega arith) inside placed in
-    record { from = bounds.0; to = bounds.1; multiple = is_multiple f range.alignment z aligned multiple }
+    record { lies = in_bounds parts.regions (bytes_in f) z writes range (omega arith) inside placed; multiple = is_multiple f range.alignment z aligned multiple }
 
 -- ---- the frame
 

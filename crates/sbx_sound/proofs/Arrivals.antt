@@ -173,7 +173,7 @@ module _ (parts : Parts) where
   pub after_plain : (w : ℕ) (k : Shared) (f b i : ℕ) (v : Visit) (start : Cells) (l : Left)
       → is_call (op_before parts f b i) ≡ false → is_return (op_before parts f b i) ≡ false → v.annulled ≡ false
       → bytes_of (function_at parts f) b i ≡ bytes_of (function_at parts f) b (suc i)
-      → Fits start (transferred (function_at parts f).frame (op_at parts f b i) v.known) l.words l.icc l.y → AreStored (length parts.bytes) l.memory l.input
+      → Fits start (transferred (function_at parts f).frame (op_at parts f b i) v.known) l.words l.icc l.y → AreStored parts.regions l.memory l.input
       → At parts w k f b i v start → After parts (w + weight_of (op_at parts f b i)) (left_by l k) f b i (transferred (function_at parts f).frame (op_at parts f b i) v.known) v.way start
   after_plain w k f b i v start l no_call no_return runs same fits stored a = record {
     pc = follows_plainly _ _ f b i v.way k.calls k.npc no_call no_return a.npc;

@@ -103,7 +103,7 @@ module _ (parts : Parts) (f b j g : ℕ) where
   comes_to false r calls way address p q h = absurd (cc)
 
   -- CALL and its slot: the callee begins, and the caller waits
-  pub enters : (w : ℕ) (k : Shared) (start : Cells) (left : Left) → (rules : CallsWell) → Fits start in_slot left.words left.icc left.y → AreStored (length parts.bytes) left.memory left.input → pos 0 ≤ℤ left_at parts f b (suc (suc j)) start
+  pub enters : (w : ℕ) (k : Shared) (start : Cells) (left : Left) → (rules : CallsWell) → Fits start in_slot left.words left.icc left.y → AreStored parts.regions left.memory left.input → pos 0 ≤ℤ left_at parts f b (suc (suc j)) start
       → At parts w k f b (suc j) (straight_visit parts f b (suc j)) start
       → At parts (w + weight_of (op_at parts f b (suc j))) (record (left_by left k) { calls = opened k start left.words ∷ k.calls }) g 0 0 (straight_visit parts g 0 0) (numbers left.words)
   unfolding state_at weight_to

@@ -1,6 +1,6 @@
 -- What loads, stores and exchanges of data do, by the rules.
 use Rattle.std.proofs.Common.{◌≡◌, ◌≢◌, ℕ, zero, suc, ◌+◌, ◌-◌, ◌*◌, ◌/◌, ◌%◌, ◌^◌, ◌<◌, ◌≤◌, Bool, true, false, List, [], ◌∷◌, ◌++◌, length, Option, Some, None, refl, sym, ap, ◌∙◌, subst, arith}
-use Rattle.std.specs.Prelude.{◌==◌, ◌&&◌, ◌||◌, not, nat_lt, nat_le, slice_get, if◌then◌else◌}
+use Rattle.std.specs.Prelude.{◌==◌, ◌&&◌, ◌||◌, not, nat_lt, nat_le, slice_get, slice_index, if◌then◌else◌}
 use Rattle.std.proofs.lemmas.Bool.Decides.{nat_tests}
 use Rattle.v8_word.specs.declared.Size.{Size}
 use Rattle.v8_word.specs.declared.Size.TheVariants as sizes
@@ -15,10 +15,12 @@ use Rattle.v8_meaning.specs.declared.operation.Operation.TheVariants.{Transfer}
 use Rattle.v8_meaning.specs.declared.operation.Transfer.{Transfer as Moving}
 use Rattle.v8_meaning.specs.declared.operation.Transfer.TheVariants.{Load, Store, Exchange}
 use Rattle.v8_meaning.specs.Operands.{second, sum_address}
-use Rattle.v8_meaning.specs.Transfers.{bytes_in, exchanged_size, filled, left_behind, loaded, odd_of, size_of, stored}
+use Rattle.v8_meaning.specs.Transfers.{bytes_in, exchanged_size, filled, left_behind, loaded, odd_of, size_of, stored, writes_memory}
 use Rattle.sbx_image.specs.Function.{Function}
 use Rattle.sbx_image.specs.Parts.{Parts}
 use Rattle.sbx_image.specs.Range.{Range}
+use Rattle.sbx_image.specs.Regions.{LiesInOne, data_start, laid, page_rights}
+use Rattle.sbx_image.proofs.Within.{reached}
 use Rattle.sbx_range.specs.Ranges.{all}
 use Rattle.sbx_flat.specs.Effects.{address_in, does, takes, transfers, transfers_data, writes}
 use Rattle.sbx_flat.specs.Memory.{byte_of, with_number}
@@ -41,7 +43,7 @@ use Rattle.sbx_sound.proofs.LowFields.{LowThree}
 use Rattle.sbx_sound.proofs.Running.{tests, window_of}
 use Rattle.sbx_sound.proofs.Shared.{KnownParts, Lent, Shared, Shows, Window, with_location}
 use Rattle.sbx_sound.proofs.Addresses.{IsInData, lies_in_data}
-use Rattle.sbx_sound.proofs.DataWords.{ReachesData, is_aligned, loads_data, number_same, stores_data}
+use Rattle.sbx_sound.proofs.DataWords.{ReachesData, finds, is_aligned, loads_data, stores_data}
 use Rattle.sbx_sound.proofs.Effects.{IsFewer, Reaches, moved_on, reaches_by, takes_one, with_word_known, writes_reach}
 use Rattle.sbx_sound.proofs.Frames.{IsFree, write_shows}
 use Rattle.sbx_sound.proofs.Moves.{operand_of, register_shown, second_read}
@@ -167,7 +169,7 @@ both true false p q = refl
 both a true p q = absurd (cc)
 both false b p q = absurd (cc)
 
-module _ (parts : Parts) (w : ℕ) (p : Spot parts w) (lent : window_of (function_at parts p.f) p.b p.i ≡ Lent → is_framed (function_at parts p.f).kind ≡ false) (small : length parts.bytes ≤ 0x40000) where
+module _ (parts : Parts) (w : ℕ) (p : Spot parts w) (lent : window_of (function_at parts p.f) p.b p.i ≡ Lent → is_framed (function_at parts p.f).kind ≡ false) (small : length (page_rights parts.regions) ≤ 64) where
   abbrev function : Function
   function = function_at parts p.f
 
@@ -187,7 +189,7 @@ module _ (parts : Parts) (w : ℕ) (p : Spot parts w) (lent : window_of (functio
     pub no_word : frame_word_of function.frame m ≡ None
     pub place : ℕ
     pub address : (s : State) → ShowsSpot parts w p s → address_in s m ≡ place
-    pub inside : IsInData (length parts.bytes) place (bytes_in (size_of t))
+    pub inside : IsInData parts.regions place (bytes_in (size_of t)) (writes_memory t)
     pub goes_out : (s : State) → ShowsSpot parts w p s → (n r : ℕ) → slice_get (moved_reads t m.rd) n ≡ Some r → reg s r ≡ p.k.words r
     pub comes_in : (n r : ℕ) → slice_get (moved_writes t m.rd) n ≡ Some r → r < 32 → IsFree window r × (15 ≢ r)
 
@@ -209,14 +211,14 @@ module _ (parts : Parts) (w : ℕ) (p : Spot parts w) (lent : window_of (functio
       let operand = operand_of m.operand2 low.operand_low in
       let a = register_entry d m.rs1 in
       let b = operand_entry d m.operand2 in
-      let access : Access = record { size = bytes_in (size_of t); offset = frame_offset function t m; range = address_of a b } in
+      let access : Access = record { size = bytes_in (size_of t); writes = writes_memory t; offset = frame_offset function t m; range = address_of a b } in
       record {
         is = is;
         rd_low = low.rd_low;
         no_word = ap (word_at_offset function.frame) (no_offset function.frame m.rs1 m.operand2 free);
         place = sum_address (p.k.words m.rs1) (second p.k.words m.operand2);
         address = λ s h. ap (λ x. sum_address x (second (reg s) m.operand2)) (first_is s h) ∙ ap (sum_address (p.k.words m.rs1)) (second_is s h);
-        inside = lies_in_data p.start parts (size_of t) a b (p.k.words m.rs1) (second p.k.words m.operand2) (near.are_words m.rs1) (operand_word p.k.words m.operand2 near.are_words operand)
+        inside = lies_in_data p.start parts (size_of t) (writes_memory t) a b (p.k.words m.rs1) (second p.k.words m.operand2) (near.are_words m.rs1) (operand_word p.k.words m.operand2 near.are_words operand)
             (register_has p.start d p.k.words p.k.icc p.k.y m.rs1 near) (operand_has p.start d p.k.words p.k.icc p.k.y m.operand2 near)
             (register_multiple p.start d p.k.words p.k.icc p.k.y m.rs1 p.at.fits) (operand_multiple p.start d p.k.words p.k.icc p.k.y m.operand2 p.at.fits)
             (sym (ap (λ x. is_aligned_at x access) by_address) ∙ aligned) (sym (ap (λ x. is_placed_at parts function.frame x access) by_address) ∙ placed);
@@ -226,12 +228,23 @@ module _ (parts : Parts) (w : ℕ) (p : Spot parts w) (lent : window_of (functio
       }
 
   module _ (t : Moving) (m : MemoryOperand) (access : AccessesData t m) where
+    some_bytes : (f : Size) → 0 < bytes_in f
+    some_bytes sizes.Byte = omega arith
+    some_bytes sizes.Half = omega arith
+    some_bytes sizes.Word = omega arith
+    some_bytes sizes.Double = omega arith
+
+    region : LiesInOne data_start parts.regions access.place (bytes_in (size_of t)) (writes_memory t)
+    region = reached parts.regions access.place (bytes_in (size_of t)) (writes_memory t) (some_bytes (size_of t)) access.inside.lies
+
     -- the number there
     pub there : IsThere p.k.memory access.place (bytes_in (size_of t))
-    there = number_is_there (length parts.bytes) p.k.memory p.k.input p.at.stored access.place (bytes_in (size_of t)) access.inside.from access.inside.to
+    there = number_is_there parts.regions p.k.memory p.k.input p.at.stored access.place (bytes_in (size_of t)) (λ i less. (slice_index (laid parts.regions) (access.place + i - data_start), region.bytes i less))
 
-    pub reaches_data : ReachesData parts w p m (bytes_in (size_of t)) access.place there.number
-    reaches_data = let to = access.inside.to in record { address = access.address; multiple = access.inside.multiple; below = omega (arith, to, small); number = there.is }
+    pub reaches_data : ReachesData parts w p t m access.place there.number
+    reaches_data =
+        let to = region.to in
+        record { address = access.address; multiple = access.inside.multiple; below = omega (arith, to, small); lies = access.inside.lies; number = there.is }
 
   -- ---- loads
 
@@ -298,9 +311,9 @@ module _ (parts : Parts) (w : ℕ) (p : Spot parts w) (lent : window_of (functio
         reached = Some a;
         reaches = λ s h. ap (λ o. reached_by o s) access.is ∙ ap (λ (x : ℕ). Some x) (access.address s h);
         goes = λ fresh s h.
-            (let number = number_same s.memory p.k.memory h.rest.memory a 8 ∙ (there t m access).is in
+            (let number = finds parts w p t m a n (reaches_data t m access) s h in
             let turn : does parts fresh (op_of parts w p) s ≡ writes rd high (with_reg odd low s) =
-            ap (λ o. does parts fresh o s) access.is ∙ ap (λ x. transfers t m x s) (access.address s h) ∙ is_aligned 8 a _ access.inside.multiple
+            ap (λ o. does parts fresh o s) access.is ∙ ap (λ x. transfers parts t m x s) (access.address s h) ∙ is_aligned 8 a _ access.inside.multiple
             ∙ ap (λ x. transfers_data t rd a x s) number ∙ takes_two window rd odd high low s free_odd.0 in
             subst (λ o. Reaches (does parts fresh (op_of parts w p) s) (Shows window (tests parts (then_knows parts w p o) (linked_at parts w p)) (moved_on (with_word_known rd high (with_word_known odd low p.k))))) (sym access.is)
             (reaches_by _ _ _ turn (writes_reach window mid after rd high (with_word_known odd low p.k) (with_reg odd low s) free.0 then_rd (written_shown window (tests parts d (linked_at parts w p)) mid odd low p.k s free_odd.0 first h))));
@@ -341,7 +354,7 @@ module _ (parts : Parts) (w : ℕ) (p : Spot parts w) (lent : window_of (functio
         free = free.0;
         apart = free.1;
         fits = fits_shown p.start (then_knows parts w p o) m.rd n p.k.words p.k.icc p.k.y (omega (arith, rd_low)) ((data_keeps_fitting.exchange function.frame e m d held n (there t m access).small).fits p.start p.at.fits);
-        stored = stored_after_store (length parts.bytes) a size left p.k.memory p.k.input p.at.stored;
+        stored = stored_after_store parts.regions a size left p.k.memory p.k.input p.at.stored;
         defined = entry_defined parts w p o m.rd entry refl;
         reached = Some a;
         reaches = λ s h. ap (λ (x : ℕ). Some x) (access.address s h);
@@ -353,7 +366,7 @@ module _ (parts : Parts) (w : ℕ) (p : Spot parts w) (lent : window_of (functio
         same_bytes = λ s h x. ap (λ y. if nat_le a x && nat_lt x (a + size) then Some (byte_of size (left_behind (reg s) e m.rd) (x - a)) else y) (h.rest.memory x)
             ∙ ap (λ y. with_number p.k.memory a size y x) (same_left e m.rd (reg s) p.k.words (access.goes_out s h));
         turn = λ fresh s h.
-            (let number = number_same s.memory p.k.memory h.rest.memory a size ∙ (there t m access).is in
-            ap (λ x. transfers t m x s) (access.address s h) ∙ is_aligned size a _ access.inside.multiple ∙ ap (λ x. transfers_data t m.rd a x s) number
+            (let number = finds parts w p t m a n (reaches_data t m access) s h in
+            ap (λ x. transfers parts t m x s) (access.address s h) ∙ is_aligned size a _ access.inside.multiple ∙ ap (λ x. transfers_data t m.rd a x s) number
             ∙ takes_one m.rd n (record s { memory = with_number s.memory a size (left_behind (reg s) e m.rd) }));
       })

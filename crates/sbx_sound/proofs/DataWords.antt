@@ -5,7 +5,7 @@ use Rattle.std.proofs.lemmas.Bool.Decides.{nat_tests}
 use Rattle.v8_formats.specs.declared.instr.Trap.{Trap}
 use Rattle.v8_word.specs.declared.Size.{Size}
 use Rattle.v8_word.specs.declared.Size.TheVariants as sizes
-use Rattle.v8_meaning.specs.Transfers.{bytes_in, filled, loaded, size_of, stored}
+use Rattle.v8_meaning.specs.Transfers.{bytes_in, filled, loaded, size_of, stored, writes_memory}
 use Rattle.v8_meaning.specs.declared.operation.Transfer.TheVariants as transfer
 use Rattle.v8_meaning.specs.declared.operation.Transfer.{Transfer as Moving}
 use Rattle.v8_meaning.specs.declared.operation.Loading.{Loading}
@@ -14,7 +14,8 @@ use Rattle.v8_meaning.specs.declared.operation.Operation.{Operation}
 use Rattle.v8_meaning.specs.declared.operation.Operation.TheVariants.{Transfer, TrapOnCondition}
 use Rattle.v8_meaning.specs.Operands.{following}
 use Rattle.sbx_image.specs.Parts.{Parts}
-use Rattle.sbx_flat.specs.Effects.{address_in, aligned, declares, does, gets, puts, served, serves, service_of, slot_of, takes, transfers, transfers_data, transfers_in, writes}
+use Rattle.sbx_image.specs.Regions.{in_one_region}
+use Rattle.sbx_flat.specs.Effects.{address_in, aligned, declares, does, found, gets, puts, served, serves, service_of, slot_of, takes, transfers, transfers_data, transfers_in, writes}
 use Rattle.sbx_flat.specs.Memory.{Bytes, byte_of, followed_by, number_at, with_number}
 use Rattle.sbx_flat.specs.Registers.{written}
 use Rattle.sbx_flat.specs.Runs.{AreBytes, reached_by}
@@ -74,15 +75,23 @@ module _ (parts : Parts) (w : ℕ) (p : Spot parts w) where
   abbrev after : Operation → KnownParts
   after o = tests parts (transferred frame o p.v.known) (linked_at parts w p)
 
-  -- What V8 and V9 say of an access to the data: its address, the same in every state, below the stack, and the number that lies there.
-  pub record ReachesData (m : MemoryOperand) (size a n : ℕ) : Type 0 where
+  -- What V8 and V9 say of an access to the data: its address, the same in every state, below the stack, in one region, and the number that
+  -- lies there.
+  pub record ReachesData (t : Moving) (m : MemoryOperand) (a n : ℕ) : Type 0 where
     pub address : (s : State) → ShowsSpot parts w p s → address_in s m ≡ a
-    pub multiple : a % size ≡ 0
+    pub multiple : a % bytes_in (size_of t) ≡ 0
     pub below : a < 0x000F0000
-    pub number : number_at p.k.memory a size ≡ Some n
+    pub lies : in_one_region parts.regions a (bytes_in (size_of t)) (writes_memory t) ≡ true
+    pub number : number_at p.k.memory a (bytes_in (size_of t)) ≡ Some n
+
+  -- the number is found in each state that shows it
+  pub finds : (t : Moving) (m : MemoryOperand) (a n : ℕ) → ReachesData t m a n → (s : State) → ShowsSpot parts w p s → found parts t a s.memory ≡ Some n
+  finds t m a n access s h =
+      ap (λ (b : Bool). if b then number_at s.memory a (bytes_in (size_of t)) else None) access.lies
+      ∙ number_same s.memory p.k.memory h.rest.memory a (bytes_in (size_of t)) ∙ access.number
 
   -- a load that fills one register
-  pub loads_data : (l : Loading) (m : MemoryOperand) (a n : ℕ) → op_of parts w p ≡ Transfer (transfer.Load l) m → ReachesData m (bytes_in (size_of (transfer.Load l))) a n → loaded l m.rd n ≡ (m.rd, filled l n) ∷ [] → IsFree window m.rd → 15 ≢ m.rd
+  pub loads_data : (l : Loading) (m : MemoryOperand) (a n : ℕ) → op_of parts w p ≡ Transfer (transfer.Load l) m → ReachesData (transfer.Load l) m a n → loaded l m.rd n ≡ (m.rd, filled l n) ∷ [] → IsFree window m.rd → 15 ≢ m.rd
       → Fits p.start (transferred frame (Transfer (transfer.Load l) m) p.v.known) (with_location m.rd (filled l n) p.k.words) p.k.icc p.k.y → IsFewer before (after (Transfer (transfer.Load l) m)) m.rd → Does parts w p
   loads_data l m a n is access one free apart fits fewer =
       let size = bytes_in (size_of (transfer.Load l)) in
@@ -97,16 +106,16 @@ module _ (parts : Parts) (w : ℕ) (p : Spot parts w) where
         reaches = λ s h. ap (λ o. reached_by o s) is ∙ ap Some (access.address s h);
         goes = λ fresh s h.
             (let none = no_slot (transfer.Load l) s a (h.file.below a access.below) in
-            let number = number_same s.memory p.k.memory h.rest.memory a size ∙ access.number in
+            let number = finds (transfer.Load l) m a n access s h in
             let turn : does parts fresh (op_of parts w p) s ≡ writes m.rd v s =
-            ap (λ o. does parts fresh o s) is ∙ ap (λ x. transfers (transfer.Load l) m x s) (access.address s h) ∙ is_aligned size a _ access.multiple
-            ∙ ap (λ x. transfers_in (transfer.Load l) m.rd a x s) none ∙ ap (λ x. transfers_data (transfer.Load l) m.rd a x s) number ∙ ap (λ x. takes x s) one ∙ takes_one m.rd v s in
+            ap (λ o. does parts fresh o s) is ∙ ap (λ x. transfers parts (transfer.Load l) m x s) (access.address s h) ∙ is_aligned size a _ access.multiple
+            ∙ ap (λ x. transfers_in parts (transfer.Load l) m.rd a x s) none ∙ ap (λ x. transfers_data (transfer.Load l) m.rd a x s) number ∙ ap (λ x. takes x s) one ∙ takes_one m.rd v s in
             subst (λ o. Reaches (does parts fresh (op_of parts w p) s) (Shows window (after o) (moved_on (with_word_known m.rd v p.k)))) (sym is)
             (reaches_by _ _ _ turn (writes_reach window before (after o) m.rd v p.k s free fewer h)));
       }
 
   -- a store of any size, by the number that goes out
-  pub stores_data : (f : Size) (m : MemoryOperand) (a n v : ℕ) → op_of parts w p ≡ Transfer (transfer.Store f) m → ReachesData m (bytes_in f) a n → ((s : State) → ShowsSpot parts w p s → stored (reg s) f m.rd ≡ v)
+  pub stores_data : (f : Size) (m : MemoryOperand) (a n v : ℕ) → op_of parts w p ≡ Transfer (transfer.Store f) m → ReachesData (transfer.Store f) m a n → ((s : State) → ShowsSpot parts w p s → stored (reg s) f m.rd ≡ v)
       → Fits p.start (transferred frame (Transfer (transfer.Store f) m) p.v.known) p.k.words p.k.icc p.k.y → IsFewer before (after (Transfer (transfer.Store f) m)) 0 → Does parts w p
   stores_data f m a n v is access value fits fewer =
       let size = bytes_in f in
@@ -116,16 +125,16 @@ module _ (parts : Parts) (w : ℕ) (p : Spot parts w) where
         left = record { words = p.k.words; icc = p.k.icc; y = p.k.y; memory = memory; input = p.k.input; output = p.k.output };
         fits = subst (λ o. Fits p.start (transferred frame o p.v.known) p.k.words p.k.icc p.k.y) (sym is) fits;
         link = refl;
-        stored = stored_after_store (length parts.bytes) a size v p.k.memory p.k.input p.at.stored;
+        stored = stored_after_store parts.regions a size v p.k.memory p.k.input p.at.stored;
         reached = Some a;
         reaches = λ s h. ap (λ o. reached_by o s) is ∙ ap Some (access.address s h);
         goes = λ fresh s h.
             (let none = no_slot (transfer.Store f) s a (h.file.below a access.below) in
-            let number = number_same s.memory p.k.memory h.rest.memory a size ∙ access.number in
+            let number = finds (transfer.Store f) m a n access s h in
             let made = with_number s.memory a size v in
             let turn : does parts fresh (op_of parts w p) s ≡ Goes (advanced (record s { memory = made })) =
-            ap (λ o. does parts fresh o s) is ∙ ap (λ x. transfers (transfer.Store f) m x s) (access.address s h) ∙ is_aligned size a _ access.multiple
-            ∙ ap (λ x. transfers_in (transfer.Store f) m.rd a x s) none ∙ ap (λ x. transfers_data (transfer.Store f) m.rd a x s) number
+            ap (λ o. does parts fresh o s) is ∙ ap (λ x. transfers parts (transfer.Store f) m x s) (access.address s h) ∙ is_aligned size a _ access.multiple
+            ∙ ap (λ x. transfers_in parts (transfer.Store f) m.rd a x s) none ∙ ap (λ x. transfers_data (transfer.Store f) m.rd a x s) number
             ∙ ap (λ x. Goes (advanced (record s { memory = with_number s.memory a size x }))) (value s h) in
             subst (λ o. Reaches (does parts fresh (op_of parts w p) s) (Shows window (after o) (moved_on (record p.k { memory = memory })))) (sym is)
             (record { next = advanced (record s { memory = made }); goes = turn; is = with_memory_shown window before (after o) p.k s made memory (λ x. ap (λ y. if nat_le a x && nat_lt x (a + size) then Some (byte_of size v (x - a)) else y) (h.rest.memory x)) fewer h }));

@@ -6,6 +6,7 @@ use Rattle.v8_formats.specs.declared.instr.Trap.{Trap}
 use Rattle.v8_meaning.specs.declared.operation.Operation.{Operation}
 use Rattle.v8_meaning.specs.declared.operation.Operation.TheVariants.{BranchOnCondition, Call, JumpAndLink, Restore, Save, TrapOnCondition}
 use Rattle.sbx_image.specs.Parts.{Parts}
+use Rattle.sbx_image.specs.Regions.{page_rights}
 use Rattle.sbx_flat.specs.Effects.{service_of}
 use Rattle.sbx_form.specs.Forms.{Cells}
 use Rattle.sbx_rules.specs.Operations.{is_call, is_framed, is_framed_return, is_restore, is_return, is_save, is_transfer}
@@ -40,7 +41,7 @@ exit_is (Some n) h = let e : n ≡ 0 = grind (arith, nat_tests) in ap (λ (x : �
 at_zero : (n : ℕ) → (n == 0) ≡ true → n ≡ 0
 at_zero n h = grind (arith, nat_tests)
 
-module _ (parts : Parts) (checked : Checked parts) (ordered : IsOrdered parts) (pages : parts.stack_pages ≤ 16) (small : length parts.bytes ≤ 0x40000) (few : (g : ℕ) → length (function_at parts g).results ≤ 6) where
+module _ (parts : Parts) (checked : Checked parts) (ordered : IsOrdered parts) (pages : parts.stack_pages ≤ 16) (small : length (page_rights parts.regions) ≤ 64) (few : (g : ℕ) → length (function_at parts g).results ≤ 6) where
   pub plain_words_do : PlainWordsDo parts
   plain_words_do w p runs plain no_save no_restore =
       does_at parts checked ordered pages small w p runs plain.no_transfer no_save no_restore plain.runs_on

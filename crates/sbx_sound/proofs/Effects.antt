@@ -103,14 +103,14 @@ pub takes_one : (n v : ℕ) (s : State) → takes ((n, v) ∷ []) s ≡ writes n
 takes_one n v s = ap (λ (t : Bool). if t then Fails StackPointer else Goes (advanced (with_reg n v s))) (or_nothing (n == 14) (n == 30))
 
 -- LD of a frame word: the register takes the word
-pub load_reaches : (size : ℕ) (known now : KnownParts) (j rd : ℕ) (k : Shared) (s : State) → 4 * j + 68 ≤ size → k.base % 8 ≡ 0 → known.location (32 + j) ≡ true → IsFree (Own size) rd → IsFewer known now rd → Shows (Own size) known k s
-    → (m : MemoryOperand) → m.rd ≡ rd → Reaches (transfers (transfer.Load loadings.Word) m (k.base + 64 + 4 * j) s) (Shows (Own size) now (moved_on (with_word_known rd (k.words (32 + j)) k)))
-load_reaches size known now j rd k s within eight is_known free fewer shows m same =
+pub load_reaches : (parts : Parts) (size : ℕ) (known now : KnownParts) (j rd : ℕ) (k : Shared) (s : State) → 4 * j + 68 ≤ size → k.base % 8 ≡ 0 → known.location (32 + j) ≡ true → IsFree (Own size) rd → IsFewer known now rd → Shows (Own size) known k s
+    → (m : MemoryOperand) → m.rd ≡ rd → Reaches (transfers parts (transfer.Load loadings.Word) m (k.base + 64 + 4 * j) s) (Shows (Own size) now (moved_on (with_word_known rd (k.words (32 + j)) k)))
+load_reaches parts size known now j rd k s within eight is_known free fewer shows m same =
     let a = k.base + 64 + 4 * j in
     let there : s.registers.newest.slots a ≡ Some (slot_word k.base s.registers.newest j) = shows.file.slots j within in
     let is : slot_word k.base s.registers.newest j ≡ k.words (32 + j) = at_slot k.base s.registers j (k.words (32 + j)) (shows.file.words_are (32 + j) is_known) in
     reaches_by _ (writes rd (k.words (32 + j)) s) _
-    (on_four k.base j eight _ ∙ ap (λ x. transfers_in (transfer.Load loadings.Word) m.rd a x s) (there ∙ ap Some is) ∙ takes_one m.rd (k.words (32 + j)) s ∙ ap (λ r. writes r (k.words (32 + j)) s) same)
+    (on_four k.base j eight _ ∙ ap (λ x. transfers_in parts (transfer.Load loadings.Word) m.rd a x s) (there ∙ ap Some is) ∙ takes_one m.rd (k.words (32 + j)) s ∙ ap (λ r. writes r (k.words (32 + j)) s) same)
     (writes_reach (Own size) known now rd (k.words (32 + j)) k s free fewer shows)
   where
     on_four : (base j : ℕ) → base % 8 ≡ 0 → (t : Turn) → aligned 4 (base + 64 + 4 * j) t ≡ t

@@ -6,7 +6,6 @@ use Rattle.std.proofs.lemmas.Bool.Decides.{nat_tests}
 use Rattle.sbx_image.specs.Rules.{block_keeps, cell_keeps, each, function_keeps, parts_keep, range_keeps, term_keeps}
 use Rattle.sbx_image.specs.Spelling.{IsTyped, IsTypedBlock, IsTypedRange}
 use Rattle.sbx_image.specs.Parts.{Parts}
-use Rattle.sbx_flat.specs.Runs.{AreBytes}
 use Rattle.sbx_range.proofs.Words.{both_true}
 use Rattle.sbx_range.specs.Ranges.{range}
 use Rattle.sbx_rules.specs.Examples.{adding, bare_block, cell, echo, sixteen_turns}
@@ -19,9 +18,6 @@ range_typed lo hi p q = record { lo = record { sfits = p }; hi = record { sfits 
 
 block_typed : (address fuel : ℕ) → address < 2 ^ 32 → fuel < 2 ^ 63 → IsTypedBlock (bare_block address (pos fuel))
 block_typed address fuel p q = record { address = p; fuel = record { sfits = q }; cells = tt; terms = tt }
-
-no_bytes : AreBytes []
-no_bytes i = omega arith
 
 abbrev call : Parts
 call = adding (pos 254) (pos 255) 39
@@ -53,8 +49,10 @@ body_typed = record { address = omega arith; fuel = record { sfits = omega arith
 
 echo_typed : IsTyped echo
 echo_typed = record {
+  version = omega arith;
   services = omega arith;
   words = words_typed echo.words refl;
+  regions = tt;
   functions = (
     record {
       entry = omega arith;
@@ -68,8 +66,10 @@ echo_typed = record {
 
 call_typed : IsTyped call
 call_typed = record {
+  version = omega arith;
   services = omega arith;
   words = words_typed call.words refl;
+  regions = tt;
   functions = (
     record { entry = omega arith; params = tt; results = tt; blocks = (block_typed 0x40000 39 (omega arith) (omega arith), tt) },
     (record { entry = omega arith; params = (range_typed 0 254 (omega arith) (omega arith), tt); results = (range_typed 1 255 (omega arith) (omega arith), tt); blocks = (block_typed 0x4001C 2 (omega arith) (omega arith), tt) }, tt),
@@ -78,6 +78,6 @@ call_typed = record {
 
 pub examples_are_safe : ExamplesAreSafe
 examples_are_safe = record {
-  a_loop = checked_is_safe echo (record { kept = echo_kept; typed = echo_typed; bytes = no_bytes }) echo_is_checked;
-  a_call = checked_is_safe call (record { kept = call_kept; typed = call_typed; bytes = no_bytes }) adding_is_checked;
+  a_loop = checked_is_safe echo (record { kept = echo_kept; typed = echo_typed }) echo_is_checked;
+  a_call = checked_is_safe call (record { kept = call_kept; typed = call_typed }) adding_is_checked;
 }

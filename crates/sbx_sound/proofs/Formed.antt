@@ -20,9 +20,9 @@ use Rattle.sbx_image.specs.Parts.{Parts}
 use Rattle.sbx_image.specs.Range.{Range}
 use Rattle.sbx_image.specs.Term.{Term}
 use Rattle.sbx_image.specs.Services.{Services}
-use Rattle.sbx_image.specs.Reading.{block_at, block_head_at, bounds_at, cell_at, counts_at, data_length_at, function_at, function_head_at, header_at, items_at, kind_at, location_at, number_at, parts_at, range_at, reading, services_at, signed_at, term_at}
-use Rattle.sbx_image.specs.Rules.{Place, admits, code_start, in_order, is_coefficient, is_fuel, is_known, is_data_length}
-use Rattle.sbx_image.specs.Spelling.{IsBytes, IsTyped, IsTypedBlock, IsTypedCell, IsTypedFunction, IsTypedRange, IsTypedTerm}
+use Rattle.sbx_image.specs.Reading.{block_at, block_head_at, bounds_at, cell_at, counts_at, data_length_at, function_at, function_head_at, header_at, items_at, kind_at, location_at, number_at, parts_at, range_at, reading, regions_of, services_at, signed_at, term_at}
+use Rattle.sbx_image.specs.Rules.{Place, admits, code_start, in_order, is_coefficient, is_fuel, is_known, is_version, is_data_length}
+use Rattle.sbx_image.specs.Spelling.{IsBytes, IsTyped, IsTypedBlock, IsTypedCell, IsTypedFunction, IsTypedRange, IsTypedRegion, IsTypedTerm}
 use Rattle.sbx_image.proofs.Fields.{bind_ok, bytes_take, number_in_takes, number_takes, ok_is, wanted, wide16, wide32, wide64, wide8}
 use Rattle.sbx_image.proofs.TakesLaws.{reading_takes}
 use Rattle.sbx_range.proofs.Words.{signed-high, signed-low}
@@ -215,20 +215,25 @@ function_typed end c x fits e =
 
 -- ---- the whole
 
-services_typed : (bytes : List ℕ) (x : Services × List ℕ) → IsBytes bytes → services_at bytes ≡ Ok x → (x.0.0 < 2 ^ 16) × IsBytes x.1
+record IsTypedStart (x : ℕ × Services) : Type 0 where
+  version : x.0 < 2 ^ 16
+  services : x.1.0 < 2 ^ 16
+
+services_typed : (bytes : List ℕ) (x : (ℕ × Services) × List ℕ) → IsBytes bytes → services_at bytes ≡ Ok x → IsTypedStart x.0 × IsBytes x.1
 unfolding services_at
 services_typed bytes x fits e =
     let magic = bind_ok _ _ _ e in
     let version = bind_ok _ _ _ magic.2 in
-    let services = bind_ok _ _ _ version.2 in
+    let one = wanted (is_version version.0.0) fault.Version _ _ version.2 in
+    let services = bind_ok _ _ _ one.1 in
     let known = wanted (is_known services.0.0) fault.Service _ _ services.2 in
     let t0 = number_in_takes w32 (2 ^ 32) wide32 0x53425838 0x53425838 fault.Magic bytes magic.0 fits magic.1 in
-    let t1 = number_in_takes w16 (2 ^ 16) wide16 1 1 fault.Version magic.0.1 version.0 t0.0.rest_fits version.1 in
+    let t1 = number_takes w16 (2 ^ 16) wide16 magic.0.1 version.0 t0.0.rest_fits version.1 in
     let t2 = number_takes w16 (2 ^ 16) wide16 version.0.1 services.0 t1.0.rest_fits services.1 in
-    let made : Services × List ℕ = (record { 0 = services.0.0 }, services.0.1) in
-    subst (λ (y : Services × List ℕ). (y.0.0 < 2 ^ 16) × IsBytes y.1) (ok_is made x known.1) (t2.1, t2.0.rest_fits)
+    let made : (ℕ × Services) × List ℕ = ((version.0.0, record { 0 = services.0.0 }), services.0.1) in
+    subst (λ (y : (ℕ × Services) × List ℕ). IsTypedStart y.0 × IsBytes y.1) (ok_is made x known.1) (record { version = t1.1; services = t2.1 }, t2.0.rest_fits)
 
-header_typed : (bytes : List ℕ) (x : Header × List ℕ) → IsBytes bytes → header_at bytes ≡ Ok x → (x.0.services.0 < 2 ^ 16) × IsBytes x.1
+header_typed : (bytes : List ℕ) (x : Header × List ℕ) → IsBytes bytes → header_at bytes ≡ Ok x → IsTypedStart (x.0.version, x.0.services) × IsBytes x.1
 unfolding header_at data_length_at
 header_typed bytes x fits e =
     let services = bind_ok _ _ _ e in
@@ -243,8 +248,8 @@ header_typed bytes x fits e =
     let t2 = number_takes w32 (2 ^ 32) wide32 words.0.1 count.0 t1.0.rest_fits count.1 in
     let t3 = number_in_takes w16 (2 ^ 16) wide16 1 16 fault.Limit data_bytes.0.1 stack_pages.0 (subst (λ y. IsBytes y.1) (ok_is count.0 data_bytes.0 whole_slots.1) t2.0.rest_fits) stack_pages.1 in
     let t4 = number_in_takes w16 (2 ^ 16) wide16 1 256 fault.Limit stack_pages.0.1 functions.0 t3.0.rest_fits functions.1 in
-    let made : Header × List ℕ = (record { services = services.0.0; words = words.0.0; bytes = data_bytes.0.0; stack_pages = stack_pages.0.0; functions = functions.0.0 }, functions.0.1) in
-    subst (λ (y : Header × List ℕ). (y.0.services.0 < 2 ^ 16) × IsBytes y.1) (ok_is made x functions.2) (t0.0, t4.0.rest_fits)
+    let made : Header × List ℕ = (record { version = services.0.0.0; services = services.0.0.1; words = words.0.0; bytes = data_bytes.0.0; stack_pages = stack_pages.0.0; functions = functions.0.0 }, functions.0.1) in
+    subst (λ (y : Header × List ℕ). IsTypedStart (y.0.version, y.0.services) × IsBytes y.1) (ok_is made x functions.2) (t0.0, t4.0.rest_fits)
 
 -- the bytes in front are bytes
 front_bytes : (xs ys : List ℕ) → IsBytes (xs ++ ys) → AreBytes xs
@@ -252,11 +257,11 @@ front_bytes [] ys fits i = omega arith
 front_bytes (x ∷ xs) ys fits zero = fits 0
 front_bytes (x ∷ xs) ys fits (suc i) = front_bytes xs ys (λ j. fits (suc j)) i
 
-record IsTypedWhole (p : Parts) : Type 0 where
-  typed : IsTyped p
-  bytes : AreBytes p.bytes
+regions_typed : (bytes : List ℕ) → AreBytes bytes → AllByRecursion IsTypedRegion (regions_of bytes)
+regions_typed [] fits = tt
+regions_typed (b ∷ bytes) fits = (fits, tt)
 
-parts_typed : (bytes : List ℕ) (x : Parts × List ℕ) → IsBytes bytes → parts_at bytes ≡ Ok x → IsTypedWhole x.0
+parts_typed : (bytes : List ℕ) (x : Parts × List ℕ) → IsBytes bytes → parts_at bytes ≡ Ok x → IsTyped x.0
 unfolding parts_at
 parts_typed bytes x fits e =
     let header = bind_ok _ _ _ e in
@@ -268,21 +273,21 @@ parts_typed bytes x fits e =
     let w = items_typed (number_at w32) (λ y. y) (λ n. n < 2 ^ 32) word_typed header.0.0.words header.0.1 words.0 h.1 words.1 in
     let d = (bytes_take header.0.0.bytes words.0.1 data_bytes.0 w.1 data_bytes.1).0 in
     let f = items_typed (function_at end) (λ y. y.1) IsTypedFunction (function_typed end) header.0.0.functions ((Exactly code_start, 0), data_bytes.0.1) functions.0 d.rest_fits functions.1 in
-    let made : Parts × List ℕ = (record { services = header.0.0.services; words = words.0.0; bytes = data_bytes.0.0; stack_pages = header.0.0.stack_pages; functions = functions.0.0 }, functions.0.1.1) in
-    subst (λ (y : Parts × List ℕ). IsTypedWhole y.0) (ok_is made x functions.2)
-    (record { typed = record { services = h.0; words = w.0; functions = f.0 }; bytes = front_bytes data_bytes.0.0 data_bytes.0.1 (subst IsBytes d.parts w.1) })
+    let made : Parts × List ℕ = (record { version = header.0.0.version; services = header.0.0.services; words = words.0.0; regions = regions_of data_bytes.0.0; stack_pages = header.0.0.stack_pages; functions = functions.0.0 }, functions.0.1.1) in
+    let region_bytes = regions_typed data_bytes.0.0 (front_bytes data_bytes.0.0 data_bytes.0.1 (subst IsBytes d.parts w.1)) in
+    subst (λ (y : Parts × List ℕ). IsTyped y.0) (ok_is made x functions.2)
+    (record { version = h.0.version; services = h.0.services; words = w.0; regions = region_bytes; functions = f.0 })
   where
     word_typed : (c : List ℕ) (x : ℕ × List ℕ) → IsBytes c → number_at w32 c ≡ Ok x → (x.0 < 2 ^ 32) × IsBytes x.1
     word_typed c x fits e = (let t = number_reads c x fits e in (t.typed, t.left))
 
-reading_typed : (bytes : List ℕ) (p : Parts) → IsBytes bytes → reading bytes ≡ Ok p → IsTypedWhole p
+reading_typed : (bytes : List ℕ) (p : Parts) → IsBytes bytes → reading bytes ≡ Ok p → IsTyped p
 unfolding reading
 reading_typed bytes p fits e =
     let parts = bind_ok _ _ _ e in
     let ended = wanted (eqb (length parts.0.1) 0) fault.Trailing _ _ parts.2 in
-    subst IsTypedWhole (ok_is parts.0.0 p ended.1) (parts_typed bytes parts.0 fits parts.1)
+    subst IsTyped (ok_is parts.0.0 p ended.1) (parts_typed bytes parts.0 fits parts.1)
 
 pub what_is_read_is_formed : WhatIsReadIsFormed
 what_is_read_is_formed bytes p fits e =
-    let typed = reading_typed bytes p fits e in
-    record { kept = (reading_takes bytes p fits e).1; typed = typed.typed; bytes = typed.bytes }
+    record { kept = (reading_takes bytes p fits e).1; typed = reading_typed bytes p fits e }

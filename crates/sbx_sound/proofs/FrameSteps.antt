@@ -12,7 +12,7 @@ use Rattle.v8_meaning.specs.declared.operation.Operation.TheVariants.{Transfer}
 use Rattle.v8_meaning.specs.declared.operation.Transfer.{Transfer as Moving}
 use Rattle.v8_meaning.specs.declared.operation.Transfer.TheVariants.{Load, Store}
 use Rattle.v8_meaning.specs.Operands.{address, sum_address}
-use Rattle.v8_meaning.specs.Transfers.{bytes_in, size_of}
+use Rattle.v8_meaning.specs.Transfers.{bytes_in, size_of, writes_memory}
 use Rattle.sbx_image.specs.Function.{Function}
 use Rattle.sbx_image.specs.Parts.{Parts}
 use Rattle.sbx_flat.specs.Effects.{address_in}
@@ -114,7 +114,7 @@ module _ (parts : Parts) (w : ℕ) (p : Spot parts w) (lent : window_of (functio
     word : IsWordOffset function.frame access.offset
     unfolding access_of
     word =
-        let reached : Access = record { size = bytes_in (size_of t); offset = frame_offset function t m; range = address_of (register_entry d m.rs1) (operand_entry d m.operand2) } in
+        let reached : Access = record { size = bytes_in (size_of t); writes = writes_memory t; offset = frame_offset function t m; range = address_of (register_entry d m.rs1) (operand_entry d m.operand2) } in
         lies_in_frame function.frame access.offset (sym (ap (λ x. is_aligned_at x reached) access.by_offset) ∙ access.aligned) (sym (ap (λ x. is_placed_at parts function.frame x reached) access.by_offset) ∙ access.placed)
 
     location_is : frame_word_of function.frame m ≡ Some (32 + word.word)

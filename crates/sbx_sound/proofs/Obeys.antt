@@ -12,6 +12,7 @@ use Rattle.v8_meaning.specs.declared.operation.Transfer.{Transfer as Moving}
 use Rattle.v8_meaning.specs.declared.operation.Transfer.TheVariants.{Load, Store, Exchange}
 use Rattle.sbx_image.specs.Function.{Function}
 use Rattle.sbx_image.specs.Parts.{Parts}
+use Rattle.sbx_image.specs.Regions.{page_rights}
 use Rattle.sbx_rules.specs.Known.{Known}
 use Rattle.sbx_rules.specs.Transfer.{offset_from_sp}
 use Rattle.sbx_rules.specs.Operations.{access_of, frame_offset, is_framed, is_restore, is_save, is_transfer, moves_word}
@@ -99,7 +100,7 @@ module _ (parts : Parts) (w : ℕ) (p : Spot parts w) where
     pub lent : window_of function p.b p.i ≡ Lent → is_framed function.kind ≡ false
     pub has_frame : is_framed function.kind ≡ true → HasFrame parts w p lent
 
-  moves : length parts.bytes ≤ 0x40000 → (t : Moving) (m : MemoryOperand) → Obeys (Transfer t m) → Does parts w p
+  moves : length (page_rights parts.regions) ≤ 64 → (t : Moving) (m : MemoryOperand) → Obeys (Transfer t m) → Does parts w p
   moves small t m r = by_offset (frame_offset function t m) refl
     where
       by_frame : (z : ℤ) → (t : Moving) → Obeys (Transfer t m) → frame_offset function t m ≡ Some z → is_framed function.kind ≡ true → moves_word t ≡ true → offset_from_sp function.frame m.rs1 m.operand2 ≡ Some z → Does parts w p
@@ -118,7 +119,7 @@ module _ (parts : Parts) (w : ℕ) (p : Spot parts w) where
       by_offset None e = in_data t r e
       by_offset (Some z) e = (let form = frame_form (is_framed function.kind) (moves_word t) (offset_from_sp function.frame m.rs1 m.operand2) z e in by_frame z t r e form.0 form.1 form.2)
 
-  pub does_it : length parts.bytes ≤ 0x40000 → (o : Operation) → Obeys o → Does parts w p
+  pub does_it : length (page_rights parts.regions) ≤ 64 → (o : Operation) → Obeys o → Does parts w p
   does_it small (Compute op t) r = computes_checked parts w p op t r.is r.low r.known r.kept r.lent
   does_it small (Divide op t) r = divides parts w p r.lent op t r.is r.low r.known r.kept r.no_zero
   does_it small (TaggedTrap op t) r = tags parts w p r.lent op t r.is r.low r.known r.kept r.no_overflow
@@ -175,5 +176,5 @@ module _ (parts : Parts) (checked : Checked parts) (ordered : IsOrdered parts) (
       }
 
   -- a word that neither transfers control, nor changes frames, nor ends the run, wherever it runs
-  pub does_at : length parts.bytes ≤ 0x40000 → (w : ℕ) (p : Spot parts w) → p.v.annulled ≡ false → is_transfer (op_of parts w p) ≡ false → is_save (op_of parts w p) ≡ false → is_restore (op_of parts w p) ≡ false → ends_run (op_of parts w p) ≡ false → Does parts w p
+  pub does_at : length (page_rights parts.regions) ≤ 64 → (w : ℕ) (p : Spot parts w) → p.v.annulled ≡ false → is_transfer (op_of parts w p) ≡ false → is_save (op_of parts w p) ≡ false → is_restore (op_of parts w p) ≡ false → ends_run (op_of parts w p) ≡ false → Does parts w p
   does_at small w p runs no_transfer no_save no_restore runs_on = does_it parts w p small (op_of parts w p) (obeys w p runs no_transfer no_save no_restore runs_on)

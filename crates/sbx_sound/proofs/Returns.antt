@@ -127,7 +127,7 @@ module _ (parts : Parts) where
 
   -- `ret` with RESTORE, or `retl` with its slot: the caller goes on
   pub comes : (w : ℕ) (k : Shared) (f b j : ℕ) (v : Visit) (start : Cells) (c : Open) (cs : List Open) (left : Left) (d : Known)
-      → k.calls ≡ c ∷ cs → ReturnsWell f b j d → v.annulled ≡ false → left.y < 2 ^ 32 → Brings c d left.words → AreStored (length parts.bytes) left.memory left.input
+      → k.calls ≡ c ∷ cs → ReturnsWell f b j d → v.annulled ≡ false → left.y < 2 ^ 32 → Brings c d left.words → AreStored parts.regions left.memory left.input
       → Follows parts c.function c.block (suc c.place) (falls parts c.function c.block (suc c.place)) (following (address_of parts c.function c.block (suc c.place)))
       → At parts w k f b (suc j) v start
       → After parts (w + weight_of (op_at parts f b (suc j))) (record (left_by left k) { base = c.base; calls = cs }) c.function c.block (suc c.place) (known_after parts c) (falls parts c.function c.block (suc c.place)) c.start

@@ -123,7 +123,7 @@ module _ (parts : Parts) where
     pub base : k.base + bytes_of (function_at parts f) b i ≡ base_below k.calls
     pub eight : k.base % 8 ≡ 0
     pub room : stack_bottom parts + (function_at parts f).stack_room ≤ base_below k.calls
-    pub stored : AreStored (length parts.bytes) k.memory k.input
+    pub stored : AreStored parts.regions k.memory k.input
     -- the ledger: what was used, what is left here, and what is left to each caller
     pub ledger : (pos w +ℤ (left_at parts f b i start +ℤ left_to_all k.calls)) ≤ℤ pos (budget parts)
 
@@ -139,5 +139,5 @@ module _ (parts : Parts) where
     pub base : k.base + bytes_of (function_at parts f) b (suc i) ≡ base_below k.calls
     pub eight : k.base % 8 ≡ 0
     pub room : stack_bottom parts + (function_at parts f).stack_room ≤ base_below k.calls
-    pub stored : AreStored (length parts.bytes) k.memory k.input
+    pub stored : AreStored parts.regions k.memory k.input
     pub ledger : (pos w +ℤ (left_at parts f b (suc i) start +ℤ left_to_all k.calls)) ≤ℤ pos (budget parts)

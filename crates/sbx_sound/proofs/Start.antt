@@ -1,13 +1,16 @@
 -- Where a run starts; and the whole: an image whose places step on is safe.
 use Rattle.std.proofs.Common.{◌≡◌, ℕ, ◌+◌, ◌*◌, ◌^◌, ◌<◌, ◌≤◌, ℤ, Bool, true, false, List, [], ◌∷◌, Option, Some, None, refl, sym, ap, ◌∙◌, subst, inl, arith}
 use Rattle.std.specs.Prelude.{pos, ◌+ℤ◌, ◌-ℤ◌, ◌≤ℤ◌, ◌==◌, ◌&&◌, ◌||◌, not, if◌then◌else◌}
+use Rattle.std.specs.List.{AllByRecursion}
 use Rattle.std.proofs.lemmas.Bool.Decides.{nat_tests}
 use Rattle.std.proofs.lemmas.Int.{ints}
 use Rattle.v8_word.specs.declared.Icc.{Icc}
 use Rattle.sbx_image.specs.Rules.{code_start}
 use Rattle.sbx_image.specs.Parts.{Parts}
+use Rattle.sbx_image.specs.Regions.{data_at}
+use Rattle.sbx_image.specs.Spelling.{IsTypedRegion}
 use Rattle.sbx_flat.specs.Registers.{Frame, Words}
-use Rattle.sbx_flat.specs.Runs.{AreBytes, FlatSafe, IsStart, budget, data_at}
+use Rattle.sbx_flat.specs.Runs.{AreBytes, FlatSafe, IsStart, budget}
 use Rattle.sbx_flat.specs.States.{State}
 use Rattle.sbx_rules.specs.Fuel.{InCells, IsWithinBudget}
 use Rattle.sbx_rules.specs.Fits.{Fits, HasAlignment, HasForm, HasInterval}
@@ -45,12 +48,12 @@ pub record StartsWell (parts : Parts) : Type 0 where
   pub room : (function_at parts 0).stack_room + 64 ≤ 4096 * parts.stack_pages
   pub pages : parts.stack_pages ≤ 16
   pub within_budget : IsWithinBudget (state_at parts 0 0 0) (fuel_at parts 0 0) (budget parts)
-  pub bytes : AreBytes parts.bytes
+  pub bytes : AllByRecursion IsTypedRegion parts.regions
 
 module _ (parts : Parts) where
   -- what all starts on an input share
   abbrev shared_start : List ℕ → Shared
-  shared_start input = record { pc = code_start; npc = code_start + 4; annulled = false; icc = clear; y = 0; base = stack_start; words = zeros; calls = []; memory = data_at parts.bytes; input = input; output = []; exit = None }
+  shared_start input = record { pc = code_start; npc = code_start + 4; annulled = false; icc = clear; y = 0; base = stack_start; words = zeros; calls = []; memory = data_at parts.regions; input = input; output = []; exit = None }
 
   nowhere : (P : Option Entry → Type 0) → P None → (l : ℕ) → P ((started []).entry l)
   unfolding started cell_entry
@@ -101,7 +104,7 @@ module _ (parts : Parts) where
         base = ap (λ x. stack_start + x) (entry_bytes parts (function_at parts 0));
         eight = refl;
         room = let h = rules.room in let p = rules.pages in omega (arith, h, p);
-        stored = stored_at_start parts.bytes input rules.bytes are;
+        stored = stored_at_start parts.regions input rules.bytes are;
         ledger = first_ledger (form_value no_numbers (fuel_at parts 0 0)) (budget parts) (rules.within_budget no_numbers begun);
       }
 
@@ -145,7 +148,7 @@ module _ (parts : Parts) where
     icc = clear;
     y = 0;
     registers = record { globals = zeros; newest = record { locals = zeros; outs = λ n. if n == 14 then stack_start else 0; slots = λ a. None }; older = []; oldest_ins = zeros };
-    memory = data_at parts.bytes;
+    memory = data_at parts.regions;
     input = input;
     output = [];
     exit = None;

@@ -126,7 +126,7 @@ module _ (parts : Parts) where
     pub left : Left
     pub fits : Fits p.start (known_then w p) left.words left.icc left.y
     pub link : left.words 15 ≡ p.k.words 15
-    pub stored : AreStored (length parts.bytes) left.memory left.input
+    pub stored : AreStored parts.regions left.memory left.input
     pub reached : Option ℕ
     pub reaches : (s : State) → ShowsSpot parts w p s → reached_by (op_of w p) s ≡ reached
     pub goes : (fresh : Fresh) (s : State) → ShowsSpot parts w p s → Reaches (does parts fresh (op_of w p) s) (Shows (window_of (function_at parts p.f) p.b p.i) (tests parts (known_then w p) (linked_at w p)) (left_by left p.k))

@@ -1,6 +1,7 @@
 -- What a checked image gives where a run starts, where a function begins, and at a call.
 use Rattle.std.proofs.Common.{◌≡◌, ℕ, suc, ◌+◌, ◌-◌, ◌%◌, ◌^◌, ◌<◌, ◌≤◌, Bool, true, false, List, [], ◌∷◌, length, Option, Some, None, refl, sym, ap, ◌∙◌, subst, arith}
 use Rattle.std.specs.Prelude.{◌==◌, ◌&&◌, slice_get, if◌then◌else◌}
+use Rattle.std.specs.List.{AllByRecursion}
 use Rattle.std.proofs.lemmas.Bool.Decides.{nat_tests}
 use Rattle.v8_formats.specs.declared.instr.Operand.{Operand}
 use Rattle.v8_formats.specs.declared.instr.Operand.TheVariants.{Register, Immediate}
@@ -9,8 +10,9 @@ use Rattle.v8_meaning.specs.declared.operation.Operation.TheVariants.{Call, Save
 use Rattle.v8_meaning.specs.Operands.{following}
 use Rattle.sbx_image.specs.Function.{Function}
 use Rattle.sbx_image.specs.Parts.{Parts}
+use Rattle.sbx_image.specs.Spelling.{IsTypedRegion}
 use Rattle.sbx_image.specs.Range.{Range}
-use Rattle.sbx_flat.specs.Runs.{AreBytes, budget_of}
+use Rattle.sbx_flat.specs.Runs.{budget_of}
 use Rattle.sbx_rules.specs.Transfer.{saved, transferred}
 use Rattle.sbx_rules.specs.Fuel.{IsWithinBudget}
 use Rattle.sbx_rules.specs.Operations.{is_call, is_framed, is_transfer}
@@ -107,7 +109,7 @@ call_straight _ h = absurd (cc)
 
 module _ (parts : Parts) (checked : Checked parts) (ordered : IsOrdered parts) (pages : parts.stack_pages ≤ 16) where
   -- the entry function begins
-  pub starts_well : AreBytes parts.bytes → 0 < length parts.functions → StartsWell parts
+  pub starts_well : AllByRecursion IsTypedRegion parts.regions → 0 < length parts.functions → StartsWell parts
   starts_well bytes some =
       let place = begin_place parts checked ordered 0 0 some (ordered.entries 0 some).0 in
       record {

@@ -1,8 +1,9 @@
 -- The whole: an image that breaks no rule is safe on the flat machine.
 use Rattle.std.proofs.Common.{ℕ, ◌≤◌, length}
 use Rattle.sbx_image.specs.Parts.{Parts}
+use Rattle.sbx_image.specs.Regions.{page_rights}
 use Rattle.sbx_image.proofs.Fields.{is_between}
-use Rattle.sbx_image.proofs.Limits.{bytes_within, functions_within, parts_kept}
+use Rattle.sbx_image.proofs.Limits.{data_within, functions_within, parts_kept}
 use Rattle.sbx_flat.specs.Runs.{FlatSafe}
 use Rattle.sbx_image.specs.Order.{function_at}
 use Rattle.sbx_rules.specs.Verdicts.{Checked}
@@ -33,8 +34,8 @@ module _ (parts : Parts) (formed : IsFormed parts) (checked : Checked parts) whe
   pages : parts.stack_pages ≤ 16
   pages = (is_between 1 16 parts.stack_pages (parts_kept parts formed.kept).stack_pages).1
 
-  small : length parts.bytes ≤ 0x40000
-  small = bytes_within parts formed.kept
+  small : length (page_rights parts.regions) ≤ 64
+  small = (data_within parts formed.kept).pages
 
   does : PlainWordsDo parts
   does = plain_words_do parts checked order pages small few
@@ -51,7 +52,7 @@ module _ (parts : Parts) (formed : IsFormed parts) (checked : Checked parts) whe
   }
 
   pub safe : FlatSafe parts
-  safe = is_safe parts (all_steps parts kinds) positive (starts_well parts checked order pages formed.bytes (functions_within parts formed.kept).0)
+  safe = is_safe parts (all_steps parts kinds) positive (starts_well parts checked order pages formed.typed.regions (functions_within parts formed.kept).0)
 
 pub checked_is_safe : CheckedIsSafe
 checked_is_safe parts formed checked = safe parts formed checked

@@ -45,7 +45,7 @@ module _ (parts : Parts) (w : ℕ) (p : Spot parts w) where
     pub free : IsFree window rd
     pub apart : 15 ≢ rd
     pub fits : Fits p.start (then_knows o) (with_location rd v p.k.words) icc y
-    pub stored : AreStored (length parts.bytes) memory p.k.input
+    pub stored : AreStored parts.regions memory p.k.input
     pub defined : (l : ℕ) → l ≢ rd → is_defined (then_knows o) l ≡ is_defined d l
     pub reached : Option ℕ
     pub reaches : (s : State) → ShowsSpot parts w p s → reached_by o s ≡ reached

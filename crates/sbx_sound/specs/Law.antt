@@ -4,14 +4,13 @@ use Rattle.sbx_image.specs.Reading.{reading}
 use Rattle.sbx_image.specs.Rules.{parts_keep}
 use Rattle.sbx_image.specs.Spelling.{IsBytes, IsTyped}
 use Rattle.sbx_image.specs.Parts.{Parts}
-use Rattle.sbx_flat.specs.Runs.{AreBytes, FlatSafe}
+use Rattle.sbx_flat.specs.Runs.{FlatSafe}
 use Rattle.sbx_rules.specs.Verdicts.{Checked}
 
 -- Parts that are an image's: they keep the limits and orders of the format, and each number is one that its field can hold.
 pub record IsFormed (parts : Parts) : Type 0 where
   pub kept : parts_keep parts ≡ Ok tt
   pub typed : IsTyped parts
-  pub bytes : AreBytes parts.bytes
 
 abbrev pub CheckedIsSafe : Type 0
 CheckedIsSafe = (parts : Parts) → IsFormed parts → Checked parts → FlatSafe parts
