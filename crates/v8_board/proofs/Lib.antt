@@ -1,5 +1,4 @@
 pub mod Placed
-pub mod Bytes
 pub mod Regions
 pub mod Running
 pub mod MarkSums

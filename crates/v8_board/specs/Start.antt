@@ -1,5 +1,5 @@
 -- What a board is when it is made, and when an image has been loaded.
-use Rattle.std.specs.Prelude.{ℕ, ◌≡◌, ◌+◌, ◌*◌, ◌/◌, ◌<◌, ◌≤◌, nat_le, List, length, take, slice_index, Some, None, if◌then◌else◌}
+use Rattle.std.specs.Prelude.{ℕ, ◌≡◌, ◌+◌, ◌*◌, ◌/◌, ◌<◌, ◌≤◌, nat_le, false, List, length, take, slice_index, Some, None, if◌then◌else◌}
 use Rattle.sbx_image.specs.Parts.{Parts}
 use Rattle.sbx_image.specs.Regions.{laid, page_rights}
 use Rattle.v8_core.specs.Ram.{AreBytes, entry_of}

@@ -1,5 +1,5 @@
 //! What loading an image places in RAM.
-ghost use Rattle.std.specs.Prelude.{◌≡◌, ℕ, ◌+◌, ◌-◌, ◌*◌, ◌/◌, ◌^◌, ◌<◌, ◌≤◌, length, take, None};
+ghost use Rattle.std.specs.Prelude.{◌≡◌, ℕ, ◌+◌, ◌-◌, ◌*◌, ◌/◌, ◌^◌, ◌<◌, ◌≤◌, length, take, false, None};
 ghost use Rattle.v8_mmu.specs.Ram.{AreBytes};
 ghost use Rattle.v8_contained.specs.Placing.{HasBytesOf};
 ghost use Rattle.sbx_image.specs.Regions.{laid, page_rights};

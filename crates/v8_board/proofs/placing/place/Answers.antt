@@ -16,14 +16,13 @@ returns-clause-ram g c =
     let m3 = c.set_words-3.new.self.ram in
     let m4 = c.set_words-4.new.self.ram in
     let m5 = c.place_data.new.memory.ram in
-    let few = ? in
-    let counted : data_count (pages_of p) ≡ length (page_rights p.regions) = data_counted p few in
+    let counted : data_count (pages_of p) ≡ length (page_rights p.regions) = data_counted p c.regions.ensures.pages in
     subst (λ (m : List ℕ). IsPlaced g.row.N p c.args.memory.now.ram m) (sym c.restart.ensures.ram)
     (placed g.row.N p pages.code (length (page_rights p.regions)) c.trap_table.result c.handler_page.result c.page_tables.result _ _ _ _ _ _
-    (ap (λ (x : Pages). x.code_count) (sym same)) counted ?
+    (ap (λ (x : Pages). x.code_count) (sym same)) counted (c.place_data.ensures.data.size ∙ c.set_words-4.ensures.size)
     c.trap_table.ensures c.handler_page.ensures
     (λ k less. c.page_tables.ensures k less ∙ ap (λ (x : Pages). table_word x k) same)
     c.set_words.ensures.ram c.set_words-2.ensures.ram c.set_words-3.ensures.ram
     (subst (λ (ws : List ℕ). HasWords 0x10000 ws (1024 * pages.code) m3 m4) c.words.ensures
     (subst (λ k. HasWords 0x10000 c.words.result.now k m3 m4) c.code_words.ensures c.set_words-4.ensures.ram))
-    (subst (λ (rs : List Region). HasBytesOf 0x50000 (laid rs) (4096 * length (page_rights rs)) m4 m5) ? c.place_data.ensures.data))
+    (subst (λ (rs : List Region). HasBytesOf 0x50000 (laid rs) (4096 * length (page_rights rs)) m4 m5) c.regions-2.ensures.value c.place_data.ensures.data))

@@ -1,7 +1,7 @@
-use Rattle.std.proofs.Common.{◌≡◌, ℕ, ◌+◌, ◌*◌, ◌<◌, ◌≤◌, List, length, take, refl, ap, subst, ◌∙◌, arith}
+use Rattle.std.proofs.Common.{ℕ, ◌+◌, ◌*◌, ◌<◌, List, length, refl, ap, subst, ◌∙◌, arith}
 use Rattle.v8_contained.specs.Placing.{HasBytesOf}
 use Rattle.v8_map.specs.declared.TheConstants.{DATA_PLACE}
-use Rattle.sbx_image.specs.Regions.{laid, page_rights, pages_for}
+use Rattle.sbx_image.specs.Regions.{pages_for}
 use Rattle.v8_board.specs.Start.{at_most}
 use Rattle.v8_board.proofs.Regions.{bytes_placed, nothing_placed, pages_few, pages_more}
 use Rattle.v8_board.proofs.placing.place_data.Goals as goal

@@ -1,8 +1,8 @@
-use Rattle.std.proofs.Common.{◌≡◌, ◌+◌, ◌-◌, ◌++◌, ◌<◌, ◌≤◌, List, ℕ, Bool, length, replicate, take, drop, ap, ◌∙◌, arith}
+use Rattle.std.proofs.Common.{◌≡◌, ◌+◌, ◌-◌, ◌++◌, ◌<◌, List, ℕ, length, replicate, take, drop, ap, ◌∙◌, arith}
 use Rattle.std.proofs.lemmas.Grind.{common_steps}
 use Rattle.std.proofs.lemmas.List.{length-drop, length-replicate, length-take}
 use Rattle.std.proofs.lemmas.Slice.{take-put_mid}
-use Rattle.sbx_image.specs.Regions.{laid, page_rights, pages_for}
+use Rattle.sbx_image.specs.Regions.{pages_for}
 use Rattle.v8_board.specs.Start.{at_most}
 use Rattle.v8_board.proofs.Regions.{pages_few, pages_more, rights_filled}
 use Rattle.v8_board.proofs.placing.rights_of.Goals as goal
