@@ -22,6 +22,7 @@ use Rattle.v8_board.specs.Start.{pages_of}
 use Rattle.v8_board.proofs.Placed.{pages_few}
 use Rattle.v8_board.proofs.Stays.{word_kept}
 use Rattle.sbx_flat.specs.Parts.{Parts}
+use Rattle.sbx_flat.specs.Regions.{page_rights}
 use Rattle.sbx_flat.specs.Memory.{Bytes, byte_of, followed_by, number_at, with_number}
 use Rattle.sbx_flat.specs.Registers.{Registers}
 use Rattle.sbx_shows.specs.Marks.{OwnMarks}
@@ -136,7 +137,7 @@ module _ (n : ℕ) (parts : Parts) (memory : Bytes) (ram : List ℕ) (a v old : 
   new = board_with ram at size v
 
   -- the bytes are in the data's pages
-  pub inside : (k : ℕ) → k < count → (DATA_START ≤ a + k) × (a + k < DATA_START + length parts.bytes)
+  pub inside : (k : ℕ) → k < count → (DATA_START ≤ a + k) × (a + k < DATA_START + 4096 * length (page_rights parts.regions))
   inside k less =
       let b = byte_there memory a count old is k less in
       let o = h (a + k) b.0 b.1 in
@@ -148,7 +149,7 @@ module _ (n : ℕ) (parts : Parts) (memory : Bytes) (ram : List ℕ) (a v old : 
   pub high : a + count ≤ DATA_END
   high =
       let some = some_bytes size in
-      let most = fits.bytes in
+      let most = fits.pages in
       let last = (inside (count - 1) (omega arith)).1 in
       omega arith
 
@@ -257,7 +258,7 @@ module _ (parts : Parts) (memory : Bytes) (ram : List ℕ) (a n : ℕ) (fits : F
       let o = h (a + 0) first.1 first.3 in
       let low = o.low in
       let top = o.high in
-      let most = fits.bytes in
+      let most = fits.pages in
       let sum = first.4 in
       let spot : place ≡ data_area (a + 0) = omega arith in
       let value : first.1 ≡ n = omega arith in
@@ -272,7 +273,7 @@ module _ (parts : Parts) (memory : Bytes) (ram : List ℕ) (a n : ℕ) (fits : F
       let p = h (a + 1) second.1 second.3 in
       let low = o.low in
       let top = p.high in
-      let most = fits.bytes in
+      let most = fits.pages in
       let sum = first.4 in
       let sum2 = second.4 in
       has_half ram place (record { aligned = omega arith; fits = omega arith })
@@ -289,7 +290,7 @@ module _ (parts : Parts) (memory : Bytes) (ram : List ℕ) (a n : ℕ) (fits : F
       let p = h (a + 3) fourth.1 fourth.3 in
       let low = o.low in
       let top = p.high in
-      let most = fits.bytes in
+      let most = fits.pages in
       let sum = first.4 in
       let sum2 = second.4 in
       let sum3 = third.4 in

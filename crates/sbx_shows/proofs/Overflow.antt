@@ -192,7 +192,7 @@ module _ (n : ℕ) (parts : Parts) (mmu : MmuRegs) (x : World n Device) (s : Sta
       let o = h.bytes a b there in
       let low = o.low in
       let high = o.high in
-      let most = stands.fits.bytes in
+      let most = stands.fits.pages in
       let stack_low = low_base in
       let at_place = pointer_is in
       record {

@@ -62,6 +62,14 @@ placed_own n parts old new placed =
 
 -- ---- marks
 
+-- a data page of the image's own
+pub owned : (parts : Parts) (page : ℕ) → is_own_data_page parts false page ≡ true → is_own_page parts page ≡ true
+owned parts page e = either (is_own_code_page parts page) (is_own_data_page parts false page) e
+  where
+    either : (c d : Bool) → d ≡ true → (c || d) ≡ true
+    either true d f = refl
+    either false d f = f
+
 -- a mark leaves the other entries
 pub mark_leaves : (ram : List ℕ) (place p : ℕ) (store : Bool) → (p + 4 ≤ place) ⊎ (place + 4 ≤ p) → entry_of (marked_ram ram place store) p ≡ entry_of ram p
 unfolding marked_ram
@@ -98,14 +106,14 @@ entry_fits w t is small = by_kind (w % 4 == 2) refl
     by_kind false e = let same : w ≡ t = rw e at is in omega arith
 
 -- M of an entry that a store or another access marks
-modified_by : (parts : Parts) (page w v : ℕ) (store : Bool) → v ≡ (if store then 1 else w / 2 ^ 6 % 2) → (store ≡ true → is_own_data_page parts page ≡ true) → (w / 2 ^ 6 % 2 ≡ 1 → is_own_data_page parts page ≡ true) → v ≡ 1 → is_own_data_page parts page ≡ true
+modified_by : (parts : Parts) (page w v : ℕ) (store : Bool) → v ≡ (if store then 1 else w / 2 ^ 6 % 2) → (store ≡ true → is_own_data_page parts true page ≡ true) → (w / 2 ^ 6 % 2 ≡ 1 → is_own_data_page parts true page ≡ true) → v ≡ 1 → is_own_data_page parts true page ≡ true
 modified_by parts page w v true is stored before one = stored refl
 modified_by parts page w v false is stored before one = before (sym is ∙ one)
 
--- A mark on the entry of an own page, for a store that of an own data page, or of no page of code, data or stack.
+-- A mark on the entry of an own page, for a store that of an own data page that may be written, or of no page of code, data or stack.
 pub mark_own : (parts : Parts) (ram : List ℕ) (place t : ℕ) (store : Bool) → Markable ram place t →
     ((k : ℕ) → k < 192 → place ≡ CODE_TABLE + 4 * k → is_own_page parts (0x40 + k) ≡ true) →
-    ((k : ℕ) → k < 192 → place ≡ CODE_TABLE + 4 * k → store ≡ true → is_own_data_page parts (0x40 + k) ≡ true) →
+    ((k : ℕ) → k < 192 → place ≡ CODE_TABLE + 4 * k → store ≡ true → is_own_data_page parts true (0x40 + k) ≡ true) →
     OwnMarks parts ram → OwnMarks parts (marked_ram ram place store)
 mark_own parts ram place t store can is_own is_own_data own =
     let w = can.entry.word in
@@ -146,7 +154,7 @@ own_code parts i k within at =
     let fits = at_most_is 64 ((length parts.words + 1023) / 1024) in
     let less : 4096 * k < 4 * length parts.words = omega arith in
     let code : is_own_code_page parts (0x40 + k) ≡ true = grind (arith, nat_tests) in
-    ap (λ b. b || is_own_data_page parts (0x40 + k)) code
+    ap (λ b. b || is_own_data_page parts false (0x40 + k)) code
 
 -- a fetch of the code word i
 pub code_own : (n : ℕ) (parts : Parts) (ram : List ℕ) (i : ℕ) → IsLoaded n (pages_of parts) parts.words ram → i < 1024 * (pages_of parts).code_count → OwnMarks parts ram → OwnMarks parts (code_marked i ram)

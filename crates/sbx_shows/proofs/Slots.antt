@@ -19,11 +19,10 @@ use Rattle.sbx_flat.specs.Registers.{Registers, with_slot}
 use Rattle.sbx_flat.specs.States.{State}
 use Rattle.sbx_flat.specs.Traffic.{is_own_data_page}
 use Rattle.sbx_flat.specs.Calls.{base, cell, slot}
-use Rattle.sbx_shows.specs.Marks.{is_own_page}
 use Rattle.sbx_flat.specs.WellFormed.{IsSlot, IsStacked}
 use Rattle.sbx_shows.specs.Shows.{Fits, HasStack, Shows, ShowsSaved, ShowsSlots, data_area}
 use Rattle.sbx_shows.proofs.Kept.{marked_same}
-use Rattle.sbx_shows.proofs.Pages.{mark_own, own_by}
+use Rattle.sbx_shows.proofs.Pages.{owned, mark_own, own_by}
 use Rattle.sbx_shows.proofs.Stacks.{stack_own}
 use Rattle.sbx_shows.proofs.Users.{OnlyMarks, device_kept}
 
@@ -140,18 +139,15 @@ stack_marks n parts old mid a store fits m low high =
     let t = 0x9006 + 0x100 * ((a - DATA_END) / 4096 - 48) in
     let can : Markable mid (stack_entry_place a) t = stack_markable (pages_of parts) mid m.loaded.tables (pages_few parts) ((a - DATA_END) / 4096) (omega arith) (omega arith) in
     let here = marked_same mid (stack_entry_place a) t store can in
-    let own = stack_own parts a fits low high in
+    let own : (write : Bool) → is_own_data_page parts write (a / 4096) ≡ true = λ (write : Bool). stack_own parts write a fits low high in
     record {
       same = record { words = λ p above. here.words p above ∙ m.same.words p above; bytes = λ p above. here.bytes p above ∙ m.same.bytes p above };
       loaded = mark_keeps n (pages_of parts) parts.words mid (stack_entry_place a) t store m.loaded can;
       marks = mark_own parts mid (stack_entry_place a) t store can
-          (λ k less e. owned parts (0x40 + k) (subst (λ q. is_own_data_page parts q ≡ true) (sym (at_stack_entry parts a k (omega arith) high e)) own))
-          (λ k less e is. subst (λ q. is_own_data_page parts q ≡ true) (sym (at_stack_entry parts a k (omega arith) high e)) own)
+          (λ k less e. owned parts (0x40 + k) (subst (λ q. is_own_data_page parts false q ≡ true) (sym (at_stack_entry parts a k (omega arith) high e)) (own false)))
+          (λ k less e is. subst (λ q. is_own_data_page parts true q ≡ true) (sym (at_stack_entry parts a k (omega arith) high e)) (own true))
           m.marks;
     }
-  where
-    owned : (parts : Parts) (page : ℕ) → is_own_data_page parts page ≡ true → is_own_page parts page ≡ true
-    owned parts page e = grind (arith, nat_tests, e)
 
 -- ---- all that is shown
 
@@ -167,7 +163,7 @@ slot_stored_shows n parts x s r a old v fits h held small =
     let four = p.place.aligned in
     let ram = x.memory.ram in
     let size = h.loaded.tables.size in
-    let most = fits.bytes in
+    let most = fits.pages in
     let there : Within ram (area_of a) = record { aligned = omega arith; fits = omega arith } in
     let t = record s { registers = with_slot a v s.registers } in
     record {

@@ -1,9 +1,9 @@
 -- Turns of user code that load, store or exchange, in a slot of the newest call or in the data.
-use Rattle.std.proofs.Common.{◌≡◌, ℕ, ◌+◌, ◌*◌, ◌/◌, ◌%◌, ◌^◌, ◌<◌, ◌≤◌, Bool, true, false, not, List, length, Option, Some, None, Ok, refl, sym, ap, ◌∙◌, subst, arith}
-use Rattle.std.specs.Prelude.{◌==◌, ◌&&◌, nat_lt, if◌then◌else◌}
+use Rattle.std.proofs.Common.{◌≡◌, ℕ, ◌+◌, ◌*◌, ◌/◌, ◌%◌, ◌^◌, ◌<◌, ◌≤◌, Bool, true, false, not, List, Option, Some, None, Ok, refl, sym, ap, ◌∙◌, subst, arith}
+use Rattle.std.specs.Prelude.{◌==◌, ◌&&◌, ◌||◌, nat_lt, if◌then◌else◌}
 use Rattle.std.proofs.lemmas.Bool.Decides.{nat_tests}
 use Rattle.v8_loaded.specs.Areas.{area_of}
-use Rattle.v8_map.specs.declared.TheConstants.{DATA_START, STACK_END, RAM}
+use Rattle.v8_map.specs.declared.TheConstants.{STACK_END, RAM}
 use Rattle.v8_core.specs.Size.{Size}
 use Rattle.v8_core.specs.Size.TheVariants as sizes
 use Rattle.v8_core.specs.Operand.{Operand}
@@ -46,7 +46,8 @@ use Rattle.v8_loaded.proofs.Users.{user_runs}
 use Rattle.v8_board.specs.Start.{pages_of}
 use Rattle.v8_board.proofs.Placed.{pages_few}
 use Rattle.sbx_flat.specs.Parts.{Parts}
-use Rattle.sbx_flat.specs.Effects.{does, is_stack_pointer, leaves_in_data, leaves_in_slot, slot_of, takes, transfers_data, transfers_in, with_regs}
+use Rattle.sbx_flat.specs.Regions.{in_one_region}
+use Rattle.sbx_flat.specs.Effects.{does, found, is_stack_pointer, leaves_in_data, leaves_in_slot, slot_of, takes, transfers_data, transfers_in, with_regs}
 use Rattle.sbx_flat.specs.Memory.{number_at}
 use Rattle.sbx_flat.specs.Registers.{still}
 use Rattle.sbx_flat.specs.States.{Fails, Goes, State, advanced, reg}
@@ -57,11 +58,11 @@ use Rattle.sbx_flat.proofs.Law.{still_is_fresh}
 use Rattle.sbx_flat.specs.Calls.{slot}
 use Rattle.sbx_shows.specs.Shows.{Shows, data_area}
 use Rattle.sbx_shows.specs.Steps.{OneTurn, Stands}
-use Rattle.sbx_shows.proofs.Data.{data_at, data_entry_place, data_marks, data_own, data_room, data_stored_shows}
+use Rattle.sbx_shows.proofs.Data.{IsReached, data_at, data_entry_place, data_marks, data_own, data_stored_shows, is_reached}
 use Rattle.sbx_shows.proofs.Fields.{MemoryIn}
 use Rattle.sbx_shows.proofs.Files.{reads_word}
 use Rattle.sbx_shows.proofs.Moved.{answers_ram, brought, left, received_brought, received_shows, same_sent, sent_byte}
-use Rattle.sbx_shows.proofs.Numbers.{inside, number_fits, number_there, some_bytes}
+use Rattle.sbx_shows.proofs.Numbers.{number_fits, number_there, some_bytes}
 use Rattle.sbx_shows.proofs.Places.{fails_not, fetched, fields, marks, same_address, same_reg, user, word}
 use Rattle.sbx_shows.proofs.Processor.{calm_transfer}
 use Rattle.sbx_shows.proofs.Slots.{slot_stored_shows, stack_marks}
@@ -79,9 +80,16 @@ access_by_user store = record { user = true; kind = data_kind store }
 abbrev page : ℕ → ℕ → Page
 page pa entry = record { pa = pa; level = 3; place = entry }
 
-may_move : (store : Bool) → permits (rights_of 1 true) (data_kind store) ≡ true
-may_move true = refl
-may_move false = refl
+-- the page's right lets it move
+may_move : (store right : Bool) → (not store || right) ≡ true → permits (rights_of (if right then 1 else 0) true) (data_kind store) ≡ true
+may_move true true e = refl
+may_move true false e = absurd (cc)
+may_move false true e = refl
+may_move false false e = refl
+
+or_true : (b : Bool) → (b || true) ≡ true
+or_true true = refl
+or_true false = refl
 
 in_ram : (pa : ℕ) → pa < RAM → nat_lt pa device_base ≡ true
 in_ram pa less = grind (arith, nat_tests)
@@ -151,7 +159,7 @@ module _ (n : ℕ) (parts : Parts) (mmu : MmuRegs) (x : World n Device) (s : Sta
 
   -- both machines, from what is shown once the number has gone out
   ends : (pa entry number : ℕ) (new : List ℕ) (mid : State) → (a % bytes_in size == 0) ≡ true → walked ram (root_of mmu) a (access_by_user (writes_memory t)) ≡ Ok (page pa entry) →
-      answers board (marked entry) x.memory.device pa t v ≡ Some (brought t number, new, x.memory.device) → is_own_data_page parts (a / 4096) ≡ true →
+      answers board (marked entry) x.memory.device pa t v ≡ Some (brought t number, new, x.memory.device) → is_own_data_page parts (writes_memory t) (a / 4096) ≡ true →
       does parts still op s ≡ takes (received t rd number) mid → Shows n parts (world n c new x.memory.device) mid r → number < limit_of size → OneTurn n parts mmu x s op r
   unfolding taken
   ends pa entry number new mid whole walk answer own goes shown small = by_free (is_stack_pointer (received t rd number)) refl
@@ -177,11 +185,15 @@ module _ (n : ℕ) (parts : Parts) (mmu : MmuRegs) (x : World n Device) (s : Sta
 
   -- ---- in the data
 
-  data_walk : DATA_START ≤ a → a < DATA_START + length parts.bytes → walked ram (root_of mmu) a (access_by_user (writes_memory t)) ≡ Ok (page (data_area a) (data_entry_place a))
-  data_walk low high =
-      let most = h.fits.bytes in
-      walk_at (pages_of parts) ram mmu a (access_by_user (writes_memory t)) (data_area a) 1 (data_entry_place a) (marks n parts mmu x s r i h).loaded.tables (pages_few parts) h.root (omega arith)
-      (data_at parts a low (data_room parts a h.fits low high)) (may_move (writes_memory t))
+  found_is : in_one_region parts.regions a (bytes_in size) (writes_memory t) ≡ true → found parts t a s.memory ≡ number_at s.memory a (bytes_in size)
+  found_is lies = ap (λ (b : Bool). if b then number_at s.memory a (bytes_in size) else None) lies
+
+  data_walk : (p : IsReached parts a (writes_memory t)) → walked ram (root_of mmu) a (access_by_user (writes_memory t)) ≡ Ok (page (data_area a) (data_entry_place a))
+  data_walk p =
+      let high = p.high in
+      let most = h.fits.pages in
+      walk_at (pages_of parts) ram mmu a (access_by_user (writes_memory t)) (data_area a) (if p.right then 1 else 0) (data_entry_place a) (marks n parts mmu x s r i h).loaded.tables (pages_few parts) h.root (omega arith)
+      (data_at parts a (writes_memory t) h.fits p) (may_move (writes_memory t) p.right p.may)
 
   -- what is shown once the number has gone out
   data_left : (mid : List ℕ) (number : ℕ) (b : Bool) → writes_memory t ≡ b → number_at s.memory a (bytes_in size) ≡ Some number → Shows n parts (world n c mid x.memory.device) s r →
@@ -189,24 +201,23 @@ module _ (n : ℕ) (parts : Parts) (mmu : MmuRegs) (x : World n Device) (s : Sta
   data_left mid number false e found shown = rw e shown
   data_left mid number true e found shown = rw e (data_stored_shows n parts (world n c mid x.memory.device) s r a number v size h.fits shown found (sent_byte (reg s) t rd))
 
-  in_data : (number : ℕ) → (a % bytes_in size == 0) ≡ true → slot_of t s a ≡ None → number_at s.memory a (bytes_in size) ≡ Some number → OneTurn n parts mmu x s op r
-  in_data number whole none found =
-      let some = some_bytes size in
-      let first = inside n parts s.memory x.memory.ram a 0 number size (λ e. omega arith) h.fits h.shows.bytes found h.shows.loaded.tables.size 0 (omega arith) in
-      let low : DATA_START ≤ a = (let f = first.0 in omega arith) in
-      let high : a < DATA_START + length parts.bytes = (let f = first.1 in omega arith) in
-      let most = h.fits.bytes in
-      let m = data_marks n parts x.memory.ram ram a (writes_memory t) h.fits (marks n parts mmu x s r i h) low high in
+  in_data : (number : ℕ) → (a % bytes_in size == 0) ≡ true → slot_of t s a ≡ None → in_one_region parts.regions a (bytes_in size) (writes_memory t) ≡ true → number_at s.memory a (bytes_in size) ≡ Some number → OneTurn n parts mmu x s op r
+  in_data number whole none lies is_number =
+      let p = is_reached parts a (bytes_in size) (writes_memory t) (some_bytes size) lies in
+      let low = p.low in
+      let high = p.high in
+      let most = h.fits.pages in
+      let m = data_marks n parts x.memory.ram ram a (writes_memory t) h.fits (marks n parts mmu x s r i h) p in
       let shown = marked_shows n parts x s r (marked (data_entry_place a)) h.shows m in
       let zero_rest : a % bytes_in size ≡ 0 = grind (arith, nat_tests, whole) in
-      let there = number_there parts s.memory (marked (data_entry_place a)) a number size h.fits shown.bytes m.loaded.tables.size zero_rest found in
+      let there = number_there parts s.memory (marked (data_entry_place a)) a number size h.fits shown.bytes m.loaded.tables.size zero_rest is_number in
       let goes : does parts still op s ≡ takes (received t rd number) (leaves_in_data t a v s) =
-      ap (λ (b : Bool). if b then transfers_in t rd a (slot_of t s a) s else Fails Misaligned) whole
-      ∙ ap (λ p. transfers_in t rd a p s) none
-      ∙ ap (λ p. transfers_data t rd a p s) found in
-      ends (data_area a) (data_entry_place a) number (left t (marked (data_entry_place a)) (data_area a) v) (leaves_in_data t a v s) whole (data_walk low high)
+      ap (λ (b : Bool). if b then transfers_in parts t rd a (slot_of t s a) s else Fails Misaligned) whole
+      ∙ ap (λ q. transfers_in parts t rd a q s) none
+      ∙ ap (λ q. transfers_data t rd a q s) (found_is lies ∙ is_number) in
+      ends (data_area a) (data_entry_place a) number (left t (marked (data_entry_place a)) (data_area a) v) (leaves_in_data t a v s) whole (data_walk p)
       (answers_ram (marked (data_entry_place a)) x.memory.device (data_area a) v number (in_ram (data_area a) (omega arith)) t there)
-      (data_own parts a low high) goes (data_left (marked (data_entry_place a)) number (writes_memory t) refl found shown) (number_fits parts s.memory x.memory.ram a number size h.shows.bytes found)
+      (data_own parts a (writes_memory t) p) goes (data_left (marked (data_entry_place a)) number (writes_memory t) refl is_number shown) (number_fits parts s.memory x.memory.ram a number size h.shows.bytes is_number)
 
   -- ---- in a slot
 
@@ -239,7 +250,7 @@ module _ (n : ℕ) (parts : Parts) (mmu : MmuRegs) (x : World n Device) (s : Sta
   slot_walk : STACK_END ≤ a + 4096 * (pages_of parts).stack_count → a < STACK_END → walked ram (root_of mmu) a (access_by_user (writes_memory t)) ≡ Ok (page (area_of a) (stack_entry_place a))
   slot_walk low high =
       walk_at (pages_of parts) ram mmu a (access_by_user (writes_memory t)) (area_of a) 1 (stack_entry_place a) (marks n parts mmu x s r i h).loaded.tables (pages_few parts) h.root (omega arith)
-      (stack_at (pages_of parts) a (pages_few parts) (omega arith) high) (may_move (writes_memory t))
+      (stack_at (pages_of parts) a (pages_few parts) (omega arith) high) (may_move (writes_memory t) true (or_true (not (writes_memory t))))
 
   held_at : (old : ℕ) → s.registers.newest.slots a ≡ Some old → slot s.registers 0 a ≡ Some old
   unfolding slot
@@ -267,24 +278,28 @@ module _ (n : ℕ) (parts : Parts) (mmu : MmuRegs) (x : World n Device) (s : Sta
       let number : board_number (marked (stack_entry_place a)) (area_of a) size ≡ Some old = subst (λ z. board_number (marked (stack_entry_place a)) (area_of a) z ≡ Some old) (sym which.0) word_there in
       let small : old < limit_of size = subst (λ z. old < limit_of z) (sym which.0) (h.shows.stack (area_of a) old (omega arith) p.there) in
       let goes : does parts still op s ≡ takes (received t rd old) (leaves_in_slot t a v s) =
-      ap (λ (b : Bool). if b then transfers_in t rd a (slot_of t s a) s else Fails Misaligned) whole
-      ∙ ap (λ p. transfers_in t rd a p s) there in
+      ap (λ (b : Bool). if b then transfers_in parts t rd a (slot_of t s a) s else Fails Misaligned) whole
+      ∙ ap (λ p. transfers_in parts t rd a p s) there in
       ends (area_of a) (stack_entry_place a) old (left t (marked (stack_entry_place a)) (area_of a) v) (leaves_in_slot t a v s) whole (slot_walk low high)
       (answers_ram (marked (stack_entry_place a)) x.memory.device (area_of a) v old (in_ram (area_of a) (omega arith)) t number)
-      (stack_own parts a h.fits low high) goes (slot_left (marked (stack_entry_place a)) old (writes_memory t) refl which.0 held shown) small
+      (stack_own parts (writes_memory t) a h.fits low high) goes (slot_left (marked (stack_entry_place a)) old (writes_memory t) refl which.0 held shown) small
 
   -- ---- wherever it is
 
-  by_place : (p q : Option ℕ) → (a % bytes_in size == 0) ≡ true → slot_of t s a ≡ p → number_at s.memory a (bytes_in size) ≡ q → OneTurn n parts mmu x s op r
-  by_place (Some old) q whole e f = in_slot old whole e
-  by_place None (Some number) whole e f = in_data number whole e f
-  by_place None None whole e f =
+  outside : (a % bytes_in size == 0) ≡ true → slot_of t s a ≡ None → found parts t a s.memory ≡ None → OneTurn n parts mmu x s op r
+  outside whole e f =
       absurd (fails_not n parts mmu x s r i h op is admitted good OutsideData
-      (ap (λ (b : Bool). if b then transfers_in t rd a (slot_of t s a) s else Fails Misaligned) whole ∙ ap (λ p. transfers_in t rd a p s) e ∙ ap (λ p. transfers_data t rd a p s) f))
+      (ap (λ (b : Bool). if b then transfers_in parts t rd a (slot_of t s a) s else Fails Misaligned) whole ∙ ap (λ p. transfers_in parts t rd a p s) e ∙ ap (λ p. transfers_data t rd a p s) f))
+
+  by_place : (p q : Option ℕ) (lies : Bool) → (a % bytes_in size == 0) ≡ true → slot_of t s a ≡ p → number_at s.memory a (bytes_in size) ≡ q → in_one_region parts.regions a (bytes_in size) (writes_memory t) ≡ lies → OneTurn n parts mmu x s op r
+  by_place (Some old) q lies whole e f g = in_slot old whole e
+  by_place None (Some number) true whole e f g = in_data number whole e g f
+  by_place None None true whole e f g = outside whole e (found_is g ∙ f)
+  by_place None q false whole e f g = outside whole e (ap (λ (b : Bool). if b then number_at s.memory a (bytes_in size) else None) g)
 
   by_alignment : (b : Bool) → (a % bytes_in size == 0) ≡ b → OneTurn n parts mmu x s op r
-  by_alignment false e = absurd (fails_not n parts mmu x s r i h op is admitted good Misaligned (ap (λ (b : Bool). if b then transfers_in t rd a (slot_of t s a) s else Fails Misaligned) e))
-  by_alignment true e = by_place (slot_of t s a) (number_at s.memory a (bytes_in size)) e refl refl
+  by_alignment false e = absurd (fails_not n parts mmu x s r i h op is admitted good Misaligned (ap (λ (b : Bool). if b then transfers_in parts t rd a (slot_of t s a) s else Fails Misaligned) e))
+  by_alignment true e = by_place (slot_of t s a) (number_at s.memory a (bytes_in size)) (in_one_region parts.regions a (bytes_in size) (writes_memory t)) e refl refl refl
 
   pub moves_one : OneTurn n parts mmu x s op r
   moves_one = by_alignment (a % bytes_in size == 0) refl

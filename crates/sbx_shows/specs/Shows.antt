@@ -1,16 +1,17 @@
 -- What a board with n windows shows of the flat machine, r of whose calls have windows of their own.
-use Rattle.std.specs.Prelude.{ℕ, suc, ◌≡◌, ◌+◌, ◌*◌, ◌-◌, ◌%◌, ◌^◌, ◌<◌, ◌≤◌, true, false, List, [], length, slice_index, Some, None}
+use Rattle.std.specs.Prelude.{ℕ, suc, ◌≡◌, ◌+◌, ◌*◌, ◌%◌, ◌^◌, ◌<◌, ◌≤◌, true, false, List, [], length, slice_index, Some, None}
 use Rattle.v8_core.specs.Ram.{entry_of}
 use Rattle.v8_core.specs.Windows.{Windows, IsFile, word_at}
 use Rattle.v8_core.specs.Control.{Control}
 use Rattle.v8_core.specs.Accesses.{World}
-use Rattle.v8_map.specs.declared.TheConstants.{PAGE, DATA_START, DATA_END, DATA_PLACE, STACK_END, STACK_PLACE, TRAP_TABLE}
+use Rattle.v8_map.specs.declared.TheConstants.{PAGE, DATA_START, DATA_PLACE, STACK_PLACE, TRAP_TABLE}
 use Rattle.v8_loaded.specs.Layout.{IsLoaded}
 use Rattle.v8_loaded.specs.AddressMap.{lowered}
 use Rattle.v8_loaded.specs.Board.{Device}
 use Rattle.v8_loaded.specs.Areas.{area_of}
 use Rattle.v8_board.specs.Start.{pages_of}
 use Rattle.sbx_flat.specs.Parts.{Parts}
+use Rattle.sbx_flat.specs.Regions.{page_rights}
 use Rattle.sbx_flat.specs.Memory.{Bytes}
 use Rattle.sbx_flat.specs.Registers.{Registers}
 use Rattle.sbx_flat.specs.Runs.{AreBytes}
@@ -22,7 +23,7 @@ use Rattle.sbx_flat.specs.Calls.{cell, depth, base, slot}
 -- what an image that is accepted keeps
 pub record Fits (parts : Parts) : Type 0 where
   pub words : length parts.words ≤ 65536
-  pub bytes : length parts.bytes ≤ DATA_END - DATA_START
+  pub pages : length (page_rights parts.regions) ≤ 64
   pub stack : parts.stack_pages ≤ 16
 
 -- the window of the call k
@@ -61,10 +62,10 @@ HasStack ram = (p w : ℕ) → STACK_PLACE ≤ p → entry_of ram p ≡ Some w �
 abbrev pub data_area : ℕ → ℕ
 data_area a = lowered DATA_START DATA_PLACE a
 
--- A byte of the data is the byte of RAM at its address.
+-- A byte of the data is the byte of RAM at its address, in the data's pages.
 pub record ShowsByte (parts : Parts) (ram : List ℕ) (a b : ℕ) : Type 0 where
   pub low : DATA_START ≤ a
-  pub high : a < DATA_START + length parts.bytes
+  pub high : a < DATA_START + PAGE * length (page_rights parts.regions)
   pub small : b < 2 ^ 8
   pub there : slice_index ram (data_area a) ≡ b
 

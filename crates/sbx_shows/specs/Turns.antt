@@ -29,10 +29,10 @@ IsOwnEvent parts (Trapped t) = is_own_trap parts t ≡ true
 IsOwnEvent parts (ErrorMode t) = ⊥
 IsOwnEvent parts (Stopped stop) = Unit
 
--- the image's data and its stack
+-- the image's data and its stack, and where it stores what of them may be written
 abbrev pub ReachesData : Parts → Option DataAccess → Type 0
 ReachesData parts None = Unit
-ReachesData parts (Some access) = is_own_data_page parts (access.va / PAGE) ≡ true
+ReachesData parts (Some access) = is_own_data_page parts access.store (access.va / PAGE) ≡ true
 
 -- the 64 bytes of an open call
 abbrev pub ReachesCall : Registers → Option DataAccess → Type 0

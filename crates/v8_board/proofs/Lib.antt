@@ -4,5 +4,6 @@ pub mod Running
 pub mod MarkSums
 pub mod Joined
 pub mod Contained
+pub use Rattle.sbx_image.proofs.Within
 pub use Rattle.v8_contained.proofs.Stays
 pub use Rattle.v8_contained.proofs.States
