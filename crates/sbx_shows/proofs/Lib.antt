@@ -45,3 +45,4 @@ pub mod Underflow
 pub mod Retries
 pub use Rattle.v8_board.proofs.Placed
 pub use Rattle.v8_board.proofs.Stays
+pub use Rattle.v8_board.proofs.Within

@@ -8,5 +8,6 @@ pub use Rattle.v8_board.specs.declared.outcome.Counts
 pub use Rattle.v8_board.specs.Runs
 pub use Rattle.v8_board.specs.Seen
 pub use Rattle.v8_board.specs.Start
+pub use Rattle.v8_board.specs.Spelling
 pub use Rattle.v8_board.specs.declared.outcome.Ending
 pub use Rattle.v8_board.specs.Counting

@@ -16,8 +16,7 @@ use Rattle.v8_core.specs.Transfer.{Transfer}
 use Rattle.v8_core.specs.Transfer.TheVariants.{Load, Store, Exchange}
 use Rattle.sbx_flat.specs.Parts.{Parts}
 use Rattle.sbx_flat.specs.Services.{Services}
-use Rattle.sbx_flat.specs.Effects.{aligned, declares, does, gets, is_stack_pointer, leaves_in_data, leaves_in_slot, operand_value, restores, served, serves, service_of, slot_of, takes, transfers_data, transfers_in, with_regs, writes, writes_some}
-use Rattle.sbx_flat.specs.Memory.{number_at}
+use Rattle.sbx_flat.specs.Effects.{aligned, declares, does, found, gets, is_stack_pointer, leaves_in_data, leaves_in_slot, operand_value, restores, served, serves, service_of, slot_of, takes, transfers_data, transfers_in, with_regs, writes, writes_some}
 use Rattle.sbx_flat.specs.Registers.{Fresh, Registers, popped, written}
 use Rattle.sbx_flat.specs.Runs.{place_of, reached_at, reached_by}
 use Rattle.sbx_flat.specs.States.{Fails, Goes, Over, State, Turn, advanced, reg}
@@ -81,15 +80,15 @@ module _ (b : List ℕ) where
   data_same t rd a None s = refl
   data_same t rd a (Some number) s = ap (takes (received t rd number)) (in_data_same t a (sent (reg s) t rd) s) ∙ takes_same (received t rd number) (leaves_in_data t a (sent (reg s) t rd) s)
 
-  moved_same : (t : Transfer) (rd a : ℕ) (o : Option ℕ) (s : State) → transfers_in t rd a o (with_earlier b s) ≡ along (transfers_in t rd a o s)
+  moved_same : (parts : Parts) (t : Transfer) (rd a : ℕ) (o : Option ℕ) (s : State) → transfers_in parts t rd a o (with_earlier b s) ≡ along (transfers_in parts t rd a o s)
   unfolding reg
-  moved_same t rd a (Some word) s = ap (takes (received t rd word)) (in_slot_same t a (sent (reg s) t rd) s) ∙ takes_same (received t rd word) (leaves_in_slot t a (sent (reg s) t rd) s)
-  moved_same t rd a None s = data_same t rd a (number_at s.memory a (bytes_in (size_of t))) s
+  moved_same parts t rd a (Some word) s = ap (takes (received t rd word)) (in_slot_same t a (sent (reg s) t rd) s) ∙ takes_same (received t rd word) (leaves_in_slot t a (sent (reg s) t rd) s)
+  moved_same parts t rd a None s = data_same t rd a (found parts t a s.memory) s
 
-  transfers_same : (t : Transfer) (rd a : ℕ) (s : State) → aligned (bytes_in (size_of t)) a (transfers_in t rd a (slot_of t (with_earlier b s) a) (with_earlier b s)) ≡ along (aligned (bytes_in (size_of t)) a (transfers_in t rd a (slot_of t s a) s))
-  transfers_same t rd a s =
-      by_test (a % bytes_in (size_of t) == 0) _ _ (transfers_in t rd a (slot_of t s a) s) (Fails Misaligned)
-      (ap (λ o. transfers_in t rd a o (with_earlier b s)) (slot_same t s a) ∙ moved_same t rd a (slot_of t s a) s) refl
+  transfers_same : (parts : Parts) (t : Transfer) (rd a : ℕ) (s : State) → aligned (bytes_in (size_of t)) a (transfers_in parts t rd a (slot_of t (with_earlier b s) a) (with_earlier b s)) ≡ along (aligned (bytes_in (size_of t)) a (transfers_in parts t rd a (slot_of t s a) s))
+  transfers_same parts t rd a s =
+      by_test (a % bytes_in (size_of t) == 0) _ _ (transfers_in parts t rd a (slot_of t s a) s) (Fails Misaligned)
+      (ap (λ o. transfers_in parts t rd a o (with_earlier b s)) (slot_same t s a) ∙ moved_same parts t rd a (slot_of t s a) s) refl
 
   -- ---- services
 
@@ -121,7 +120,7 @@ module _ (b : List ℕ) where
   does_same parts fresh (SetHigh f) s = writes_same f.rd (f.imm22 * 2 ^ 10 % 2 ^ 32) s
   does_same parts fresh (ReadY rd) s = writes_same rd s.y s
   does_same parts fresh (WriteY f) s = refl
-  does_same parts fresh (operation.Transfer t m) s = transfers_same t m.rd (address (reg s) m.rs1 m.operand2) s
+  does_same parts fresh (operation.Transfer t m) s = transfers_same parts t m.rd (address (reg s) m.rs1 m.operand2) s
   does_same parts fresh (Save f) s = by_test _ _ _ _ _ refl refl
   does_same parts fresh (Restore f) s = restores_same f.rd (address (reg s) f.rs1 f.operand2) (popped s.registers) s
   does_same parts fresh (Call displacement) s = refl

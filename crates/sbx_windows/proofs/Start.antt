@@ -1,11 +1,11 @@
 -- Any board that has been loaded shows a flat start, with one call in a window.
-use Rattle.std.proofs.Common.{◌≡◌, ℕ, zero, suc, ◌+◌, ◌-◌, ◌*◌, ◌/◌, ◌%◌, ◌^◌, ◌<◌, ◌≤◌, Bool, true, false, List, [], length, Some, None, refl, sym, ap, ◌∙◌, subst, arith}
-use Rattle.std.specs.Prelude.{slice_get, slice_index, nat_le, nat_lt, if◌then◌else◌}
+use Rattle.std.proofs.Common.{◌≡◌, ℕ, zero, suc, ◌+◌, ◌-◌, ◌*◌, ◌%◌, ◌^◌, ◌<◌, ◌≤◌, Bool, true, false, List, [], length, None, refl, sym, ap, ◌∙◌, subst, arith}
+use Rattle.std.specs.Prelude.{slice_index, nat_lt, if◌then◌else◌}
 use Rattle.std.proofs.lemmas.Bool.Decides.{nat_tests}
-use Rattle.std.proofs.lemmas.Option.{slice_get_within, get_or_from_slice_get}
 use Rattle.std.proofs.Math.Nat.{mod-eq_of_lt}
 use Rattle.std.proofs.Math.Pow.{pow_mono}
 use Rattle.std.proofs.lemmas.List.{append-nil}
+use Rattle.std.specs.List.{AllByRecursion}
 use Rattle.v8_map.specs.declared.TheConstants.{DATA_START, DATA_PLACE, STACK_END, STACK_START, RAM}
 use Rattle.v8_core.specs.Ram.{entry_of}
 use Rattle.v8_mmu.proofs.RamLemmas.{entry_is}
@@ -18,17 +18,20 @@ use Rattle.v8_loaded.specs.Layout.{data_count}
 use Rattle.v8_loaded.specs.Board.{Device}
 use Rattle.v8_loaded.proofs.Frames.{word_fits}
 use Rattle.sbx_shows.specs.Seen.{State as BoardState}
-use Rattle.sbx_shows.specs.Start.{IsPlaced, IsStart, at_most, pages_of}
+use Rattle.sbx_shows.specs.Start.{IsPlaced, IsStart, pages_of}
 use Rattle.sbx_shows.proofs.Placed.{data_counted, placed_loaded}
 use Rattle.sbx_shows.proofs.Stays.{word_kept}
 use Rattle.sbx_flat.specs.Rules.{code_start}
 use Rattle.sbx_flat.specs.Parts.{Parts}
+use Rattle.sbx_flat.specs.Regions.{data_at, laid}
+use Rattle.sbx_shows.specs.Spelling.{IsTypedRegion}
+use Rattle.sbx_shows.proofs.Within.{data_is_byte, data_lies_at}
 use Rattle.sbx_flat.specs.Registers.{Registers}
-use Rattle.sbx_flat.specs.Runs.{AreBytes, IsStart as IsFlatStart, data_at}
+use Rattle.sbx_flat.specs.Runs.{AreBytes, IsStart as IsFlatStart}
 use Rattle.sbx_flat.specs.States.{State}
 use Rattle.sbx_flat.specs.Calls.{base, cell, slot}
 use Rattle.sbx_flat.specs.WellFormed.{IsStacked}
-use Rattle.sbx_shows.specs.Shows.{Fits, HasStack, Shows, ShowsByte, ShowsCalls, ShowsData, ShowsSlots, window, data_area}
+use Rattle.sbx_shows.specs.Shows.{Fits, HasStack, Shows, ShowsCalls, ShowsData, ShowsSlots, window, data_area}
 use Rattle.sbx_shows.proofs.Files.{file_written}
 use Rattle.sbx_shows.proofs.Pages.{placed_own}
 use Rattle.sbx_shows.proofs.Stacks.{stack_count}
@@ -55,7 +58,7 @@ flat_start parts input v y = record {
   icc = record { n = false; z = false; v = false; c = false };
   y = y;
   registers = start_file v;
-  memory = data_at parts.bytes;
+  memory = data_at parts.regions;
   input = input;
   output = [];
   exit = None;
@@ -135,26 +138,20 @@ module _ (n : ℕ) (old : Windows) (f : IsFile n old) where
 
 -- ---- all of it
 
-data_start_shows : (parts : Parts) (ram : List ℕ) → Fits parts → ((i : ℕ) → slice_index parts.bytes i < 2 ^ 8) → ((i : ℕ) → i < 4096 * data_count (pages_of parts) → slice_index ram (DATA_PLACE + i) ≡ slice_index parts.bytes i) → ShowsData parts (data_at parts.bytes) ram
-data_start_shows parts ram fits small placed a b is = by_place (nat_lt a DATA_START) refl is
-  where
-    by_place : (t : Bool) → nat_lt a DATA_START ≡ t → (if t then None else slice_get parts.bytes (a - DATA_START)) ≡ Some b → ShowsByte parts ram a b
-    by_place true e f = absurd (cc)
-    by_place false e f =
-        let low : DATA_START ≤ a = grind (arith, nat_tests) in
-        let less = slice_get_within parts.bytes (a - DATA_START) b f in
-        let value : slice_index parts.bytes (a - DATA_START) ≡ b = get_or_from_slice_get parts.bytes (a - DATA_START) b 0 f in
-        let most = fits.bytes in
-        let few : nat_le ((length parts.bytes + 4095) / 4096) 64 ≡ true = grind (arith, nat_tests) in
-        let count : at_most 64 ((length parts.bytes + 4095) / 4096) ≡ (length parts.bytes + 4095) / 4096 = ap (λ (t : Bool). if t then (length parts.bytes + 4095) / 4096 else 64) few in
-        let counted = data_counted parts in
-        let place : data_area a ≡ DATA_PLACE + (a - DATA_START) = omega arith in
-        record {
-          low = low;
-          high = omega arith;
-          small = subst (λ q. q < 2 ^ 8) value (small (a - DATA_START));
-          there = ap (slice_index ram) place ∙ placed (a - DATA_START) (omega (arith, count, counted)) ∙ value;
-        }
+data_start_shows : (parts : Parts) (ram : List ℕ) → Fits parts → AllByRecursion IsTypedRegion parts.regions → ((i : ℕ) → i < 4096 * data_count (pages_of parts) → slice_index ram (DATA_PLACE + i) ≡ slice_index (laid parts.regions) i) →
+    ShowsData parts (data_at parts.regions) ram
+data_start_shows parts ram fits typed placed a b is =
+    let lies = data_lies_at parts.regions a b is in
+    let low = lies.from in
+    let high = lies.to in
+    let counted = data_counted parts fits.pages in
+    let place : data_area a ≡ DATA_PLACE + (a - DATA_START) = omega arith in
+    record {
+      low = low;
+      high = high;
+      small = data_is_byte parts.regions a b typed is;
+      there = ap (slice_index ram) place ∙ placed (a - DATA_START) (omega arith) ∙ lies.is;
+    }
 
 -- the stack of a board that was loaded has words, as its RAM has bytes
 stack_start : (n : ℕ) (parts : Parts) (old new : List ℕ) → IsPlaced n parts old new → length old ≡ RAM → ((i : ℕ) → slice_index old i < 256) → HasStack new

@@ -1,5 +1,6 @@
 -- The second law: what a run of a safe image is on a board with any count of windows, moment by moment and at its end.
-use Rattle.std.specs.Prelude.{ℕ, ◌≡◌, ◌^◌, ◌<◌, ◌≤◌, List, ◌++◌, None, slice_index}
+use Rattle.std.specs.Prelude.{ℕ, ◌≡◌, ◌^◌, ◌<◌, ◌≤◌, List, ◌++◌, None}
+use Rattle.std.specs.List.{AllByRecursion}
 use Rattle.v8_core.specs.MmuRegs.{MmuRegs}
 use Rattle.v8_core.specs.Accesses.{World}
 use Rattle.v8_loaded.specs.Board.{Device}
@@ -9,6 +10,7 @@ use Rattle.sbx_shows.specs.Runs.{after as board_after}
 use Rattle.sbx_shows.specs.Seen.{State as BoardState, ending_of, turned}
 use Rattle.sbx_shows.specs.Start.{IsStart}
 use Rattle.sbx_flat.specs.Parts.{Parts}
+use Rattle.sbx_shows.specs.Spelling.{IsTypedRegion}
 use Rattle.sbx_flat.specs.Runs.{AreBytes, FlatRun, FlatSafe, budget, weight}
 use Rattle.sbx_flat.specs.States.{State}
 use Rattle.sbx_flat.specs.Traffic.{traffic}
@@ -67,7 +69,7 @@ pub record IsAnyBoard (n : ℕ) (input : List ℕ) (made : BoardState n) : Type 
 pub record IsImage (parts : Parts) : Type 0 where
   pub fits : Fits parts
   pub stack : 1 ≤ parts.stack_pages
-  pub bytes : (i : ℕ) → slice_index parts.bytes i < 2 ^ 8
+  pub bytes : AllByRecursion IsTypedRegion parts.regions
   pub budget_fits : budget parts < 2 ^ 64
 
 abbrev pub RunsToItsEnd : Type 0

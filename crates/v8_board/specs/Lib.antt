@@ -5,6 +5,7 @@ pub mod Start
 pub mod Marks
 pub mod Laws
 pub mod Contains
+pub use Rattle.sbx_image.specs.Spelling
 pub use Rattle.v8_contained.specs.Board
 pub use Rattle.v8_contained.specs.States
 pub use Rattle.v8_contained.specs.Contained
