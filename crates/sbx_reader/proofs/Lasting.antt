@@ -9,7 +9,7 @@ use Rattle.sbx_image.specs.ImageFault.TheVariants as fault
 use Rattle.sbx_image.specs.Next.{Next}
 use Rattle.sbx_image.specs.Next.TheVariants.{Exactly}
 use Rattle.sbx_image.specs.Parts.{Parts}
-use Rattle.sbx_image.specs.Rules.{◌>>=◌, wants, between, admits, in_order, is_fuel, is_coefficient, is_known, is_data_length, Place, code_start}
+use Rattle.sbx_image.specs.Rules.{◌>>=◌, wants, between, admits, in_order, is_fuel, is_coefficient, is_known, is_version, is_data_length, Place, code_start}
 use Rattle.sbx_image.specs.Reading.{number_at, number_in, signed_at, bytes_at, items_at, range_at, location_at, cell_at, term_at, block_head_at, block_at, kind_at, counts_at, bounds_at, function_head_at, function_at, services_at, data_length_at, header_at, parts_at, reading}
 use Rattle.sbx_reader.specs.Fronts.{lasting, told, front}
 
@@ -177,8 +177,8 @@ module _ (more : List ℕ) where
   unfolding services_at
   services_last bytes =
       then_lasts _ _ _ _ _ (number_in_lasts more w32 0x53425838 0x53425838 fault.Magic bytes) (λ magic.
-      then_lasts _ _ _ _ _ (number_in_lasts more w16 1 1 fault.Version magic.1) (λ version.
-      then_lasts _ _ _ _ _ (number_lasts more w16 version.1) (λ services. test_lasts (is_known services.0) fault.Service _ _ (done_lasts _ _))))
+      then_lasts _ _ _ _ _ (number_lasts more w16 magic.1) (λ version. test_lasts (is_version version.0) fault.Version _ _
+      (then_lasts _ _ _ _ _ (number_lasts more w16 version.1) (λ services. test_lasts (is_known services.0) fault.Service _ _ (done_lasts _ _)))))
 
   data_length_lasts : (bytes : List ℕ) → Lasts (grown more) (data_length_at bytes) (data_length_at (bytes ++ more))
   unfolding data_length_at

@@ -1,6 +1,5 @@
 -- What is read stands in front of what it leaves: of an item that is read, the rest of the bytes is their end.
 use Rattle.std.proofs.Common.{◌≡◌, ℕ, zero, suc, ◌+◌, ◌-◌, ◌≤◌, Bool, true, false, List, [], ◌++◌, length, take, drop, Result, Ok, Err, refl, sym, ap, subst, ◌∙◌, arith, inl, inr}
-use Rattle.std.specs.Prelude.{◌==◌}
 use Rattle.std.specs.Int.{Width, w8, w16, w32, w64, byte_len}
 use Rattle.std.proofs.lemmas.Bool.{cases_lt, lt-ltb, le-ltb}
 use Rattle.std.proofs.lemmas.List.{append_assoc, length-append, length-take, take-append-drop}
@@ -8,7 +7,7 @@ use Rattle.std.proofs.Math.Seq.{drop-append_seam}
 use Rattle.sbx_image.specs.ImageFault.{ImageFault}
 use Rattle.sbx_image.specs.ImageFault.TheVariants as fault
 use Rattle.sbx_image.specs.Next.{Next}
-use Rattle.sbx_image.specs.Rules.{◌>>=◌, wants, between, admits, in_order, is_fuel, is_coefficient, is_known, is_data_length, Place}
+use Rattle.sbx_image.specs.Rules.{◌>>=◌, wants, between, admits, in_order, is_fuel, is_coefficient, is_known, is_version, is_data_length, Place}
 use Rattle.sbx_image.specs.Reading.{number_at, number_in, signed_at, bytes_at, items_at, range_at, location_at, cell_at, term_at, block_head_at, block_at, kind_at, counts_at, bounds_at, function_head_at, services_at, data_length_at, header_at}
 
 -- So many bytes or more stand in front of the rest.
@@ -190,9 +189,10 @@ services_leave : (bytes : List ℕ) → Leaves 1 after bytes (services_at bytes)
 unfolding services_at
 services_leave bytes =
     then_leaves 1 after after bytes _ _ (number_in_leaves 1 w32 (omega arith) 0x53425838 0x53425838 fault.Magic bytes) (λ magic.
-    then_leaves 0 after after magic.1 _ _ (number_in_leaves 0 w16 (omega arith) 1 1 fault.Version magic.1) (λ version.
-    then_leaves 0 after after version.1 _ _ (number_leaves 0 w16 (omega arith) version.1) (λ services.
-    test_leaves 0 after services.1 (is_known services.0) fault.Service _ (done_leaves after _))))
+    then_leaves 0 after after magic.1 _ _ (number_leaves 0 w16 (omega arith) magic.1) (λ version.
+    test_leaves 0 after version.1 (is_version version.0) fault.Version _
+    (then_leaves 0 after after version.1 _ _ (number_leaves 0 w16 (omega arith) version.1) (λ services.
+    test_leaves 0 after services.1 (is_known services.0) fault.Service _ (done_leaves after _)))))
 
 data_length_leaves : (bytes : List ℕ) → Leaves 0 after bytes (data_length_at bytes)
 unfolding data_length_at

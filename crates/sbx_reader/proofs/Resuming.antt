@@ -1,10 +1,9 @@
 -- Reading on behind a whole item tells what reading from the start tells, whatever comes behind the bytes.
-use Rattle.std.proofs.Common.{◌≡◌, ◌≢◌, ℕ, zero, suc, ◌+◌, ◌-◌, ◌*◌, ◌≤◌, ◌<◌, Bool, true, false, ltb, List, [], ◌∷◌, ◌++◌, length, take, drop, Option, None, Some, Result, Ok, Err, refl, sym, ap, subst, ◌∙◌, arith, inl, inr}
+use Rattle.std.proofs.Common.{◌≡◌, ◌≢◌, ℕ, zero, suc, ◌+◌, ◌-◌, ◌*◌, ◌≤◌, ◌<◌, Bool, true, false, List, [], ◌∷◌, ◌++◌, length, take, drop, Option, None, Result, Ok, Err, refl, sym, subst, ◌∙◌, arith, inl, inr}
 use Rattle.std.specs.Prelude.{◌==◌}
 use Rattle.std.specs.Int.{w32, byte_len, from_be_bytes}
 use Rattle.std.proofs.lemmas.Bool.{cases_lt, lt-ltb, le-ltb, ne_eqb, eqb-false}
 use Rattle.std.proofs.lemmas.List.{append_assoc, append-nil, length-append, length-drop, drop-append-le, drop-drop, nil_from_length, take_all}
-use Rattle.std.proofs.Math.Seq.{drop-append_seam}
 use Rattle.sbx_image.specs.ImageFault.{ImageFault}
 use Rattle.sbx_image.specs.ImageFault.TheVariants as fault
 use Rattle.sbx_image.specs.Next.{Next}
@@ -16,14 +15,14 @@ use Rattle.sbx_image.specs.Parts.{Parts}
 use Rattle.sbx_image.specs.declared.heads.Header.{Header}
 use Rattle.sbx_image.specs.declared.heads.FunctionHead.{FunctionHead}
 use Rattle.sbx_image.specs.Rules.{◌>>=◌, wants, Place, code_start}
-use Rattle.sbx_image.specs.Reading.{number_at, bytes_at, items_at, range_at, block_at, function_head_at, function_at, header_at, parts_at, reading}
+use Rattle.sbx_image.specs.Reading.{number_at, bytes_at, items_at, range_at, block_at, function_head_at, function_at, header_at, regions_of, parts_at, reading}
 use Rattle.want.specs.Wants.{refused}
 use Rattle.sbx_reader.specs.declared.stages.Stage.{Stage}
 use Rattle.sbx_reader.specs.declared.stages.Stage.TheVariants.{Front, Functions, Blocks}
 use Rattle.sbx_reader.specs.Fronts.{lasting, told, front}
 use Rattle.sbx_reader.specs.Stages.{functions_end, rest_of, lasting_of, IsWhole, IsItem, GoesOn, IsResumed}
-use Rattle.sbx_reader.proofs.Lasting.{Lasts, grown, longer, done_lasts, then_lasts, items_last, number_lasts, bytes_last, ranges_last, block_lasts, function_head_lasts, header_lasts}
-use Rattle.sbx_reader.proofs.Leaving.{Behind, Leaves, done_leaves, then_leaves, bytes_leave, words_leave, ranges_leave, block_leaves, function_head_leaves, header_leaves, behind_drop}
+use Rattle.sbx_reader.proofs.Lasting.{Lasts, longer, done_lasts, then_lasts, items_last, number_lasts, bytes_last, ranges_last, block_lasts, function_head_lasts, header_lasts}
+use Rattle.sbx_reader.proofs.Leaving.{Leaves, done_leaves, then_leaves, bytes_leave, words_leave, ranges_leave, block_leaves, function_head_leaves, header_leaves, behind_drop}
 
 pub then_then : {A B C : Type 0} (r : Result A ImageFault) (f : A → Result B ImageFault) (g : B → Result C ImageFault) → ((r >>= f) >>= g) ≡ (r >>= λ x. f x >>= g)
 then_then (Ok x) f g = refl
@@ -234,7 +233,7 @@ unfolding rest_of reading parts_at functions_end
 front_then bytes = closed (parts_at bytes) ∙
     then_4 {H = Header × List ℕ} {P = List ℕ × List ℕ} {R = List ℕ × List ℕ} {B = List Function × (Place × List ℕ)} {F = Parts × List ℕ}
     (header_at bytes) (λ x. items_at (number_at w32) x.0.words x.1) (λ x y. bytes_at x.0.bytes y.1) (λ x y z. items_at (function_at (code_start + 4 * x.0.words)) x.0.functions ((Exactly code_start, 0), z.1))
-    (λ x y z w. (record { services = x.0.services; words = y.0; bytes = z.0; stack_pages = x.0.stack_pages; functions = w.0 }, w.1.1))
+    (λ x y z w. (record { version = x.0.version; services = x.0.services; words = y.0; regions = regions_of z.0; stack_pages = x.0.stack_pages; functions = w.0 }, w.1.1))
     (λ x. wants (length x.1 == 0) fault.Trailing)
 
 -- all before the functions, as the header

@@ -1,8 +1,7 @@
 -- What is left to read behind a whole item, and what a reader that goes on from there needs to know.
-use Rattle.std.specs.Prelude.{◌≡◌, ◌≢◌, ℕ, ◌+◌, ◌≤◌, ◌<◌, List, ◌++◌, length, drop, Option, None, Some, Result, Ok, Err, ◌==◌}
+use Rattle.std.specs.Prelude.{◌≡◌, ◌≢◌, ℕ, ◌≤◌, ◌<◌, List, ◌++◌, length, drop, Option, None, Some, Result, Ok, Err, ◌==◌}
 use Rattle.sbx_image.specs.ImageFault.{ImageFault}
 use Rattle.sbx_image.specs.ImageFault.TheVariants as fault
-use Rattle.sbx_image.specs.Next.{Next}
 use Rattle.want.specs.Wants.{refused}
 use Rattle.sbx_image.specs.Rules.{◌>>=◌, wants, Place}
 use Rattle.sbx_image.specs.Reading.{items_at, block_at, function_at, reading}
