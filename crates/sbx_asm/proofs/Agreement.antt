@@ -8,6 +8,7 @@ use Rattle.sbx_text.specs.declared.Token.{Token}
 use Rattle.sbx_text.specs.declared.fault.TextFault.{TextFault}
 use Rattle.sbx_text.specs.Tokens.{tokens_of}
 use Rattle.sbx_image.specs.Parts.{Parts}
+use Rattle.sbx_image.specs.Reading.{regions_of}
 use Rattle.sbx_asm.specs.declared.fault.AsmFault.{AsmFault}
 use Rattle.sbx_asm.specs.declared.draft.Draft.{Draft}
 use Rattle.sbx_asm.specs.Faults.{is_earlier, told}
@@ -81,7 +82,7 @@ module _ (items : List Item) where
   parts_are none =
       let clean : each (faults_at (values_of items)) [] items ≡ [] = nil_right (duplicates [] (all_labels items)) _ (none_told (faults_of items) none) in
       let m = all_made (values_of items) [] items start_draft refl at_start clean in
-      λ j. record { services = m.2 j; words = m.0 j; bytes = filled (m.1 j); stack_pages = m.3 j; functions = m.4 j }
+      λ j. record { version = 1; services = m.2 j; words = m.0 j; regions = regions_of (filled (m.1 j)); stack_pages = m.3 j; functions = m.4 j }
 
   judged_same : (n : ℕ) (o : Option AsmFault) → least_of (faults_of items) ≡ o → judged n o (parts_in made) ≡ judged n o (image_of items)
   judged_same n (Some f) h = refl

@@ -22,8 +22,10 @@ use Rattle.sbx_image.specs.Block.{Block}
 use Rattle.sbx_image.specs.Function.{Function}
 use Rattle.sbx_image.specs.Parts.{Parts}
 use Rattle.sbx_image.specs.Services.{Services}
+use Rattle.sbx_image.specs.Reading.{regions_of}
+use Rattle.sbx_image.specs.Regions.{AreBytes}
 use Rattle.sbx_image.specs.Rules.{parts_keep}
-use Rattle.sbx_image.specs.Spelling.{IsTyped, IsTypedRange, IsTypedCell, IsTypedTerm, IsTypedBlock, IsTypedFunction, IsBytes}
+use Rattle.sbx_image.specs.Spelling.{IsTyped, IsTypedRange, IsTypedCell, IsTypedTerm, IsTypedBlock, IsTypedFunction, IsTypedRegion, IsBytes}
 use Rattle.sbx_directives.specs.declared.directive.Width.{Width}
 use Rattle.sbx_directives.specs.declared.directive.Keyword.{Keyword}
 use Rattle.sbx_directives.specs.declared.directive.Keyword.TheVariants as keywords
@@ -361,7 +363,11 @@ draft_fits labels source = fold_all DraftFits (draft_line labels.values) (λ d x
 -- ---- the image
 
 abbrev PartsFit : Parts → Type 0
-PartsFit p = IsTyped p × IsBytes p.bytes
+PartsFit p = IsTyped p
+
+regions_fit : (bytes : List ℕ) → AreBytes bytes → AllByRecursion IsTypedRegion (regions_of bytes)
+regions_fit [] fits = tt
+regions_fit (b ∷ bytes) fits = (fits, tt)
 
 some_services : (o : Option Services) → IfSome o HasBits → HasBits (unwrap_or o (record { 0 = 0 }))
 some_services (Some x) h = h
@@ -369,10 +375,9 @@ some_services None h = omega arith
 
 parts_fit : (d : Draft) → DraftFits d → PartsFit (parts_in d)
 unfolding parts_in
-parts_fit d h = (
-  record { services = some_services d.services h.0.services; words = h.0.words; functions = h.0.functions },
-  numbered_bytes (filled d.bytes) (append_all (λ b. b < 256) d.bytes _ h.0.bytes (copies_all (λ b. b < 256) 0 (omega arith) _)),
-)
+parts_fit d h =
+    let bytes = numbered_bytes (filled d.bytes) (append_all (λ b. b < 256) d.bytes _ h.0.bytes (copies_all (λ b. b < 256) 0 (omega arith) _)) in
+    record { version = omega arith; services = some_services d.services h.0.services; words = h.0.words; regions = regions_fit (filled d.bytes) bytes; functions = h.0.functions }
 
 same_parts : (p parts : Parts) → (let r : Result Parts AsmFault = Ok p in r) ≡ Ok parts → p ≡ parts
 same_parts p parts e = cc

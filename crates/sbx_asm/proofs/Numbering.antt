@@ -8,6 +8,7 @@ use Rattle.std.proofs.lemmas.List.{map-append}
 use Rattle.v8_syntax.specs.Statements.{source_meaning, statement_length}
 use Rattle.sbx_image.specs.Block.{Block}
 use Rattle.sbx_image.specs.Function.{Function}
+use Rattle.sbx_image.specs.Reading.{regions_of}
 use Rattle.sbx_directives.specs.declared.directive.Keyword.TheVariants as keywords
 use Rattle.sbx_directives.specs.declared.directive.Directive.TheVariants as directives
 use Rattle.sbx_directives.specs.declared.directive.Statement.TheVariants as statements
@@ -318,7 +319,7 @@ module _ (f : ℕ → ℕ) where
       let ss = flat_u services (λ _. refl) is in
       let ks = flat_u images.stacks (λ _. refl) is in
       let fs = functions_u [] is in
-      λ k. record { services = first_or (record { 0 = 0 }) (ss k); words = ws k; bytes = filled (bs k); stack_pages = first_or 1 (ks k); functions = fs k }
+      λ k. record { version = 1; services = first_or (record { 0 = 0 }) (ss k); words = ws k; regions = regions_of (filled (bs k)); stack_pages = first_or 1 (ks k); functions = fs k }
 
   all_faults_u : (is : List Item) → AllByRecursion (λ i. (i.number ≤ 1000000) × (f i.number ≤ 1000000)) is → faults_of (us is) ≡ map r (faults_of is)
   all_faults_u is h =

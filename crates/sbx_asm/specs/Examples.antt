@@ -28,9 +28,10 @@ hello =
 abbrev pub hello_parts : Parts
 hello_parts =
     record {
+      version = 1;
       services = record { 0 = 5 };
       words = 0x90102048 ∷ 0x91D02002 ∷ 0x90102069 ∷ 0x91D02002 ∷ 0x90102000 ∷ 0x91D02000 ∷ [];
-      bytes = [];
+      regions = [];
       stack_pages = 1;
       functions =
           record {

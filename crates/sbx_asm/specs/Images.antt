@@ -8,6 +8,7 @@ use Rattle.v8_syntax.specs.Statements.{source_meaning}
 use Rattle.sbx_image.specs.Block.{Block}
 use Rattle.sbx_image.specs.Function.{Function}
 use Rattle.sbx_image.specs.Parts.{Parts}
+use Rattle.sbx_image.specs.Reading.{regions_of}
 use Rattle.sbx_image.specs.Services.{Services}
 use Rattle.sbx_directives.specs.declared.directive.Directive.TheVariants as directives
 use Rattle.sbx_directives.specs.declared.directive.Statement.TheVariants as statements
@@ -106,13 +107,14 @@ services i = services_said i.said
 abbrev pub stacks : Item → List ℕ
 stacks i = stack_said i.said
 
--- without their lines, no services and one page of stack
+-- Without their lines, no services and one page of stack. The data are one region that may be written, or none where there are no bytes.
 unfoldable pub image_of : List Item → Parts
 image_of items =
     record {
+      version = 1;
       services = first_or (record { 0 = 0 }) (flat_map services items);
       words = each (words_at (values_of items)) [] items;
-      bytes = filled (each (bytes_at (values_of items)) [] items);
+      regions = regions_of (filled (each (bytes_at (values_of items)) [] items));
       stack_pages = first_or 1 (flat_map stacks items);
       functions = each function_at [] items;
     }

@@ -3,7 +3,7 @@ use Rattle.std.specs.Prelude.{◌≡◌, ℕ, ◌+◌, ◌≤◌, ◌⊎◌, Boo
 use Rattle.std.specs.List.{AllByRecursion}
 use Rattle.sbx_text.specs.Tokens.{tokens_of}
 use Rattle.sbx_image.specs.Parts.{Parts}
-use Rattle.sbx_image.specs.Spelling.{IsTyped, IsBytes}
+use Rattle.sbx_image.specs.Spelling.{IsTyped}
 use Rattle.sbx_directives.specs.declared.directive.Statement.TheVariants as statements
 use Rattle.sbx_asm.specs.declared.fault.AsmFault.{AsmFault}
 use Rattle.sbx_asm.specs.declared.fault.Cause.TheVariants as causes
@@ -15,9 +15,9 @@ use Rattle.sbx_asm.specs.Rules.{duplicates, faults_of, least_of}
 use Rattle.sbx_asm.specs.Images.{words_at, image_of}
 use Rattle.sbx_asm.specs.Meaning.{source_image}
 
--- each of its numbers is one that its field can hold, and its data are bytes
+-- each of its numbers is one that its field can hold, and its regions have bytes
 abbrev pub MeantImagesFitTheirFields : Type 0
-MeantImagesFitTheirFields = (source : List ℕ) (parts : Parts) → source_image source ≡ Ok parts → IsTyped parts × IsBytes parts.bytes
+MeantImagesFitTheirFields = (source : List ℕ) (parts : Parts) → source_image source ≡ Ok parts → IsTyped parts
 
 -- The code of a source without faults is the words of its statements, one after the other.
 abbrev pub CodeIsItsStatements : Type 0

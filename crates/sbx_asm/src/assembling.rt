@@ -75,7 +75,7 @@ fn image_made(alloc: Global, source: &[u8]) -> Result<Image, AsmFault>
     ensures { Gives result (image_made source.now) }
 {
     match draft_of(alloc, source) {
-        Ok((draft, count)) => finish(count + 1, draft),
+        Ok((draft, count)) => finish(alloc, count + 1, draft),
         Err(error) => Err(AsmFault::from(error)),
     }
 }

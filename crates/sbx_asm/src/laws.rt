@@ -2,7 +2,7 @@
 ghost use Rattle.sbx_asm.specs.Laws.{MeantImagesFitTheirFields, CodeIsItsStatements, WordsLookAheadByLabelsAlone, BlankLinesSayNothing, BlankLinesChangeNothing, NumbersShowInFaultsAlone, LabelsMayBeRenamed, TheLeastFaultIsTold};
 ghost use Rattle.sbx_asm.specs.Examples.{KnownSourcesHaveTheirMeanings};
 
-/// Of each image that a source means, each number is one that its field can hold, and the data are bytes.
+/// Of each image that a source means, each number is one that its field can hold, and its regions have bytes.
 pub fn meant_images_fit_their_fields()
     ensures { MeantImagesFitTheirFields }
 {}

@@ -1,5 +1,5 @@
 -- The image that a loop is measured in.
-use Rattle.std.specs.Prelude.{◌≤◌, ℕ, pos, List, [], ◌∷◌, replicate}
+use Rattle.std.specs.Prelude.{◌≤◌, ℕ, pos, true, List, [], ◌∷◌, replicate}
 use Rattle.sbx_image.specs.Kind.TheVariants.{Leaf}
 use Rattle.sbx_image.specs.Parts.{Parts}
 use Rattle.sbx_image.specs.Rules.{code_start}
@@ -11,9 +11,10 @@ zeros n = replicate n 0
 -- one leaf function of one block, without annotations; 128 KiB of zeros as data, one page of stack, and the service exit
 unfoldable pub image_of : List ℕ → Parts
 image_of words = record {
+  version = 1;
   services = record { 0 = 1 };
   words = words;
-  bytes = zeros 131072;
+  regions = record { bytes = zeros 131072; writable = true } ∷ [];
   stack_pages = 1;
   functions = record {
     kind = Leaf;

@@ -4,7 +4,7 @@ ghost use Rattle.sbx_image.specs.ImageFault.TheVariants as fault_of;
 ghost use Rattle.sbx_bench.specs.Images.{image_of, zeros, IsCodeLength};
 ghost use Rattle.want.specs.Wants.{refused};
 
-use sbx_image::{Block, Function, Image, ImageFault, Items, Kind, Parts, Services};
+use sbx_image::{Block, Function, Image, ImageFault, Items, Kind, Parts, Region, Services};
 use std::alloc::{AllocError, Global};
 
 /// `add %o1,%g3,%o1; sll %o1,3,%o3; xor %o1,%o3,%o1; addcc %g3,-1,%g3; bne .-16; nop; ba .-24; nop`
@@ -200,6 +200,11 @@ fn parts(alloc: Global, words: &[u32]) -> Result<Parts, AllocError>
         cells: Items::new(Vec::new(alloc)),
         terms: Items::new(Vec::new(alloc)),
     })?;
+    let mut regions = Vec::new(alloc);
+    regions.push(Region {
+        bytes: Items::new(zeros(alloc, DATA)?),
+        writable: true,
+    })?;
     let mut functions = Vec::new(alloc);
     functions.push(Function {
         kind: Kind::Leaf,
@@ -212,9 +217,10 @@ fn parts(alloc: Global, words: &[u32]) -> Result<Parts, AllocError>
         blocks: Items::new(blocks),
     })?;
     Ok(Parts {
+        version: 1,
         services: Services::EXIT,
         words: Items::new(code),
-        bytes: Items::new(zeros(alloc, DATA)?),
+        regions: Items::new(regions),
         stack_pages: 1,
         functions: Items::new(functions),
     })

@@ -1,6 +1,6 @@
 //! Blocks, functions and images of given words.
 
-use sbx_image::{Block, Function, Items, Kind, Parts, Services};
+use sbx_image::{Block, Function, Items, Kind, Parts, Region, Services};
 use std::alloc::{AllocError, Global};
 
 /// Where the code begins, in bytes.
@@ -49,10 +49,16 @@ pub fn whole(
     words: Vec<u32>,
     functions: Vec<Function>,
 ) -> Result<Parts, AllocError> {
+    let mut regions = Vec::new(alloc);
+    regions.push(Region {
+        bytes: Items::new(vec![in alloc; 0; 8]?),
+        writable: true,
+    })?;
     Ok(Parts {
+        version: 1,
         services: Services(3),
         words: Items::new(words),
-        bytes: Items::new(vec![in alloc; 0; 8]?),
+        regions: Items::new(regions),
         stack_pages: 16,
         functions: Items::new(functions),
     })

@@ -10,7 +10,6 @@ use Rattle.sbx_image.specs.Parts.{Parts}
 use Rattle.sbx_image.specs.Reading.{reading}
 use Rattle.sbx_image.specs.Spelling.{IsTyped, spelling}
 use Rattle.sbx_asm.specs.Meaning.{source_image}
-use Rattle.sbx_flat.specs.Runs.{AreBytes}
 use Rattle.sbx_rules.specs.Verdicts.{Checked}
 use Rattle.sbx_command.specs.declared.jobs.Job.{Job}
 use Rattle.sbx_command.specs.declared.jobs.Job.TheVariants.{Asm, Verify, Run, List as Listing, Trace}
@@ -48,9 +47,9 @@ IsTold (Run image windows) stop bytes = IsTrueOf stop bytes
 IsTold (Listing image) stop bytes = IsTrueOfImage stop bytes
 IsTold (Trace image windows limit) stop bytes = IsTrueOfImage stop bytes
 
--- each number of the parts is one that its field can hold, and the data are bytes
+-- each number of the parts is one that its field can hold
 abbrev pub FitsItsFields : Parts → Type 0
-FitsItsFields parts = IsTyped parts × AreBytes parts.bytes
+FitsItsFields parts = IsTyped parts
 
 -- The output grew by the spelling of the image that the bytes of the file mean, where they are known. Each of its numbers fits its field:
 -- so a law says that it is read again, and is safe where it breaks no rule.

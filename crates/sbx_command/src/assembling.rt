@@ -3,7 +3,6 @@ ghost use Rattle.std.specs.Prelude.{◌≡◌, IfErr, IfOk, IfSome, Ok, OnErr, O
 ghost use Rattle.std.specs.Io.KnownBytes.{Appends};
 ghost use Rattle.sbx_image.specs.Spelling.{spelling};
 ghost use Rattle.sbx_asm.specs.Meaning.{source_image};
-ghost use Rattle.sbx_flat.specs.Runs.{AreBytes};
 ghost use Rattle.sbx_put.specs.Fronts.{WroteSome};
 ghost use Rattle.sbx_command.specs.Stops.{IsEarly, IsOfOutput, IsTrueOfSource};
 ghost use Rattle.sbx_command.specs.Verdicts.{BeginsObject, FrontLeft, IsSource, Assembled, FitsItsFields};
@@ -17,19 +16,11 @@ use std::alloc::Global;
 use std::io::{Read, Write};
 use want::Want;
 
-/// Tells that bytes are bytes.
-fn tells_bytes(bytes: &[u8])
-    ensures { AreBytes bytes.now }
-{
-    let _count = bytes.len();
-}
-
 /// Tells that each number of an image is one that its field can hold.
 fn tells_fields(image: &Image)
     ensures { FitsItsFields image.now }
 {
     image.keeps_its_format();
-    tells_bytes(image.bytes());
 }
 
 /// The image that the source in a file means.

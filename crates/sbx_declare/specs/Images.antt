@@ -9,6 +9,7 @@ use Rattle.sbx_image.specs.Kind.{Kind}
 use Rattle.sbx_image.specs.Kind.TheVariants.{Leaf, Framed}
 use Rattle.sbx_image.specs.Parts.{Parts}
 use Rattle.sbx_image.specs.Range.{Range}
+use Rattle.sbx_image.specs.Regions.{byte_count}
 use Rattle.sbx_image.specs.Term.{Term}
 use Rattle.sbx_lines.specs.Words.{word_text}
 use Rattle.sbx_declare.specs.Names.{bounds_text, location_text}
@@ -85,4 +86,4 @@ sizes_lines pages words bytes = codes ".stack " ++ (decimal pages ++ (codes "\n!
     ++ (codes ", bytes of data: " ++ (decimal bytes ++ line_end)))))
 
 abbrev pub image_text : Parts → List ℕ
-image_text parts = services_line parts.services.0 ++ sizes_lines parts.stack_pages (length parts.words) (length parts.bytes) ++ functions_text parts.functions
+image_text parts = services_line parts.services.0 ++ sizes_lines parts.stack_pages (length parts.words) (byte_count parts.regions) ++ functions_text parts.functions

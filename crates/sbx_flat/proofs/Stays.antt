@@ -1,10 +1,9 @@
 -- Each step keeps states well-formed.
 use Rattle.std.proofs.Common.{◌≡◌, ◌≢◌, ℕ, zero, suc, ◌+◌, ◌-◌, ◌*◌, ◌/◌, ◌%◌, ◌^◌, ◌<◌, ◌≤◌, Bool, true, false, List, [], ◌∷◌, ◌++◌, length, Option, Some, None, refl, sym, ap, ◌∙◌, subst, arith}
-use Rattle.std.specs.Prelude.{IfSome, slice_get, slice_index, bit_xor, ◌==◌, ◌&&◌, ◌||◌, nat_le, nat_lt, if◌then◌else◌}
+use Rattle.std.specs.Prelude.{IfSome, bit_xor, ◌==◌, ◌&&◌, ◌||◌, nat_le, nat_lt, if◌then◌else◌}
 use Rattle.std.specs.List.{AllByRecursion}
 use Rattle.std.proofs.lemmas.Bool.Decides.{nat_tests}
 use Rattle.std.proofs.lemmas.Nat.{xor_lt}
-use Rattle.std.proofs.lemmas.Option.{get_or_from_slice_get}
 use Rattle.std.proofs.Math.Nat.{pow-suc}
 use Rattle.v8_word.specs.Word.{sign_extend}
 use Rattle.v8_word.specs.Conditions.{holds}
@@ -28,9 +27,8 @@ use Rattle.v8_meaning.specs.declared.operation.Operation.TheVariants as operatio
 use Rattle.v8_meaning.specs.declared.operation.Transfer.{Transfer}
 use Rattle.v8_meaning.specs.declared.operation.Transfer.TheVariants as transfers
 use Rattle.sbx_image.specs.Parts.{Parts}
-use Rattle.sbx_image.specs.Region.{Region}
-use Rattle.sbx_image.specs.Regions.{Placed, behind, byte_in, byte_of_region, data_start, or_else, placed_from}
 use Rattle.sbx_image.specs.Spelling.{IsTypedRegion}
+use Rattle.sbx_image.proofs.Within.{data_is_byte}
 use Rattle.sbx_image.specs.Services.{Services}
 use Rattle.sbx_flat.specs.Effects.{address_in, branched, declares, does, found, gets, high_word, is_base, is_stack_pointer, leaves_in_data, leaves_in_slot, operand_value, restores, served, serves, service_of, slot_of, takes, transfers_data, transfers_in, with_regs, writes, writes_some}
 use Rattle.sbx_flat.specs.Memory.{Bytes, byte_of, followed_by, number_at, with_number}
@@ -322,20 +320,6 @@ one_call (f ∷ fs) e = absurd (cc)
 no_slot : (o : Option ℕ) (w : ℕ) → o ≡ None → o ≡ Some w → ⊥
 no_slot o w e f = cc
 
-region_bytes : (r : Placed) (address byte : ℕ) → AreBytes r.bytes → byte_of_region r address ≡ Some byte → byte < 2 ^ 8
-region_bytes r address byte all e = pick (λ (o : Option ℕ). o ≡ Some byte → byte < 2 ^ 8) (nat_lt address r.address) None (slice_get r.bytes (address - r.address)) (λ h f. absurd (cc))
-    (λ h f. let g : slice_index r.bytes (address - r.address) ≡ byte = get_or_from_slice_get r.bytes (address - r.address) byte 0 f in let a = all (address - r.address) in omega (arith, g)) e
-
-either_byte : (o p : Option ℕ) (byte : ℕ) → (o ≡ Some byte → byte < 2 ^ 8) → (p ≡ Some byte → byte < 2 ^ 8) → or_else o p ≡ Some byte → byte < 2 ^ 8
-either_byte None p byte first other e = other e
-either_byte (Some b) p byte first other e = first e
-
-pub data_bytes : (start : ℕ) (regions : List Region) (address byte : ℕ) → AllByRecursion IsTypedRegion regions → byte_in (placed_from start regions) address ≡ Some byte → byte < 2 ^ 8
-data_bytes start [] address byte all e = absurd (cc)
-data_bytes start (r ∷ rs) address byte all e =
-    let here : Placed = record { address = start; bytes = r.bytes; writable = r.writable } in
-    either_byte (byte_of_region here address) (byte_in (placed_from (behind start r) rs) address) byte (region_bytes here address byte all.0) (data_bytes (behind start r) rs address byte all.1) e
-
 first_base : (file : Registers) (b : ℕ) → file.newest.outs 14 ≡ b → base file 0 ≡ b
 unfolding cell
 first_base file b e = e
@@ -374,7 +358,7 @@ starts_well_formed parts input s some bytes all start =
         stacked = stacked_start parts.stack_pages s.registers some single start.base;
         slots = λ k a w less e. absurd (let z : k ≡ 0 = omega (arith, single) in no_slot (s.registers.newest.slots a) w (start.slots a) (first_slot s.registers a w (subst (λ i. slot s.registers i a ≡ Some w) z e)));
       };
-      memory = λ a b e. data_bytes data_start parts.regions a b bytes (sym (start.memory a) ∙ e);
+      memory = λ a b e. data_is_byte parts.regions a b bytes (sym (start.memory a) ∙ e);
       input = subst AreBytes (sym start.input) all;
       output = subst AreBytes (sym start.output) no_bytes;
       exit = none_small s.exit start.exit;

@@ -2,5 +2,6 @@
 //! from the format's tables.
 #![tactic(auto)]
 
+pub mod examples;
 #[cfg(test)]
 mod tests;

@@ -1,6 +1,7 @@
 //! The format's worked images, its bounds, and parts.
 use sbx_image::{
-    Block, Cell, Function, Image, ImageFault, Items, Kind, Parts, Range, Services, parse, write,
+    Block, Cell, Function, Image, ImageFault, Items, Kind, Parts, Range, Region, Services, parse,
+    write,
 };
 use std::alloc::{AllocError, Global};
 
@@ -93,7 +94,8 @@ fn is_hello(image: &Image) -> bool {
     image.services() == Services::EXIT | Services::PUT
         && image.words() == WORDS.as_slice()
         && image.word_count() == 6
-        && image.bytes().is_empty()
+        && image.version() == 1
+        && image.regions().is_empty()
         && image.byte_count() == 0
         && image.stack_pages() == 1
         && image.function_count() == 1
@@ -265,8 +267,9 @@ fn are_told(parts: Parts, pages: u16, words: usize, wanted: Option<ImageFault>) 
 /// The parts of `CALLS` with other services, pages of stack, and another first entry.
 fn changed_parts(image: Image, services: u16, pages: u16, entry: u32) -> Parts {
     let Parts {
+        version,
         words,
-        bytes,
+        regions,
         functions,
         ..
     } = image.into_parts();
@@ -275,9 +278,10 @@ fn changed_parts(image: Image, services: u16, pages: u16, entry: u32) -> Parts {
         first.entry = entry;
     }
     Parts {
+        version,
         services: Services(services),
         words,
-        bytes,
+        regions,
         stack_pages: pages,
         functions: Items::new(functions),
     }
@@ -402,9 +406,10 @@ fn small_function(
 /// Parts of one word and one function.
 fn small_parts(alloc: Global, function: Function) -> Result<Parts, ImageFault> {
     Ok(Parts {
+        version: 1,
         services: Services(0),
         words: one(alloc, 0)?,
-        bytes: Items::new(Vec::new(alloc)),
+        regions: Items::new(Vec::new(alloc)),
         stack_pages: 1,
         functions: one(alloc, function)?,
     })
@@ -444,5 +449,133 @@ fn is_row_told(
 fn parts_of_functions(rt: HostRuntime) {
     for row in SMALL {
         assert!(rt; is_row_told(rt.alloc(), row), "at {row:?}");
+    }
+}
+
+/// Whether the data are one region of these bytes that may be written.
+fn is_one_region(regions: &[Region], bytes: &[u8]) -> bool {
+    match regions {
+        [region] => region.writable && region.bytes.as_slice() == bytes,
+        _ => false,
+    }
+}
+
+/// From an address up to but not at another one, and whether the data of `CALLS` have all of it, as readers and as writers ask.
+const HELD: [(i64, i64, bool); 10] = [
+    (0x80000, 0x80008, true),
+    (0x80000, 0x80001, true),
+    (0x80007, 0x80008, true),
+    (0x80008, 0x80008, true),
+    (0x80000, 0x80009, false),
+    (0x80008, 0x80009, false),
+    (0x7FFFF, 0x80000, false),
+    (-8, 0, false),
+    (0x80000, i64::MAX, false),
+    (i64::MIN, 0x80000, false),
+];
+
+/// Whether an image gives what `CALLS` says of its data.
+fn has_data_of_calls(image: &Image) -> bool {
+    is_one_region(image.regions(), b"abcdefgh")
+        && image.byte_count() == 8
+        && HELD.iter().all(|&(low, high, wanted)| {
+            image.holds(low, high, false) == wanted && image.holds(low, high, true) == wanted
+        })
+}
+
+#[test]
+fn reads_the_data(rt: HostRuntime) {
+    let is_read = match read(rt.alloc(), &CALLS) {
+        Ok(image) => has_data_of_calls(&image),
+        Err(_) => false,
+    };
+    assert!(rt; is_read);
+}
+
+/// The version, services, the bytes of each region and whether it may be written, and the fault.
+type Data = (u16, u16, &'static [(usize, bool)], Option<ImageFault>);
+
+const DATA: [Data; 16] = [
+    (1, 0, &[], None),
+    (1, 0, &[(8, true)], None),
+    (1, 0, &[(262_136, true)], None),
+    (1, 0, &[(262_144, true)], None),
+    (1, 0, &[(0, true)], Some(ImageFault::Limit)),
+    (1, 0, &[(4, true)], Some(ImageFault::Limit)),
+    (1, 0, &[(12, true)], Some(ImageFault::Limit)),
+    (1, 0, &[(262_152, true)], Some(ImageFault::Limit)),
+    (1, 0, &[(8, false)], Some(ImageFault::Limit)),
+    (1, 0, &[(8, true), (8, true)], Some(ImageFault::Limit)),
+    (1, 0, &[(8, false), (8, true)], Some(ImageFault::Limit)),
+    (0, 0, &[], Some(ImageFault::Version)),
+    (2, 0, &[], Some(ImageFault::Version)),
+    (2, 0, &[(8, false), (8, true)], Some(ImageFault::Version)),
+    (65535, 0, &[(8, true)], Some(ImageFault::Version)),
+    (2, 8, &[(4, true)], Some(ImageFault::Version)), // the version stands before the services
+];
+
+/// Regions of zeros.
+fn zero_regions(alloc: Global, sizes: &[(usize, bool)]) -> Result<Items<Region>, ImageFault> {
+    let mut regions = Vec::new(alloc);
+    for (count, writable) in sizes {
+        let bytes = Items::new(vec![in alloc; 0u8; *count]?);
+        regions.push(Region {
+            bytes,
+            writable: *writable,
+        })?;
+    }
+    Ok(Items::new(regions))
+}
+
+/// Parts of one word and one function, with data.
+fn parts_with_data(
+    alloc: Global,
+    version: u16,
+    services: u16,
+    sizes: &[(usize, bool)],
+) -> Result<Parts, ImageFault> {
+    let function = small_function(alloc, 0, GOOD, 0, Vec::new(alloc))?;
+    let small = small_parts(alloc, function)?;
+    let regions = zero_regions(alloc, sizes)?;
+    Ok(Parts {
+        version,
+        services: Services(services),
+        words: small.words,
+        regions,
+        stack_pages: small.stack_pages,
+        functions: small.functions,
+    })
+}
+
+/// Whether an image has regions of these sizes, and is written as bytes that it is read from.
+fn has_regions(alloc: Global, image: &Image, sizes: &[(usize, bool)]) -> bool {
+    let are_right = image.regions().len() == sizes.len()
+        && image.regions().iter().zip(sizes).all(|(region, size)| region.bytes.len() == size.0
+            && region.writable == size.1);
+    match written(alloc, image) {
+        Ok(text) => are_right && is_written_back(alloc, text.as_slice()),
+        Err(AllocError) => false,
+    }
+}
+
+/// Whether parts with data get their fault. Where a growth was refused, they are made once more.
+fn are_data_told(alloc: Global, (version, services, sizes, wanted): Data) -> bool {
+    let made = match parts_with_data(alloc, version, services, sizes) {
+        Ok(parts) => Ok(parts),
+        Err(_) => parts_with_data(alloc, version, services, sizes),
+    };
+    let Ok(parts) = made else {
+        return false;
+    };
+    match Image::from_parts(parts) {
+        Ok(image) => wanted.is_none() && has_regions(alloc, &image, sizes),
+        Err((back, fault)) => wanted == Some(fault) && back.regions.len() == sizes.len(),
+    }
+}
+
+#[test]
+fn parts_of_data(rt: HostRuntime) {
+    for row in DATA {
+        assert!(rt; are_data_told(rt.alloc(), row), "at {row:?}");
     }
 }

@@ -5,10 +5,11 @@ use Rattle.std.proofs.lemmas.Bool.Decides.{nat_tests}
 use Rattle.std.proofs.lemmas.Option.{slice_get_past}
 use Rattle.sbx_image.specs.Rules.{code_start}
 use Rattle.sbx_image.specs.Parts.{Parts}
+use Rattle.sbx_image.specs.Regions.{data_at}
 use Rattle.sbx_flat.specs.Registers.{AreWords, Registers, with_word, word_in}
-use Rattle.sbx_flat.specs.Runs.{IsStart, data_at}
+use Rattle.sbx_flat.specs.Runs.{IsStart}
 use Rattle.sbx_flat.specs.States.{State}
-use Rattle.sbx_plain.specs.Shows.{Shows, ShowsCallers, ShowsFrames, slot_at, word_of}
+use Rattle.sbx_plain.specs.Shows.{Shows, ShowsCallers, ShowsFrames, cell_at, slot_at, word_of}
 use Rattle.sbx_plain.specs.declared.frames.Frames.{Frames}
 use Rattle.sbx_plain.specs.declared.machine.Plain.{Plain}
 use Rattle.sbx_plain.proofs.Shown.{eight, seven, word_from, word_local, word_low, word_out}
@@ -82,14 +83,14 @@ start_state parts input fill = record {
   icc = record { n = false; z = false; v = false; c = false };
   y = fill;
   registers = start_file fill;
-  memory = data_at parts.bytes;
+  memory = data_at parts.regions;
   input = input;
   output = [];
   exit = None;
 }
 
 pub starts : (parts : Parts) (input : List ℕ) (fill : ℕ) (m : Plain) → fill < 2 ^ 32 → m.pc ≡ 0x40000 → m.npc ≡ 0x40004 → m.annulled ≡ false → m.icc ≡ record { n = false; z = false; v = false; c = false } → m.y ≡ fill →
-    IsFirst m.frames fill → m.memory.bytes.items ≡ parts.bytes → m.input.now ≡ input → m.output.items ≡ [] → m.exit ≡ None → (s : State) × IsStart parts input s × Shows m s
+    IsFirst m.frames fill → ((a : ℕ) → cell_at m.memory.cells.items a ≡ data_at parts.regions a) → m.input.now ≡ input → m.output.items ≡ [] → m.exit ≡ None → (s : State) × IsStart parts input s × Shows m s
 starts parts input fill m small pc npc straight icc y frames bytes same output exit = (
   start_state parts input fill,
   record {
@@ -117,7 +118,7 @@ starts parts input fill m small pc npc straight icc y frames bytes same output e
     icc = sym icc;
     y = sym y;
     frames = frames_show m.frames fill frames;
-    memory = λ a. ap (λ l. data_at l a) (sym bytes);
+    memory = λ a. sym (bytes a);
     input = sym same;
     output = sym output;
     exit = sym exit;

@@ -46,8 +46,7 @@ impl<'a> Plain<'a> {
     ) -> Result<Plain<'a>, AllocError>
         ensures { IfOk result (λ machine. (s : State) × IsStart image.now input.now s × Shows machine s) }
     {
-        let mut bytes = Vec::new(alloc);
-        bytes.extend_from_slice(image.bytes())?;
+        let memory = Data::of(alloc, image.regions())?;
         Ok(Plain {
             pc: 0x0004_0000,
             npc: 0x0004_0004,
@@ -60,7 +59,7 @@ impl<'a> Plain<'a> {
             },
             y: fill,
             frames: first_frame(alloc, fill),
-            memory: Data { bytes },
+            memory,
             input,
             output: Vec::new(alloc),
             exit: None,

@@ -103,9 +103,10 @@ fn broken(at: usize, byte: u8, fault: ImageFault, told: usize) -> Row {
 }
 
 /// A fault of most fields. The worked image has no ranges.
-fn rows() -> [Row; 14] {
+fn rows() -> [Row; 15] {
     [
         broken(0, 0, ImageFault::Magic, 3),
+        broken(5, 0, ImageFault::Version, 5),
         broken(5, 2, ImageFault::Version, 5),
         broken(7, 8, ImageFault::Service, 7),
         broken(8, 1, ImageFault::Limit, 11),

@@ -5,9 +5,9 @@ use Rattle.std.specs.List.{AllByRecursion}
 use Rattle.std.proofs.lemmas.Nat.{mod_below, pow-add}
 use Rattle.sbx_flat.specs.Memory.{Bytes, byte_of, followed_by, number_at, with_number}
 use Rattle.sbx_image.specs.Region.{Region}
-use Rattle.sbx_image.specs.Regions.{data_at, data_start, placed_from}
+use Rattle.sbx_image.specs.Regions.{data_at}
 use Rattle.sbx_image.specs.Spelling.{IsTypedRegion}
-use Rattle.sbx_flat.proofs.Stays.{data_bytes}
+use Rattle.sbx_image.proofs.Within.{data_is_byte}
 use Rattle.sbx_flat.specs.Runs.{AreBytes}
 use Rattle.sbx_sound.proofs.Shared.{AreStored}
 
@@ -15,7 +15,7 @@ use Rattle.sbx_sound.proofs.Shared.{AreStored}
 
 pub stored_at_start : (regions : List Region) (input : List ℕ) → AllByRecursion IsTypedRegion regions → AreBytes input → AreStored regions (data_at regions) input
 stored_at_start regions input are are_input = record {
-  of_data = λ a b is. (b, is, data_bytes data_start regions a b are is);
+  of_data = λ a b is. (b, is, data_is_byte regions a b are is);
   of_input = are_input;
 }
 

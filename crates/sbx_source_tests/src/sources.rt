@@ -243,7 +243,9 @@ fn push_bytes(text: &mut String, bytes: &[u8]) -> Result<(), AllocError> {
 fn parts_text(alloc: Global, image: &Image) -> Result<String, AllocError> {
     let mut text = String::new(alloc);
     push_words(&mut text, image.words())?;
-    push_bytes(&mut text, image.bytes())?;
+    for region in image.regions() {
+        push_bytes(&mut text, region.bytes.as_slice())?;
+    }
     Ok(text)
 }
 

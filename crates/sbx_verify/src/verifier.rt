@@ -1,6 +1,6 @@
 //! The verdict on an image.
 ghost use Rattle.std.specs.Prelude.{◌≡◌, IfErr, IfOk};
-ghost use Rattle.sbx_flat.specs.Runs.{AreBytes, FlatSafe};
+ghost use Rattle.sbx_flat.specs.Runs.{FlatSafe};
 ghost use Rattle.sbx_sound.specs.Verdicts.{Checked};
 ghost use Rattle.sbx_sound.specs.Law.{IsFormed};
 ghost use Rattle.sbx_verify.specs.Refusals.{IsRefusal, no_memory};
@@ -51,19 +51,11 @@ impl Accepted {
     }
 }
 
-/// Tells that bytes are bytes.
-fn tells_bytes(bytes: &[u8])
-    ensures { AreBytes bytes.now }
-{
-    let _count = bytes.len();
-}
-
 /// Tells that an image has the form which the rules speak of.
 fn tells_form(image: &Image)
     ensures { IsFormed image.now }
 {
     image.keeps_its_format();
-    tells_bytes(image.bytes());
 }
 
 /// What is told where memory is refused.

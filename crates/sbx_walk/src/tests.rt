@@ -101,9 +101,10 @@ fn told(
     functions: Vec<Function>,
 ) -> Result<Option<Refusal>, AllocError> {
     let parts = Parts {
+        version: 1,
         services: Services(7),
         words: Items::new(words),
-        bytes: Items::new(Vec::new(alloc)),
+        regions: Items::new(Vec::new(alloc)),
         stack_pages: 1,
         functions: Items::new(functions),
     };

@@ -3,6 +3,7 @@ use Rattle.std.specs.Prelude.{ℕ, ◌+◌, List, length, Option, Some, None, Re
 use Rattle.std.specs.Option.{unwrap_or}
 use Rattle.std.specs.List.{fold}
 use Rattle.sbx_image.specs.Parts.{Parts}
+use Rattle.sbx_image.specs.Reading.{regions_of}
 use Rattle.sbx_asm.specs.declared.fault.AsmFault.{AsmFault}
 use Rattle.sbx_asm.specs.declared.draft.Draft.{Draft}
 use Rattle.sbx_asm.specs.Lines.{lines_of}
@@ -22,7 +23,7 @@ draft_in labels source = fold (draft_line labels.values) (empty_draft labels.fau
 
 unfoldable pub parts_in : Draft → Parts
 parts_in d =
-    record { services = unwrap_or d.services (record { 0 = 0 }); words = d.words; bytes = filled d.bytes; stack_pages = unwrap_or d.stack 1; functions = d.functions }
+    record { version = 1; services = unwrap_or d.services (record { 0 = 0 }); words = d.words; regions = regions_of (filled d.bytes); stack_pages = unwrap_or d.stack 1; functions = d.functions }
 
 abbrev pub image_in : ℕ → Draft → Result Parts AsmFault
 image_in after d = judged after d.fault (parts_in d)

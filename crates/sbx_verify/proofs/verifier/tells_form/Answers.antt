@@ -1,6 +1,4 @@
-use Rattle.std.proofs.Common.{subst}
-use Rattle.sbx_flat.specs.Runs.{AreBytes}
 use Rattle.sbx_verify.proofs.verifier.tells_form.Goals as goal
 
 pub returns : goal.returns
-returns c = record { kept = c.keeps_its_format.ensures.kept; typed = c.keeps_its_format.ensures.typed; bytes = subst AreBytes c.bytes.ensures c.tells_bytes.ensures }
+returns c = record { kept = c.keeps_its_format.ensures.kept; typed = c.keeps_its_format.ensures.typed }
