@@ -1,8 +1,7 @@
-use Rattle.std.proofs.Common.{List, ℕ, drop, sym, subst}
+use Rattle.std.proofs.Common.{sym, subst}
 use Rattle.std.proofs.lemmas.List.{drop_all, drop_more}
 use Rattle.std.specs.List.{AllByRecursion}
 use Rattle.sbx_flat.specs.Runs.{AreBytes}
-use Rattle.sbx_image.specs.Region.{Region}
 use Rattle.sbx_image.specs.Spelling.{IsTypedRegion}
 use Rattle.sbx_run.proofs.limits.tells_regions.Goals as goal
 
