@@ -52,10 +52,7 @@ fn watch_turns<const N: usize, W: Write>(
         let None = board.ending() else {
             return Ok(());
         };
-        match watch_turn(board, functions, done + 1, teller, out) {
-            Ok(()) => {}
-            Err(fault) => return Err(fault),
-        }
+        watch_turn(board, functions, done + 1, teller, out)?;
     }
     Ok(())
 }
@@ -95,10 +92,7 @@ fn watch_on<const N: usize, W: Write>(
     ensures { Watched windows image.now input.now limit (W.contents out.old) (W.contents out.new) result }
 {
     let _ = windows;
-    let mut board = match begun::<N>(alloc, image, input) {
-        Ok(board) => board,
-        Err(fault) => return Err(fault),
-    };
+    let mut board = begun::<N>(alloc, image, input)?;
     watch_board(alloc, &mut board, image.functions(), limit, out)
 }
 
