@@ -5,6 +5,7 @@ use Rattle.std.specs.List.{AllByRecursion, flat_map, list_any}
 use Rattle.std.specs.Str.{bytes_eq}
 use Rattle.std.proofs.lemmas.Bool.{le-ltb}
 use Rattle.std.proofs.lemmas.List.{map-append}
+use Rattle.v8_map.specs.declared.TheConstants.{CODE_START, DATA_START}
 use Rattle.v8_syntax.specs.Statements.{source_meaning, statement_length}
 use Rattle.sbx_image.specs.Block.{Block}
 use Rattle.sbx_image.specs.Function.{Function}
@@ -91,7 +92,7 @@ module _ (f : ℕ → ℕ) where
   data_offset_u is = ap up_to_room (data_size_u is)
 
   code_address_u : (is : List Item) → code_address (us is) ≡ code_address is
-  code_address_u is = ap (λ (n : ℕ). 0x40000 + n) (code_offset_u is)
+  code_address_u is = ap (λ (n : ℕ). CODE_START + n) (code_offset_u is)
 
   section_u : (is : List Item) → section_after (us is) ≡ section_after is
   section_u [] = refl
@@ -99,7 +100,7 @@ module _ (f : ℕ → ℕ) where
 
   address_u : (is : List Item) (x : Section) → address_in_section (us is) x ≡ address_in_section is x
   address_u is Code = code_address_u is
-  address_u is Data = ap (λ (n : ℕ). 0x80000 + n) (data_offset_u is)
+  address_u is Data = ap (λ (n : ℕ). DATA_START + n) (data_offset_u is)
 
   -- ---- labels
 
@@ -264,7 +265,7 @@ module _ (f : ℕ → ℕ) where
     line_rules_u is i (Ok statements.Nothing) = refl
     line_rules_u is i (Ok statements.Instruction) =
         let a = section_u is in let b = in_function_u is in let c = code_offset_u is in
-        λ k. when (not (is_code (a k) && b k)) causes.Directive ++ (when (not (fits_behind (c k) (4 * statement_length i.bytes i.tokens))) causes.Limit ++ statement_rules (source_meaning values (0x40000 + c k) i.bytes i.tokens))
+        λ k. when (not (is_code (a k) && b k)) causes.Directive ++ (when (not (fits_behind (c k) (4 * statement_length i.bytes i.tokens))) causes.Limit ++ statement_rules (source_meaning values (CODE_START + c k) i.bytes i.tokens))
     line_rules_u is i (Ok (statements.Malformed keywords.Block name)) = ap (λ (cs : List Cause). cs ++ causes.Directive ∷ []) (block_rules_u is)
     line_rules_u is i (Ok (statements.Malformed _ name)) = refl
     line_rules_u is i (Ok (statements.Directive directives.Text)) = refl

@@ -1,6 +1,7 @@
 -- Where a line stands: the start of a section and the lengths before it, as the stages count them.
 use Rattle.std.proofs.Common.{◌≡◌, ℕ, ◌+◌, ◌-◌, ◌*◌, Bool, true, false, cond, leb, List, [], ◌∷◌, Result, Ok, Err, refl, sym, ap, ◌∙◌, arith}
 use Rattle.std.proofs.lemmas.Bool.{leb-true, leb-false}
+use Rattle.v8_map.specs.declared.TheConstants.{CODE_START, DATA_START}
 use Rattle.sbx_text.specs.declared.Token.{Token}
 use Rattle.std.specs.Prelude.{◌%◌, ◌==◌}
 use Rattle.v8_syntax.specs.Statements.{statement_length}
@@ -43,23 +44,23 @@ module _ (base size n : ℕ) where
 same_size : (base size : ℕ) → base + up_to_room size ≡ base + up_to_room (size + 0)
 same_size base size = let e : size ≡ size + 0 = omega arith in ap (λ (n : ℕ). base + up_to_room n) e
 
-pub padded : (n offset : ℕ) → padding n (0x80000 + offset) ≡ padding_of n offset
-padded n offset = ap (λ (k : ℕ). cond (n == 0) 0 ((n - k % n) % n)) (let e : 0x80000 + offset - 0x80000 ≡ offset = omega arith in e)
+pub padded : (n offset : ℕ) → padding n (DATA_START + offset) ≡ padding_of n offset
+padded n offset = ap (λ (k : ℕ). cond (n == 0) 0 ((n - k % n) % n)) (let e : DATA_START + offset - DATA_START ≡ offset = omega arith in e)
 
 module _ (before : List Item) (number : ℕ) (labels : List (List ℕ)) (bytes : List ℕ) (tokens : List Token) where
   abbrev pub item : Said → Item
   item s = record { number = number; labels = labels; bytes = bytes; tokens = tokens; said = s }
 
-  stays : (x : Section) → (let p : Place = record { section = x; next_word = code_address before; next_byte = data_address before } in p) ≡ record { section = x; next_word = 0x40000 + up_to_room (code_size before + 0); next_byte = 0x80000 + up_to_room (data_size before + 0) }
-  stays x = λ j. record { section = x; next_word = same_size 0x40000 (code_size before) j; next_byte = same_size 0x80000 (data_size before) j }
+  stays : (x : Section) → (let p : Place = record { section = x; next_word = code_address before; next_byte = data_address before } in p) ≡ record { section = x; next_word = CODE_START + up_to_room (code_size before + 0); next_byte = DATA_START + up_to_room (data_size before + 0) }
+  stays x = λ j. record { section = x; next_word = same_size CODE_START (code_size before) j; next_byte = same_size DATA_START (data_size before) j }
 
-  codes_more : (n : ℕ) → with_code n (place_of before) ≡ record { section = section_after before; next_word = 0x40000 + up_to_room (code_size before + n); next_byte = 0x80000 + up_to_room (data_size before + 0) }
-  codes_more n = λ j. record { section = section_after before; next_word = moved 0x40000 (code_size before) n j; next_byte = same_size 0x80000 (data_size before) j }
+  codes_more : (n : ℕ) → with_code n (place_of before) ≡ record { section = section_after before; next_word = CODE_START + up_to_room (code_size before + n); next_byte = DATA_START + up_to_room (data_size before + 0) }
+  codes_more n = λ j. record { section = section_after before; next_word = moved CODE_START (code_size before) n j; next_byte = same_size DATA_START (data_size before) j }
 
-  data_more : (m n : ℕ) → m ≡ n → with_data m (place_of before) ≡ record { section = section_after before; next_word = 0x40000 + up_to_room (code_size before + 0); next_byte = 0x80000 + up_to_room (data_size before + n) }
+  data_more : (m n : ℕ) → m ≡ n → with_data m (place_of before) ≡ record { section = section_after before; next_word = CODE_START + up_to_room (code_size before + 0); next_byte = DATA_START + up_to_room (data_size before + n) }
   data_more m n e =
       ap (λ (k : ℕ). with_data k (place_of before)) e
-      ∙ (λ j. record { section = section_after before; next_word = same_size 0x40000 (code_size before) j; next_byte = moved 0x80000 (data_size before) n j })
+      ∙ (λ j. record { section = section_after before; next_word = same_size CODE_START (code_size before) j; next_byte = moved DATA_START (data_size before) n j })
 
   pub stands : (s : Said) → passed (item s) s (place_of before) ≡ place_of (item s ∷ before)
   unfolding place_after

@@ -4,6 +4,7 @@ use Rattle.std.specs.Prelude.{not, ◌&&◌, ◌||◌, nat_lt, nat_le, if◌then
 use Rattle.std.specs.Option.{is_some}
 use Rattle.std.specs.List.{fold, list_any, flat_map}
 use Rattle.std.proofs.lemmas.List.{map-append, append-nil, length-append}
+use Rattle.v8_map.specs.declared.TheConstants.{CODE_START, CODE_END, DATA_START, DATA_END}
 use Rattle.sbx_text.specs.declared.Token.{Token}
 use Rattle.v8_formats.specs.declared.instr.Instr.{Instr}
 use Rattle.v8_syntax.specs.declared.fault.SyntaxFault.{SyntaxFault}
@@ -59,11 +60,11 @@ module _ (values : Values) (before : List Item) (number : ℕ) (labels : List (L
 
   pub code_room : (n : ℕ) → has_room code_end d.place.next_word n ≡ fits_behind (code_offset before) n
   code_room n =
-      (λ j. leb n (code_end - (p j).next_word)) ∙ ap (leb n) (let e : 0x80000 - (0x40000 + code_offset before) ≡ section_room - code_offset before = omega arith in e)
+      (λ j. leb n (code_end - (p j).next_word)) ∙ ap (leb n) (let e : CODE_END - (CODE_START + code_offset before) ≡ section_room - code_offset before = omega arith in e)
 
   pub data_room : (n : ℕ) → has_room data_end d.place.next_byte n ≡ fits_behind (data_offset before) n
   data_room n =
-      (λ j. leb n (data_end - (p j).next_byte)) ∙ ap (leb n) (let e : 0xC0000 - (0x80000 + data_offset before) ≡ section_room - data_offset before = omega arith in e)
+      (λ j. leb n (data_end - (p j).next_byte)) ∙ ap (leb n) (let e : DATA_END - (DATA_START + data_offset before) ≡ section_room - data_offset before = omega arith in e)
 
   data_told : (n : ℕ) → (data_checked n d).fault ≡ with_more (data_rules before n)
   data_told n =

@@ -2,6 +2,7 @@
 use Rattle.std.specs.Prelude.{ℕ, ◌+◌, ◌-◌, ◌*◌, ◌%◌, Bool, nat_lt, nat_le, ◌==◌, if◌then◌else◌, List, [], ◌∷◌, ◌++◌, map, Option, Some, None, Result, Ok, Err}
 use Rattle.std.specs.List.{list_any}
 use Rattle.std.specs.Str.{bytes_eq}
+use Rattle.v8_map.specs.declared.TheConstants.{CODE_START, DATA_START}
 use Rattle.v8_syntax.specs.Statements.{statement_length}
 use Rattle.sbx_directives.specs.declared.directive.Name.{Name}
 use Rattle.sbx_directives.specs.declared.directive.Directive.TheVariants as directives
@@ -60,12 +61,12 @@ code_offset before = up_to_room (code_size before)
 abbrev pub data_offset : List Item → ℕ
 data_offset before = up_to_room (data_size before)
 
--- the code begins at 00040000 and the data at 00080000
+-- the code begins at 00040000 and the data at 00080000, as the address map has them
 abbrev pub code_address : List Item → ℕ
-code_address before = 0x40000 + code_offset before
+code_address before = CODE_START + code_offset before
 
 abbrev pub data_address : List Item → ℕ
-data_address before = 0x80000 + data_offset before
+data_address before = DATA_START + data_offset before
 
 abbrev pub chosen : Said → Section → Section
 chosen (Ok (statements.Directive directives.Text)) section = Code

@@ -5,6 +5,7 @@ ghost use Rattle.sbx_asm.specs.Stages.Places.{start, code_end, data_end, has_roo
 
 use sbx_directives::{Directive, Statement, Width, byte_len};
 use sbx_text::Token;
+use v8_map::{CODE_END, CODE_START, DATA_END, DATA_START};
 use v8_syntax::length_of;
 
 /// What an ordinary line adds to.
@@ -21,15 +22,6 @@ pub struct Place {
     pub next_word: u32,
     pub next_byte: u32,
 }
-
-/// Where the code begins and where the data begins.
-pub const CODE_START: u32 = 0x0004_0000;
-
-pub const DATA_START: u32 = 0x0008_0000;
-/// Where each must end.
-pub const CODE_END: u32 = 0x0008_0000;
-
-pub const DATA_END: u32 = 0x000C_0000;
 
 /// Whether so many bytes fit from an address up to a limit.
 pub fn has_room(limit: u32, address: u32, bytes: u128) -> bool

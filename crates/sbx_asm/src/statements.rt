@@ -10,7 +10,7 @@ ghost use Rattle.sbx_asm.specs.Stages.Drafts.{data_checked, with_zeros, add_valu
 use crate::draft::Draft;
 use crate::fault::Cause;
 use crate::growing::Growing;
-use crate::place::{CODE_END, DATA_END, Section, bytes_of_values, has_room, padding};
+use crate::place::{Section, bytes_of_values, has_room, padding};
 use crate::reading::{behind_labels, read_tokens};
 use crate::scope::Scope;
 use crate::table::Table;
@@ -18,6 +18,7 @@ use sbx_directives::{DataFault, Directive, Statement, Width, label_count, read_s
 use sbx_text::Token;
 use std::alloc::{AllocError, Global};
 use v8_formats::{Instr, encode};
+use v8_map::{CODE_END, DATA_END};
 use v8_syntax::{SyntaxFault, length_of, parse_instr};
 
 /// The most lines.

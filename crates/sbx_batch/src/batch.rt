@@ -74,10 +74,7 @@ pub fn run_batch<const N: usize>(
     };
     let mut answers = Vec::new(alloc);
     for each in batch {
-        let finished = match run_next(alloc, &mut board, each.image, each.input) {
-            Ok(finished) => finished,
-            Err(fault) => return Err(fault),
-        };
+        let finished = run_next(alloc, &mut board, each.image, each.input)?;
         match answers.push(finished) {
             Ok(()) => {}
             Err(failed) => return Err(RunFault::Memory(Want::from(failed))),

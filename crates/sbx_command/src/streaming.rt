@@ -3,6 +3,7 @@ ghost use Rattle.std.specs.Prelude.{◌≡◌, ◌≤◌};
 ghost use Rattle.sbx_command.specs.Streaming.{RunGives};
 
 use crate::counts::Windows;
+use sbx_counts::on_windows;
 use sbx_stream::{Accepted, Finished, RunFault, run_stream};
 use std::alloc::Global;
 use std::io::{Read, Write};
@@ -24,18 +25,6 @@ fn stream_on<const N: usize, I: Read, O: Write>(
     run_stream::<N, I, O>(alloc, accepted, input, out)
 }
 
-/// The run on as many windows as there are, of these numbers, which rise from the least that it can be to the greatest.
-macro_rules! streamed_on {
-    ($windows:ident, $alloc:ident, $accepted:ident, $input:ident, $out:ident: $($count:literal)* or $last:literal) => {{
-        $(
-            if $windows <= $count {
-                return stream_on::<$count, I, O>($alloc, $windows, $accepted, $input, $out);
-            }
-        )*
-        stream_on::<$last, I, O>($alloc, $windows, $accepted, $input, $out)
-    }};
-}
-
 /// The run on 4 to 10 windows.
 fn stream_to_10<I: Read, O: Write>(
     alloc: Global,
@@ -48,7 +37,7 @@ fn stream_to_10<I: Read, O: Write>(
     ensures { RunGives windows accepted.now (I.remaining input.old) (I.remaining input.new)
         (O.contents out.old) (O.contents out.new) result }
 {
-    streamed_on!(windows, alloc, accepted, input, out: 4 5 6 7 8 9 or 10)
+    on_windows!(windows, stream_on [I O] (alloc, windows, accepted, input, out), 4 to 10)
 }
 
 /// The run on 11 to 17 windows.
@@ -63,7 +52,7 @@ fn stream_to_17<I: Read, O: Write>(
     ensures { RunGives windows accepted.now (I.remaining input.old) (I.remaining input.new)
         (O.contents out.old) (O.contents out.new) result }
 {
-    streamed_on!(windows, alloc, accepted, input, out: 11 12 13 14 15 16 or 17)
+    on_windows!(windows, stream_on [I O] (alloc, windows, accepted, input, out), 11 to 17)
 }
 
 /// The run on 18 to 24 windows.
@@ -78,7 +67,7 @@ fn stream_to_24<I: Read, O: Write>(
     ensures { RunGives windows accepted.now (I.remaining input.old) (I.remaining input.new)
         (O.contents out.old) (O.contents out.new) result }
 {
-    streamed_on!(windows, alloc, accepted, input, out: 18 19 20 21 22 23 or 24)
+    on_windows!(windows, stream_on [I O] (alloc, windows, accepted, input, out), 18 to 24)
 }
 
 /// The run on 25 to 32 windows.
@@ -93,7 +82,7 @@ fn stream_to_32<I: Read, O: Write>(
     ensures { RunGives windows accepted.now (I.remaining input.old) (I.remaining input.new)
         (O.contents out.old) (O.contents out.new) result }
 {
-    streamed_on!(windows, alloc, accepted, input, out: 25 26 27 28 29 30 31 or 32)
+    on_windows!(windows, stream_on [I O] (alloc, windows, accepted, input, out), 25 to 32)
 }
 
 /// Runs an accepted image over a reader and a writer, on so many windows, as `run_stream` does. Each count is a machine of its own, and

@@ -8,6 +8,7 @@ use crate::counts::Windows;
 use crate::images::image_in;
 use crate::reading::{MOST, ReadFault, read_whole};
 use crate::stops::Stop;
+use sbx_counts::on_windows;
 use sbx_image::Image;
 use sbx_stream::{Outcome, RunFault, trace};
 use std::alloc::Global;
@@ -43,18 +44,6 @@ fn trace_on<const N: usize, O: Write>(
     trace::<N, O>(alloc, image, input, limit, out)
 }
 
-/// The trace on as many windows as there are, of these numbers, which rise from the least that it can be to the greatest.
-macro_rules! traced_on {
-    ($windows:ident, $alloc:ident, $image:ident, $input:ident, $limit:ident, $out:ident: $($count:literal)* or $last:literal) => {{
-        $(
-            if $windows <= $count {
-                return trace_on::<$count, O>($alloc, $windows, $image, $input, $limit, $out);
-            }
-        )*
-        trace_on::<$last, O>($alloc, $windows, $image, $input, $limit, $out)
-    }};
-}
-
 /// Writes the trace on 4 to 10 windows.
 fn trace_to_10<O: Write>(
     alloc: Global,
@@ -67,7 +56,7 @@ fn trace_to_10<O: Write>(
     requires { (4 ≤ windows) × (windows ≤ 10) }
     ensures { TraceGives windows image.now input.now limit (O.contents out.old) (O.contents out.new) result }
 {
-    traced_on!(windows, alloc, image, input, limit, out: 4 5 6 7 8 9 or 10)
+    on_windows!(windows, trace_on [O] (alloc, windows, image, input, limit, out), 4 to 10)
 }
 
 /// Writes the trace on 11 to 17 windows.
@@ -82,7 +71,7 @@ fn trace_to_17<O: Write>(
     requires { (11 ≤ windows) × (windows ≤ 17) }
     ensures { TraceGives windows image.now input.now limit (O.contents out.old) (O.contents out.new) result }
 {
-    traced_on!(windows, alloc, image, input, limit, out: 11 12 13 14 15 16 or 17)
+    on_windows!(windows, trace_on [O] (alloc, windows, image, input, limit, out), 11 to 17)
 }
 
 /// Writes the trace on 18 to 24 windows.
@@ -97,7 +86,7 @@ fn trace_to_24<O: Write>(
     requires { (18 ≤ windows) × (windows ≤ 24) }
     ensures { TraceGives windows image.now input.now limit (O.contents out.old) (O.contents out.new) result }
 {
-    traced_on!(windows, alloc, image, input, limit, out: 18 19 20 21 22 23 or 24)
+    on_windows!(windows, trace_on [O] (alloc, windows, image, input, limit, out), 18 to 24)
 }
 
 /// Writes the trace on 25 to 32 windows.
@@ -112,7 +101,7 @@ fn trace_to_32<O: Write>(
     requires { (25 ≤ windows) × (windows ≤ 32) }
     ensures { TraceGives windows image.now input.now limit (O.contents out.old) (O.contents out.new) result }
 {
-    traced_on!(windows, alloc, image, input, limit, out: 25 26 27 28 29 30 31 or 32)
+    on_windows!(windows, trace_on [O] (alloc, windows, image, input, limit, out), 25 to 32)
 }
 
 /// Writes the trace of an image on an input, on so many windows, up to so many turns. Each count is a machine of its own, and each

@@ -92,10 +92,8 @@ pub fn put_listing<O: Write>(words: &[u32], out: &mut O) -> io::Result<()>
 {
     let mut address = CODE_START;
     for word in words {
-        match put_line(address, *word, out) {
-            Ok(()) => address += 4,
-            Err(error) => return Err(error),
-        }
+        put_line(address, *word, out)?;
+        address += 4;
     }
     out.flush()
 }

@@ -3,6 +3,7 @@ use Rattle.std.proofs.Common.{◌≡◌, ℕ, zero, suc, ◌+◌, ◌-◌, ◌^�
 use Rattle.std.specs.Prelude.{◌==◌, ◌&&◌, nat_le, ◌%◌, ◌/◌, if◌then◌else◌}
 use Rattle.std.proofs.lemmas.Bool.Decides.{nat_tests}
 use Rattle.std.proofs.lemmas.Option.{slice_get_past}
+use Rattle.v8_map.specs.declared.TheConstants.{STACK_START}
 use Rattle.sbx_image.specs.Rules.{code_start}
 use Rattle.sbx_image.specs.Parts.{Parts}
 use Rattle.sbx_image.specs.Regions.{data_at}
@@ -14,19 +15,20 @@ use Rattle.sbx_plain.specs.declared.frames.Frames.{Frames}
 use Rattle.sbx_plain.specs.declared.machine.Plain.{Plain}
 use Rattle.sbx_plain.proofs.Shown.{eight, seven, word_from, word_local, word_low, word_out}
 
+-- the frames of a start: one call, whose open words are `fill`
 pub record IsFirst (m : Frames) (fill : ℕ) : Type 0 where
   pub globals : m.globals ≡ 0 ∷ fill ∷ fill ∷ fill ∷ fill ∷ fill ∷ fill ∷ fill ∷ []
-  pub outs : m.outs ≡ fill ∷ fill ∷ fill ∷ fill ∷ fill ∷ fill ∷ 0xFFFC0 ∷ fill ∷ []
+  pub outs : m.outs ≡ fill ∷ fill ∷ fill ∷ fill ∷ fill ∷ fill ∷ STACK_START ∷ fill ∷ []
   pub locals : m.locals ≡ fill ∷ fill ∷ fill ∷ fill ∷ fill ∷ fill ∷ fill ∷ fill ∷ []
   pub ins : m.ins ≡ fill ∷ fill ∷ fill ∷ fill ∷ fill ∷ fill ∷ fill ∷ fill ∷ []
   pub slots : m.slots.words.items ≡ []
   pub older : m.older.items ≡ []
 
 abbrev pub start_file : ℕ → Registers
-start_file fill = record { globals = λ _. fill; newest = record { locals = λ _. fill; outs = with_word (λ _. fill) 14 0xFFFC0; slots = λ _. None }; older = []; oldest_ins = λ _. fill }
+start_file fill = record { globals = λ _. fill; newest = record { locals = λ _. fill; outs = with_word (λ _. fill) 14 STACK_START; slots = λ _. None }; older = []; oldest_ins = λ _. fill }
 
 abbrev start_word : ℕ → ℕ → ℕ
-start_word fill r = if r == 0 then 0 else if r == 14 then 0xFFFC0 else fill
+start_word fill r = if r == 0 then 0 else if r == 14 then STACK_START else fill
 
 file_word : (fill r : ℕ) → r < 32 → word_in (start_file fill) r ≡ start_word fill r
 file_word fill r less = grind (arith, nat_tests)
@@ -45,7 +47,7 @@ first_zero x (suc (suc (suc (suc (suc (suc (suc (suc k)))))))) h = absurd (omega
 low_word : (fill r : ℕ) → r < 8 → (if r == 0 then 0 else fill) ≡ start_word fill r
 low_word fill r low = grind (arith, nat_tests)
 
-out_word : (fill r : ℕ) → 8 ≤ r → (if r - 8 == 6 then 0xFFFC0 else fill) ≡ start_word fill r
+out_word : (fill r : ℕ) → 8 ≤ r → (if r - 8 == 6 then STACK_START else fill) ≡ start_word fill r
 out_word fill r low = grind (arith, nat_tests)
 
 high_word : (fill r : ℕ) → 16 ≤ r → fill ≡ start_word fill r
@@ -53,7 +55,7 @@ high_word fill r low = grind (arith, nat_tests)
 
 frames_word : (m : Frames) (fill r : ℕ) → IsFirst m fill → r < 32 → (r < 8) ⊎ (8 ≤ r) → (r < 16) ⊎ (16 ≤ r) → (r < 24) ⊎ (24 ≤ r) → word_of m r ≡ start_word fill r
 frames_word m fill r is less (inl low) b c = word_low m r low ∙ ap (λ l. slice_index l r) is.globals ∙ first_zero fill r low ∙ low_word fill r low
-frames_word m fill r is less (inr past) (inl low) c = word_out m r past low ∙ ap (λ l. slice_index l (r - 8)) is.outs ∙ seven fill 0xFFFC0 (r - 8) (omega arith) ∙ out_word fill r past
+frames_word m fill r is less (inr past) (inl low) c = word_out m r past low ∙ ap (λ l. slice_index l (r - 8)) is.outs ∙ seven fill STACK_START (r - 8) (omega arith) ∙ out_word fill r past
 frames_word m fill r is less (inr far) (inr past) (inl low) = word_local m r past low ∙ ap (λ l. slice_index l (r - 16)) is.locals ∙ eight fill (r - 16) (omega arith) ∙ high_word fill r past
 frames_word m fill r is less (inr far) (inr farther) (inr past) = word_from m r past ∙ ap (λ l. slice_index l (r - 24)) is.ins ∙ eight fill (r - 24) (omega arith) ∙ high_word fill r (omega arith)
 
@@ -72,7 +74,7 @@ frames_show m fill is = record {
   callers = subst (λ ms. ShowsCallers (reverse ms) [] (λ _. fill)) (sym is.older) tt;
 }
 
-outs_are_words : (fill : ℕ) → fill < 2 ^ 32 → AreWords (with_word (λ _. fill) 14 0xFFFC0)
+outs_are_words : (fill : ℕ) → fill < 2 ^ 32 → AreWords (with_word (λ _. fill) 14 STACK_START)
 outs_are_words fill small n = grind (arith, nat_tests)
 
 abbrev start_state : Parts → List ℕ → ℕ → State
@@ -89,7 +91,7 @@ start_state parts input fill = record {
   exit = None;
 }
 
-pub starts : (parts : Parts) (input : List ℕ) (fill : ℕ) (m : Plain) → fill < 2 ^ 32 → m.pc ≡ 0x40000 → m.npc ≡ 0x40004 → m.annulled ≡ false → m.icc ≡ record { n = false; z = false; v = false; c = false } → m.y ≡ fill →
+pub starts : (parts : Parts) (input : List ℕ) (fill : ℕ) (m : Plain) → fill < 2 ^ 32 → m.pc ≡ code_start → m.npc ≡ code_start + 4 → m.annulled ≡ false → m.icc ≡ record { n = false; z = false; v = false; c = false } → m.y ≡ fill →
     IsFirst m.frames fill → ((a : ℕ) → cell_at m.memory.cells.items a ≡ data_at parts.regions a) → m.input.now ≡ input → m.output.items ≡ [] → m.exit ≡ None → (s : State) × IsStart parts input s × Shows m s
 starts parts input fill m small pc npc straight icc y frames bytes same output exit = (
   start_state parts input fill,

@@ -1,5 +1,6 @@
 //! A machine at a start.
 ghost use Rattle.std.specs.Prelude.{◌≡◌, ◌∷◌, [], IfOk};
+ghost use Rattle.v8_map.specs.declared.TheConstants.{STACK_START};
 ghost use Rattle.sbx_flat.specs.Runs.{IsStart};
 ghost use Rattle.sbx_flat.specs.States.{State};
 ghost use Rattle.sbx_plain.specs.Shows.{Shows};
@@ -9,15 +10,13 @@ use crate::machine::Plain;
 use crate::memory::Data;
 use sbx_image::Image;
 use std::alloc::{AllocError, Global};
+use v8_map::{CODE_START, STACK_START};
 use v8_word::Icc;
-
-/// The stack's base at a start.
-const BASE: u32 = 0x000F_FFC0;
 
 /// One frame of the stack's base; each word that a start leaves open is `fill`, and Y too.
 fn first_frame(alloc: Global, fill: u32) -> Frames
     ensures globals { result.globals ≡ 0 ∷ fill ∷ fill ∷ fill ∷ fill ∷ fill ∷ fill ∷ fill ∷ [] }
-    ensures outs { result.outs ≡ fill ∷ fill ∷ fill ∷ fill ∷ fill ∷ fill ∷ 0xFFFC0 ∷ fill ∷ [] }
+    ensures outs { result.outs ≡ fill ∷ fill ∷ fill ∷ fill ∷ fill ∷ fill ∷ STACK_START ∷ fill ∷ [] }
     ensures locals { result.locals ≡ fill ∷ fill ∷ fill ∷ fill ∷ fill ∷ fill ∷ fill ∷ fill ∷ [] }
     ensures ins { result.ins ≡ fill ∷ fill ∷ fill ∷ fill ∷ fill ∷ fill ∷ fill ∷ fill ∷ [] }
     ensures slots { result.slots.words.items ≡ [] }
@@ -25,7 +24,7 @@ fn first_frame(alloc: Global, fill: u32) -> Frames
 {
     Frames {
         globals: [0, fill, fill, fill, fill, fill, fill, fill],
-        outs: [fill, fill, fill, fill, fill, fill, BASE, fill],
+        outs: [fill, fill, fill, fill, fill, fill, STACK_START, fill],
         locals: [fill; 8],
         ins: [fill; 8],
         slots: Slots {
@@ -48,8 +47,8 @@ impl<'a> Plain<'a> {
     {
         let memory = Data::of(alloc, image.regions())?;
         Ok(Plain {
-            pc: 0x0004_0000,
-            npc: 0x0004_0004,
+            pc: CODE_START,
+            npc: CODE_START + 4,
             annulled: false,
             icc: Icc {
                 n: false,

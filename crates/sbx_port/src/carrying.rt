@@ -125,10 +125,7 @@ fn advance<const N: usize, R: Read>(
     if attempt(board) {
         return kept(board, met);
     }
-    let ended = match feed(board, reader) {
-        Ok(ended) => ended,
-        Err(fault) => return Err(fault),
-    };
+    let ended = feed(board, reader)?;
     if !attempt(board) {
         unreachable!();
     }
@@ -173,14 +170,8 @@ pub fn carry<const N: usize, R: Read, W: Write>(
         let None = board.ending() else {
             return Ok(());
         };
-        match advance(board, met, reader) {
-            Ok(now_met) => met = now_met,
-            Err(fault) => return Err(fault),
-        }
-        match deliver(board, writer) {
-            Ok(()) => {}
-            Err(fault) => return Err(fault),
-        }
+        met = advance(board, met, reader)?;
+        deliver(board, writer)?;
     }
     Ok(())
 }

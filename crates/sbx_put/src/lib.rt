@@ -14,10 +14,9 @@ pub fn put_all<W: Write>(out: &mut W, bytes: &[u8]) -> io::Result<()>
 {
     let mut rest = bytes;
     while !rest.is_empty() {
-        match out.write(rest) {
-            Ok(0) => return Err(io::Error::from(ErrorKind::WriteZero)),
-            Ok(count) => rest = rest.split_at(count).1,
-            Err(error) => return Err(error),
+        match out.write(rest)? {
+            0 => return Err(io::Error::from(ErrorKind::WriteZero)),
+            count => rest = rest.split_at(count).1,
         }
     }
     Ok(())

@@ -41,10 +41,7 @@ pub fn run_board<const N: usize, P: Port>(
     tells_limits(image);
     board.port().tells_bytes();
     board.load(image);
-    let outcome = match board.run(budget(image)) {
-        Ok(outcome) => outcome,
-        Err(fault) => return Err(fault),
-    };
+    let outcome = board.run(budget(image))?;
     match outcome.ending {
         Ending::Exit(status) => Ok(Ended {
             status,

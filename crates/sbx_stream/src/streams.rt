@@ -83,10 +83,7 @@ pub fn run_stream<const N: usize, R: Read, W: Write>(
 {
     let image = accepted.image();
     tells_limits(image);
-    let mut board = match ready::<N>(alloc, image) {
-        Ok(board) => board,
-        Err(fault) => return Err(fault),
-    };
+    let mut board = ready::<N>(alloc, image)?;
     match carry(&mut board, budget(image), reader, writer) {
         Ok(()) => Ok(finish(alloc, board.outcome(), board.page_use())),
         Err(fault) => Err(fault_of(fault)),

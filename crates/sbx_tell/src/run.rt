@@ -4,6 +4,7 @@ ghost use Rattle.sbx_tell.specs.Runs.{IsRun, IsRunOf, IsToldOf};
 ghost use Rattle.want.specs.Wants.{refused};
 
 use crate::slices::{Progress, run_slices};
+use sbx_counts::on_windows;
 use sbx_image::Image;
 use sbx_raw::{Raw, RunFault, SlicePort, begun};
 use std::alloc::Global;
@@ -71,18 +72,6 @@ fn run_on<const N: usize, P: Progress>(
     run_board(alloc, &mut board, limit, progress)
 }
 
-/// The run on as many windows as there are, of these numbers, which rise from the least that it can be to the greatest.
-macro_rules! run_on_these {
-    ($windows:ident, $alloc:ident, $image:ident, $input:ident, $limit:ident, $progress:ident: $($count:literal)* or $last:literal) => {{
-        $(
-            if $windows <= $count {
-                return run_on::<$count, P>($alloc, $windows, $image, $input, $limit, $progress);
-            }
-        )*
-        run_on::<$last, P>($alloc, $windows, $image, $input, $limit, $progress)
-    }};
-}
-
 /// The run on 4 to 10 windows.
 fn run_to_10<P: Progress>(
     alloc: Global,
@@ -96,7 +85,7 @@ fn run_to_10<P: Progress>(
     ensures run { IfOk result (λ run. IsRun windows image.now input.now limit run) }
     ensures fault { IfErr result (λ fault. fault ≡ RunFault.Memory refused) }
 {
-    run_on_these!(windows, alloc, image, input, limit, progress: 4 5 6 7 8 9 or 10)
+    on_windows!(windows, run_on [P] (alloc, windows, image, input, limit, progress), 4 to 10)
 }
 
 /// The run on 11 to 17 windows.
@@ -112,7 +101,7 @@ fn run_to_17<P: Progress>(
     ensures run { IfOk result (λ run. IsRun windows image.now input.now limit run) }
     ensures fault { IfErr result (λ fault. fault ≡ RunFault.Memory refused) }
 {
-    run_on_these!(windows, alloc, image, input, limit, progress: 11 12 13 14 15 16 or 17)
+    on_windows!(windows, run_on [P] (alloc, windows, image, input, limit, progress), 11 to 17)
 }
 
 /// The run on 18 to 24 windows.
@@ -128,7 +117,7 @@ fn run_to_24<P: Progress>(
     ensures run { IfOk result (λ run. IsRun windows image.now input.now limit run) }
     ensures fault { IfErr result (λ fault. fault ≡ RunFault.Memory refused) }
 {
-    run_on_these!(windows, alloc, image, input, limit, progress: 18 19 20 21 22 23 or 24)
+    on_windows!(windows, run_on [P] (alloc, windows, image, input, limit, progress), 18 to 24)
 }
 
 /// The run on 25 to 32 windows.
@@ -144,7 +133,7 @@ fn run_to_32<P: Progress>(
     ensures run { IfOk result (λ run. IsRun windows image.now input.now limit run) }
     ensures fault { IfErr result (λ fault. fault ≡ RunFault.Memory refused) }
 {
-    run_on_these!(windows, alloc, image, input, limit, progress: 25 26 27 28 29 30 31 or 32)
+    on_windows!(windows, run_on [P] (alloc, windows, image, input, limit, progress), 25 to 32)
 }
 
 /// Runs an image that need not be verified on so many windows, 4 to 32, as `sbx_raw::run_raw` does, and tells in between how far it

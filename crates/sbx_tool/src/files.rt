@@ -65,10 +65,9 @@ fn replaced(
     path: &str,
     bytes: &[u8],
 ) -> io::Result<()> {
-    let done = match file.write_all(bytes) {
-        Ok(()) => fs::rename(rt, beside, path),
-        Err(error) => Err(error),
-    };
+    let done = file
+        .write_all(bytes)
+        .and_then(|()| fs::rename(rt, beside, path));
     if done.is_err() {
         let _ = fs::remove_file(rt, beside);
     }

@@ -3,6 +3,7 @@ ghost use Rattle.std.specs.Prelude.{◌≡◌, ◌≢◌, ◌≤◌, IfErr, OnEr
 ghost use Rattle.sbx_watch.specs.Watched.{Watched, WatchedPart, WatchedRun, WatchedSome, WatchedTurn};
 
 use crate::teller::Teller;
+use sbx_counts::on_windows;
 use sbx_image::{Function, Image};
 use sbx_put::put_all;
 use sbx_raw::{RunFault, SlicePort, begun, fault_of};
@@ -52,10 +53,7 @@ fn watch_turns<const N: usize, W: Write>(
         let None = board.ending() else {
             return Ok(());
         };
-        match watch_turn(board, functions, done + 1, teller, out) {
-            Ok(()) => {}
-            Err(fault) => return Err(fault),
-        }
+        watch_turn(board, functions, done + 1, teller, out)?;
     }
     Ok(())
 }
@@ -95,23 +93,8 @@ fn watch_on<const N: usize, W: Write>(
     ensures { Watched windows image.now input.now limit (W.contents out.old) (W.contents out.new) result }
 {
     let _ = windows;
-    let mut board = match begun::<N>(alloc, image, input) {
-        Ok(board) => board,
-        Err(fault) => return Err(fault),
-    };
+    let mut board = begun::<N>(alloc, image, input)?;
     watch_board(alloc, &mut board, image.functions(), limit, out)
-}
-
-/// The turns on as many windows as there are, of these numbers, which rise from the least that it can be to the greatest.
-macro_rules! watch_on_these {
-    ($windows:ident, $alloc:ident, $image:ident, $input:ident, $limit:ident, $out:ident: $($count:literal)* or $last:literal) => {{
-        $(
-            if $windows <= $count {
-                return watch_on::<$count, W>($alloc, $windows, $image, $input, $limit, $out);
-            }
-        )*
-        watch_on::<$last, W>($alloc, $windows, $image, $input, $limit, $out)
-    }};
 }
 
 /// The turns on 4 to 10 windows.
@@ -126,7 +109,7 @@ fn watch_to_10<W: Write>(
     requires { (4 ≤ windows) × (windows ≤ 10) }
     ensures { Watched windows image.now input.now limit (W.contents out.old) (W.contents out.new) result }
 {
-    watch_on_these!(windows, alloc, image, input, limit, out: 4 5 6 7 8 9 or 10)
+    on_windows!(windows, watch_on [W] (alloc, windows, image, input, limit, out), 4 to 10)
 }
 
 /// The turns on 11 to 17 windows.
@@ -141,7 +124,7 @@ fn watch_to_17<W: Write>(
     requires { (11 ≤ windows) × (windows ≤ 17) }
     ensures { Watched windows image.now input.now limit (W.contents out.old) (W.contents out.new) result }
 {
-    watch_on_these!(windows, alloc, image, input, limit, out: 11 12 13 14 15 16 or 17)
+    on_windows!(windows, watch_on [W] (alloc, windows, image, input, limit, out), 11 to 17)
 }
 
 /// The turns on 18 to 24 windows.
@@ -156,7 +139,7 @@ fn watch_to_24<W: Write>(
     requires { (18 ≤ windows) × (windows ≤ 24) }
     ensures { Watched windows image.now input.now limit (W.contents out.old) (W.contents out.new) result }
 {
-    watch_on_these!(windows, alloc, image, input, limit, out: 18 19 20 21 22 23 or 24)
+    on_windows!(windows, watch_on [W] (alloc, windows, image, input, limit, out), 18 to 24)
 }
 
 /// The turns on 25 to 32 windows.
@@ -171,7 +154,7 @@ fn watch_to_32<W: Write>(
     requires { (25 ≤ windows) × (windows ≤ 32) }
     ensures { Watched windows image.now input.now limit (W.contents out.old) (W.contents out.new) result }
 {
-    watch_on_these!(windows, alloc, image, input, limit, out: 25 26 27 28 29 30 31 or 32)
+    on_windows!(windows, watch_on [W] (alloc, windows, image, input, limit, out), 25 to 32)
 }
 
 /// Runs an image on an input, on so many windows, 4 to 32, to an end, but at most so many turns, and writes a text for each: its

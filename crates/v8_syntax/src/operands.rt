@@ -107,10 +107,7 @@ fn read_space<'t, S: Symbols>(
     ensures { MatchOption result (space (S.values symbols.now) line.now rs1 rs2 (words_of line.now tokens.now) ≡ None) (λ x. space (S.values symbols.now) line.now rs1 rs2 (words_of line.now tokens.now) ≡ Some (x.0, words_of line.now x.1.now)) }
 {
     let (space, rest) = read_expression(symbols, line, tokens)?;
-    let filled = match word_in(Range::Space, space) {
-        Ok(asi) => Ok(elsewhere_bits(rs1, rs2, asi & 0xff)),
-        Err(fault) => Err(fault),
-    };
+    let filled = word_in(Range::Space, space).map(|asi| elsewhere_bits(rs1, rs2, asi & 0xff));
     Some((filled, rest))
 }
 
@@ -137,10 +134,7 @@ fn read_number<'t, S: Symbols>(
     ensures { MatchOption result (number (S.values symbols.now) line.now range (words_of line.now tokens.now) ≡ None) (λ x. number (S.values symbols.now) line.now range (words_of line.now tokens.now) ≡ Some (x.0, words_of line.now x.1.now)) }
 {
     let (value, rest) = read_expression(symbols, line, tokens)?;
-    let filled = match word_in(range, value) {
-        Ok(number) => Ok(low_bits(range, number)),
-        Err(fault) => Err(fault),
-    };
+    let filled = word_in(range, value).map(|number| low_bits(range, number));
     Some((filled, rest))
 }
 
@@ -156,10 +150,8 @@ fn read_target<'t, S: Symbols>(
     ensures { MatchOption result (target (S.values symbols.now) (S.place symbols.now) line.now reach annul (words_of line.now tokens.now) ≡ None) (λ x. target (S.values symbols.now) (S.place symbols.now) line.now reach annul (words_of line.now tokens.now) ≡ Some (x.0, words_of line.now x.1.now)) }
 {
     let (place, rest) = read_expression(symbols, line, tokens)?;
-    let filled = match displacement(reach, symbols.here(), place) {
-        Ok(words) => Ok(annul_bit(annul) + words % (reach / 2)),
-        Err(fault) => Err(fault),
-    };
+    let words = displacement(reach, symbols.here(), place);
+    let filled = words.map(|words| annul_bit(annul) + words % (reach / 2));
     Some((filled, rest))
 }
 

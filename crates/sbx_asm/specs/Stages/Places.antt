@@ -1,5 +1,6 @@
 -- Places of a source: how far the code and the data have come.
 use Rattle.std.specs.Prelude.{ℕ, ◌+◌, ◌-◌, ◌*◌, ◌%◌, Bool, nat_le, if◌then◌else◌, ◌==◌, List}
+use Rattle.v8_map.specs.declared.TheConstants.{CODE_START, CODE_END, DATA_START, DATA_END}
 use Rattle.sbx_text.specs.declared.Token.{Token}
 use Rattle.v8_syntax.specs.Statements.{statement_length}
 use Rattle.sbx_directives.specs.declared.directive.Directive.{Directive}
@@ -11,15 +12,15 @@ use Rattle.sbx_asm.specs.declared.place.Section.{Section}
 use Rattle.sbx_asm.specs.declared.place.Section.TheVariants.{Code, Data}
 use Rattle.sbx_asm.specs.declared.place.Place.{Place}
 
--- the code begins at 00040000 and the data at 00080000, and each has at most 262,144 bytes
+-- code and data begin and end where the address map has them
 abbrev pub start : Place
-start = record { section = Code; next_word = 0x40000; next_byte = 0x80000 }
+start = record { section = Code; next_word = CODE_START; next_byte = DATA_START }
 
 abbrev pub code_end : ℕ
-code_end = 0x80000
+code_end = CODE_END
 
 abbrev pub data_end : ℕ
-data_end = 0xC0000
+data_end = DATA_END
 
 abbrev pub has_room : ℕ → ℕ → ℕ → Bool
 has_room limit address n = nat_le n (limit - address)
@@ -44,7 +45,7 @@ address p = address_in p.section p
 
 -- zeros up to a multiple of n, from the start of the data
 abbrev pub padding : ℕ → ℕ → ℕ
-padding n address = if n == 0 then 0 else (n - (address - 0x80000) % n) % n
+padding n address = if n == 0 then 0 else (n - (address - DATA_START) % n) % n
 
 abbrev pub directed : Directive → Place → Place
 directed directives.Text p = record p { section = Code }

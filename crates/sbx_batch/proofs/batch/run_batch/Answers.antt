@@ -23,12 +23,12 @@ loop-each-preserved g c =
     let batch = c.args.batch.now in
     let i = c.loop-each.each-index in
     let mid = c.run_next.new.board.state in (
-      c.in-Ok-run_next.ensures.state,
+      c.in_ok-finished.ensures.state,
       (
         made,
         new,
         subst (λ (done : List Finished). Completes g.row.N made batch done mid (drop (i + 1) batch)) (sym c.in-Ok-push.ensures.items)
-            (one_more g.row.N made c.loop-each.board.state mid batch c.loop-each.answers.items i c.each-item.result c.in-Ok-run_next.finished c.loop-each-test.true c.each-item.is c.in-Ok-run_next.ensures.next completes),
+            (one_more g.row.N made c.loop-each.board.state mid batch c.loop-each.answers.items i c.each-item.result c.in_ok-finished.finished c.loop-each-test.true c.each-item.is c.in_ok-finished.ensures.next completes),
       ),
     )
 

@@ -1,5 +1,6 @@
 use Rattle.std.proofs.Common.{◌+◌, ◌++◌, [], ap, ◌∙◌, sym, arith, rules}
 use Rattle.std.proofs.KnownBytes.{Appends-nil, Appends-trans, Consumes-nil}
+use Rattle.std.proofs.lemmas.Result.{err_from_is_err_and}
 use Rattle.v8_board.specs.Seen.{State}
 use Rattle.sbx_port.proofs.Tracked.{advanced, halted_part, no_bytes, runs_as, tracks_delivered, tracks_first, unwritten_part}
 use Rattle.sbx_port.proofs.carrying.carry.Goals as goal
@@ -44,39 +45,41 @@ returns-clause-whole g c =
       written,
     )
 
-pub returns-in-Err-clause-part : goal.returns-in-Err-clause-part
-returns-in-Err-clause-part g c =
+pub returns-in_err-met-clause-part : goal.returns-in_err-met-clause-part
+returns-in_err-met-clause-part g c =
     let (read, w, tracks, empty, served, none, has, written) = c.loop-done.invariant in
-    halted_part g.row.N c.loop-done.done c.args.limit c.args.board.now.state read c.loop-done.met w c.loop-done.board.state
+    let p = err_from_is_err_and c.from_residual.result c.from_residual.ensures.1 in
+    rw (p.1, p.2) (halted_part g.row.N c.loop-done.done c.args.limit c.args.board.now.state read c.loop-done.met w c.loop-done.board.state
     (g.R.Read.remaining c.args.reader.now) (g.R.Read.remaining c.loop-done.reader) (g.R.Read.remaining c.advance.new.reader)
-    (g.W.Write.contents c.args.writer.now) (g.W.Write.contents c.loop-done.writer) c.in-Err.fault
-    tracks has c.in-Err.ensures.halted (omega arith) c.in-Err.ensures.fault written
+    (g.W.Write.contents c.args.writer.now) (g.W.Write.contents c.loop-done.writer) c.in_err-met.field-0.0
+    tracks has c.in_err-met.ensures.halted (omega arith) c.in_err-met.ensures.fault written)
 
-pub returns-in-Err-deliver-clause-part : goal.returns-in-Err-deliver-clause-part
-returns-in-Err-deliver-clause-part g c =
+pub returns-in_err-deliver-clause-part : goal.returns-in_err-deliver-clause-part
+returns-in_err-deliver-clause-part g c =
     let (read, w, tracks, empty, served, none, has, written) = c.loop-done.invariant in
-    let (all, on, all_has) = advanced g.row.N c.loop-done.done c.args.board.now.state read c.loop-done.met c.in-Ok.now_met w c.loop-done.board.state c.advance.new.board.state
+    let (all, on, all_has) = advanced g.row.N c.loop-done.done c.args.board.now.state read c.loop-done.met c.in_ok-met.met w c.loop-done.board.state c.advance.new.board.state
     (g.R.Read.remaining c.args.reader.now) (g.R.Read.remaining c.loop-done.reader) (g.R.Read.remaining c.advance.new.reader)
-    tracks has (sym c.ending.ensures ∙ c.in-None.is) c.in-Ok.ensures.ok in
-    unwritten_part g.row.N (c.loop-done.done + 1) c.args.limit c.args.board.now.state all c.in-Ok.now_met w c.advance.new.board.state
+    tracks has (sym c.ending.ensures ∙ c.in-None.is) c.in_ok-met.ensures.ok in
+    let p = err_from_is_err_and c.from_residual-in_err-deliver.result c.from_residual-in_err-deliver.ensures.1 in
+    rw (p.1, p.2) (unwritten_part g.row.N (c.loop-done.done + 1) c.args.limit c.args.board.now.state all c.in_ok-met.met w c.advance.new.board.state
     (g.R.Read.remaining c.args.reader.now) (g.R.Read.remaining c.advance.new.reader)
-    (g.W.Write.contents c.args.writer.now) (g.W.Write.contents c.loop-done.writer) (g.W.Write.contents c.deliver.new.writer) c.in-Err-deliver.fault
-    on all_has c.in-Err-deliver.ensures.held (omega arith) c.in-Err-deliver.ensures.fault written c.in-Err-deliver.ensures.nothing
+    (g.W.Write.contents c.args.writer.now) (g.W.Write.contents c.loop-done.writer) (g.W.Write.contents c.deliver.new.writer) c.in_err-deliver.field-0.0
+    on all_has c.in_err-deliver.ensures.held (omega arith) c.in_err-deliver.ensures.fault written c.in_err-deliver.ensures.nothing)
 
 pub loop-done-preserved : goal.loop-done-preserved
 loop-done-preserved g c =
     let (read, w, tracks, empty, served, none, has, written) = c.loop-done.invariant in
     let t = c.advance.new.board.state in
-    let (all, on, all_has) = advanced g.row.N c.loop-done.done c.args.board.now.state read c.loop-done.met c.in-Ok.now_met w c.loop-done.board.state t
+    let (all, on, all_has) = advanced g.row.N c.loop-done.done c.args.board.now.state read c.loop-done.met c.in_ok-met.met w c.loop-done.board.state t
     (g.R.Read.remaining c.args.reader.now) (g.R.Read.remaining c.loop-done.reader) (g.R.Read.remaining c.advance.new.reader)
-    tracks has (sym c.ending.ensures ∙ c.in-None.is) c.in-Ok.ensures.ok in (
+    tracks has (sym c.ending.ensures ∙ c.in-None.is) c.in_ok-met.ensures.ok in (
       all,
       w ++ t.world.memory.device.output,
-      tracks_delivered g.row.N (c.loop-done.done + 1) c.args.board.now.state all c.in-Ok.now_met w t c.deliver.new.board.state on c.in-Ok-deliver.ensures.emptied,
-      ap (λ (u : State g.row.N). u.world.memory.device.output) c.in-Ok-deliver.ensures.emptied,
-      c.in-Ok-deliver.ensures.served,
-      λ yes. ap (λ (u : State g.row.N). u.world.memory.device.input) c.in-Ok-deliver.ensures.emptied ∙ c.in-Ok.ensures.ok.still yes,
+      tracks_delivered g.row.N (c.loop-done.done + 1) c.args.board.now.state all c.in_ok-met.met w t c.deliver.new.board.state on c.in_ok-deliver.ensures.emptied,
+      ap (λ (u : State g.row.N). u.world.memory.device.output) c.in_ok-deliver.ensures.emptied,
+      c.in_ok-deliver.ensures.served,
+      λ yes. ap (λ (u : State g.row.N). u.world.memory.device.input) c.in_ok-deliver.ensures.emptied ∙ c.in_ok-met.ensures.ok.still yes,
       all_has,
       Appends-trans (g.W.Write.contents c.args.writer.now) (g.W.Write.contents c.loop-done.writer) (g.W.Write.contents c.deliver.new.writer)
-          w t.world.memory.device.output written c.in-Ok-deliver.ensures.written,
+          w t.world.memory.device.output written c.in_ok-deliver.ensures.written,
     )

@@ -1,4 +1,5 @@
 use Rattle.std.proofs.Common.{◌∙◌, ap, inl, inr, subst, sym, rules}
+use Rattle.std.proofs.lemmas.Result.{err_from_is_err_and}
 use Rattle.v8_memory.specs.Board.{Device}
 use Rattle.v8_board.specs.Contains.{Contains}
 use Rattle.v8_board.specs.Runs.{IsCutShort, IsRun}
@@ -11,21 +12,22 @@ use Rattle.sbx_windows.specs.Runs.{IsImage}
 use Rattle.sbx_run.proofs.Answered.{board_ends, board_exits, stands_on, turns_stay}
 use Rattle.sbx_run.proofs.boards.run_board.Goals as goal
 
-pub returns-in-Err-clause-stands : goal.returns-in-Err-clause-stands
-returns-in-Err-clause-stands g c =
+pub returns-in_err-outcome-clause-stands : goal.returns-in_err-outcome-clause-stands
+returns-in_err-outcome-clause-stands g c =
     let same = c.image-image.ensures.image in
-    stands_on g.row.N c.image-image.result.now c.args.accepted.now c.budget.result c.args.board.now.state c.load.new.self.state c.run.new.self.state same (c.budget.ensures ∙ ap budget same) c.load.ensures.start c.in-Err.ensures.stands c.in-Err.ensures.goes_on
+    let p = err_from_is_err_and c.from_residual.result c.from_residual.ensures.1 in
+    rw p.1 (stands_on g.row.N c.image-image.result.now c.args.accepted.now c.budget.result c.args.board.now.state c.load.new.self.state c.run.new.self.state same (c.budget.ensures ∙ ap budget same) c.load.ensures.start c.in_err-outcome.ensures.stands c.in_err-outcome.ensures.goes_on)
 
-pub returns-in-Err-clause-state : goal.returns-in-Err-clause-state
-returns-in-Err-clause-state g c =
+pub returns-in_err-outcome-clause-state : goal.returns-in_err-outcome-clause-state
+returns-in_err-outcome-clause-state g c =
     let given : AreBytes c.args.board.now.state.world.memory.device.input = subst AreBytes c.port.ensures.input c.tells_bytes.ensures in
     let bytes : AreBytes c.load.new.self.state.world.memory.device.input = subst (λ (d : Device). AreBytes d.input) (sym c.load.ensures.start.device) given in
-    let cut : IsCutShort g.row.N c.budget.result c.load.new.self.state c.run.new.self.state = c.in-Err.ensures.stands in
+    let cut : IsCutShort g.row.N c.budget.result c.load.new.self.state c.run.new.self.state = c.in_err-outcome.ensures.stands in
     (turns_stay g.row.N c.load.new.self.state c.run.new.self.state cut.turns (c.load.ensures.state, bytes)).0
 
-pub returns-in-Err-clause-contained : goal.returns-in-Err-clause-contained
-returns-in-Err-clause-contained g c =
-    c.in-Err.ensures.contained c.args.accepted.now (subst (λ (p : Parts). Contains g.row.N p c.load.new.self.state) c.image-image.ensures.image c.load.ensures.contained)
+pub returns-in_err-outcome-clause-contained : goal.returns-in_err-outcome-clause-contained
+returns-in_err-outcome-clause-contained g c =
+    c.in_err-outcome.ensures.contained c.args.accepted.now (subst (λ (p : Parts). Contains g.row.N p c.load.new.self.state) c.image-image.ensures.image c.load.ensures.contained)
 
 pub unreachable-requires : goal.unreachable-requires
 unreachable-requires g c =
@@ -36,11 +38,11 @@ unreachable-requires g c =
     let end = c.run.new.self.state in
     let loaded : IsStart g.row.N parts c.args.board.now.state start = subst (λ (p : Parts). IsStart g.row.N p c.args.board.now.state start) same c.load.ensures.start in
     let limits : IsImage parts = subst IsImage same c.tells_limits.ensures in
-    let run : IsRun g.row.N (budget parts) start end = subst (λ k. IsRun g.row.N k start end) (c.budget.ensures ∙ ap budget same) c.in-Ok.ensures.run in
-    let no = board_exits g.row.N parts c.args.board.now.state start end limits c.image-image.ensures.safe given loaded c.load.ensures.state run c.in-Ok.outcome in
+    let run : IsRun g.row.N (budget parts) start end = subst (λ k. IsRun g.row.N k start end) (c.budget.ensures ∙ ap budget same) c.in_ok-outcome.ensures.run in
+    let no = board_exits g.row.N parts c.args.board.now.state start end limits c.image-image.ensures.safe given loaded c.load.ensures.state run c.in_ok-outcome.outcome in
     elim c.in-Trapped.is [
-      | inl trapped ↦ no (Trapped trapped.0) c.in-Ok.ensures.told trapped.1 (λ status e. cc)
-      | inr rest ↦ elim rest [ inl error ↦ no (ErrorMode error.0) c.in-Ok.ensures.told error.1 (λ status e. cc) | inr limit ↦ no Limit c.in-Ok.ensures.told limit (λ status e. cc) ]
+      | inl trapped ↦ no (Trapped trapped.0) c.in_ok-outcome.ensures.told trapped.1 (λ status e. cc)
+      | inr rest ↦ elim rest [ inl error ↦ no (ErrorMode error.0) c.in_ok-outcome.ensures.told error.1 (λ status e. cc) | inr limit ↦ no Limit c.in_ok-outcome.ensures.told limit (λ status e. cc) ]
     ]
 
 pub returns-clause-ended : goal.returns-clause-ended
@@ -52,17 +54,17 @@ returns-clause-ended g c =
     let end = c.run.new.self.state in
     let loaded : IsStart g.row.N parts c.args.board.now.state start = subst (λ (p : Parts). IsStart g.row.N p c.args.board.now.state start) same c.load.ensures.start in
     let limits : IsImage parts = subst IsImage same c.tells_limits.ensures in
-    let run : IsRun g.row.N (budget parts) start end = subst (λ k. IsRun g.row.N k start end) (c.budget.ensures ∙ ap budget same) c.in-Ok.ensures.run in
+    let run : IsRun g.row.N (budget parts) start end = subst (λ k. IsRun g.row.N k start end) (c.budget.ensures ∙ ap budget same) c.in_ok-outcome.ensures.run in
     board_ends g.row.N parts c.args.board.now.state start end limits c.image-image.ensures.safe given loaded c.load.ensures.state run _
-    (ap (λ (e : Ending). record c.in-Ok.outcome { ending = e }) (sym c.in-Exit.is) ∙ c.in-Ok.ensures.told) (search rules)
+    (ap (λ (e : Ending). record c.in_ok-outcome.outcome { ending = e }) (sym c.in-Exit.is) ∙ c.in_ok-outcome.ensures.told) (search rules)
 
 pub returns-clause-state : goal.returns-clause-state
 returns-clause-state g c =
     let given : AreBytes c.args.board.now.state.world.memory.device.input = subst AreBytes c.port.ensures.input c.tells_bytes.ensures in
     let bytes : AreBytes c.load.new.self.state.world.memory.device.input = subst (λ (d : Device). AreBytes d.input) (sym c.load.ensures.start.device) given in
-    let run : IsRun g.row.N c.budget.result c.load.new.self.state c.run.new.self.state = c.in-Ok.ensures.run in
+    let run : IsRun g.row.N c.budget.result c.load.new.self.state c.run.new.self.state = c.in_ok-outcome.ensures.run in
     (turns_stay g.row.N c.load.new.self.state c.run.new.self.state run.turns (c.load.ensures.state, bytes)).0
 
 pub returns-clause-contained : goal.returns-clause-contained
 returns-clause-contained g c =
-    c.in-Ok.ensures.contained c.args.accepted.now (subst (λ (p : Parts). Contains g.row.N p c.load.new.self.state) c.image-image.ensures.image c.load.ensures.contained)
+    c.in_ok-outcome.ensures.contained c.args.accepted.now (subst (λ (p : Parts). Contains g.row.N p c.load.new.self.state) c.image-image.ensures.image c.load.ensures.contained)

@@ -1,0 +1,36 @@
+//! Counts of windows, each of which is a machine of its own.
+#![tactic(auto)]
+
+/// What a function gives on as many windows as a number says, which is one of the counts from the first to the last. Its first
+/// parameter is the count; the others stand in square brackets, and its arguments behind them:
+/// `on_windows!(windows, run_on [P] (alloc, progress), 4 to 10)`. A function costs its proof by its ways out, so that one whose
+/// calls have much to prove takes few counts.
+#[macro_export]
+macro_rules! on_windows {
+    ($windows:ident, $call:ident $kinds:tt $given:tt, 4 to 10) => {
+        $crate::on_windows!(@ $windows, $call $kinds $given, 4 5 6 7 8 9 10)
+    };
+    ($windows:ident, $call:ident $kinds:tt $given:tt, 11 to 17) => {
+        $crate::on_windows!(@ $windows, $call $kinds $given, 11 12 13 14 15 16 17)
+    };
+    ($windows:ident, $call:ident $kinds:tt $given:tt, 18 to 24) => {
+        $crate::on_windows!(@ $windows, $call $kinds $given, 18 19 20 21 22 23 24)
+    };
+    ($windows:ident, $call:ident $kinds:tt $given:tt, 25 to 32) => {
+        $crate::on_windows!(@ $windows, $call $kinds $given, 25 26 27 28 29 30 31 32)
+    };
+    ($windows:ident, $call:ident $kinds:tt $given:tt, 4 to 32) => {
+        $crate::on_windows!(@ $windows, $call $kinds $given,
+            4 5 6 7 8 9 10 11 12 13 14 15 16 17 18 19 20 21 22 23 24 25 26 27 28 29 30 31 32)
+    };
+    (@ $windows:ident, $call:ident [$($kind:ident)*] $given:tt, $last:literal) => {
+        $call::<$last $(, $kind)*>$given
+    };
+    (@ $windows:ident, $call:ident $kinds:tt $given:tt, $count:literal $($more:literal)*) => {
+        if $windows <= $count {
+            $crate::on_windows!(@ $windows, $call $kinds $given, $count)
+        } else {
+            $crate::on_windows!(@ $windows, $call $kinds $given, $($more)*)
+        }
+    };
+}
