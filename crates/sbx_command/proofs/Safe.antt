@@ -28,4 +28,4 @@ pub sources_are_safe : SourcesAreSafe
 sources_are_safe source parts told =
     let keeps : parts_keep parts ≡ Ok tt = source_keeps source parts told in
     let fits = meant_images_fit source parts told in
-    (reading_again parts fits.0 keeps, checked_is_safe parts (record { kept = keeps; typed = fits.0; bytes = fits.1 }))
+    (reading_again parts fits keeps, checked_is_safe parts (record { kept = keeps; typed = fits }))
