@@ -1,6 +1,6 @@
 -- Where an access reaches, by what is known: bytes of the data, or a word of the frame.
 use Rattle.std.proofs.Common.{◌≡◌, ℕ, ◌+◌, ◌-◌, ◌*◌, ◌/◌, ◌%◌, ◌^◌, ◌<◌, ◌≤◌, ℤ, Bool, true, false, List, Option, Some, None, ap, ◌∙◌, subst, inl, inr, arith}
-use Rattle.std.specs.Prelude.{◌⊎◌, pos, negsuc, ◌+ℤ◌, ◌≤ℤ◌, int_lt, ◌&&◌, not, nat_le, if◌then◌else◌}
+use Rattle.std.specs.Prelude.{◌⊎◌, pos, negsuc, ◌+ℤ◌, ◌≤ℤ◌, int_lt, not, nat_le, if◌then◌else◌}
 use Rattle.std.proofs.lemmas.Bool.Decides.{nat_tests}
 use Rattle.std.proofs.lemmas.Int.{ints}
 use Rattle.v8_word.specs.declared.Size.{Size}

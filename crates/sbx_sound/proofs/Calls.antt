@@ -1,6 +1,6 @@
 -- A call into a function, and the return to its caller.
 use Rattle.sbx_sound.proofs.Entries.{called_kept}
-use Rattle.std.proofs.Common.{◌≡◌, ℕ, suc, ◌+◌, ◌≤◌, Bool, true, false, List, ◌∷◌, length, Some, refl, sym, ap, ◌∙◌, subst, arith}
+use Rattle.std.proofs.Common.{◌≡◌, ℕ, suc, ◌+◌, ◌≤◌, Bool, true, false, List, ◌∷◌, Some, refl, sym, ap, ◌∙◌, subst, arith}
 use Rattle.std.specs.Prelude.{pos, ◌+ℤ◌, ◌-ℤ◌, ◌≤ℤ◌, nat_le}
 use Rattle.v8_meaning.specs.Operands.{following}
 use Rattle.sbx_image.specs.Parts.{Parts}

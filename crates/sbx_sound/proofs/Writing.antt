@@ -1,5 +1,5 @@
 -- A word that writes one register, and perhaps the codes, Y or the data: what it does, from its turn in each state.
-use Rattle.std.proofs.Common.{◌≡◌, ◌≢◌, ℕ, true, length, Option, refl, sym, ap, ◌∙◌, subst}
+use Rattle.std.proofs.Common.{◌≡◌, ◌≢◌, ℕ, true, Option, refl, sym, ap, ◌∙◌, subst}
 use Rattle.v8_word.specs.declared.Icc.{Icc}
 use Rattle.v8_meaning.specs.declared.operation.Operation.{Operation}
 use Rattle.sbx_image.specs.Parts.{Parts}
