@@ -1,3 +1,4 @@
 pub mod Asking
 pub mod Quiet
 pub mod Examples
+pub mod Regions

@@ -1,5 +1,5 @@
 -- Images whose verdicts are known, worked out by hand.
-use Rattle.std.specs.Prelude.{ℕ, ◌*◌, ◌+◌, ◌≡◌, List, [], ◌∷◌, ℤ, pos, negsuc}
+use Rattle.std.specs.Prelude.{ℕ, ◌*◌, ◌+◌, ◌≡◌, Bool, true, false, List, [], ◌∷◌, replicate, Some, ℤ, pos, negsuc}
 use Rattle.sbx_image.specs.Block.{Block}
 use Rattle.sbx_image.specs.Cell.{Cell}
 use Rattle.sbx_image.specs.Function.{Function}
@@ -10,6 +10,7 @@ use Rattle.sbx_form.specs.Ranges.{range}
 use Rattle.sbx_rules.specs.declared.cause.Cause.{Cause}
 use Rattle.sbx_rules.specs.declared.cause.Cause.TheVariants.{BadCall, UndefinedRead, ReservedRegister, UnkeptCells, OutOfFuel, OutOfStack, UnkeptResults, BadEntry}
 use Rattle.sbx_rules.specs.declared.cause.Refusal.{Refusal}
+use Rattle.sbx_rules.specs.Rules.{is_in_data}
 use Rattle.sbx_rules.specs.Verdicts.{Checked, IsFirst}
 
 -- all services, no data and one page of stack
@@ -106,3 +107,21 @@ pub record VerdictsAreThese : Type 0 where
   pub entry_returns : IsFirst (after_save 0x81C7E008 0x81E80000 96 no_others) (refusal 0 0x40004 BadEntry)
   -- call .+8, with no room for the callee
   pub short_of_stack : IsFirst (after_save 0x40000002 0x01000000 188 one_other) (refusal 0 0x40004 OutOfStack)
+
+-- ---- data of two regions: a page that is only read, and right behind it eight bytes that may be written
+
+abbrev pub two_regions : Parts
+two_regions = record (image_of [] []) { regions = record { bytes = replicate 4096 0; writable = false } ∷ record { bytes = replicate 8 0; writable = true } ∷ [] }
+
+-- a load or a store of four bytes from each address of an interval on
+abbrev pub is_admitted_from : ℕ → ℕ → Bool → Bool
+is_admitted_from low high writes = is_in_data two_regions 4 writes (Some (range (pos low) (pos high) 0))
+
+-- An access lies in one of the regions, and a store in the one that may be written.
+pub record RegionsAreReachedAlone : Type 0 where
+  pub loads : is_admitted_from 0x80000 0x80FFC false ≡ true
+  pub no_stores : is_admitted_from 0x80000 0x80FFC true ≡ false
+  pub stores : is_admitted_from 0x81000 0x81004 true ≡ true
+  pub of_either : is_admitted_from 0x80FFC 0x81000 false ≡ false
+  pub before : is_admitted_from 0x7FFFF 0x80000 false ≡ false
+  pub past : is_admitted_from 0x81004 0x81005 false ≡ false
