@@ -7,6 +7,7 @@ use Rattle.want.specs.Wants.{refused}
 use Rattle.sbx_parts.specs.declared.order.Next.{Next}
 use Rattle.sbx_parts.specs.declared.order.Next.TheVariants.{Exactly, Above}
 use Rattle.sbx_image.specs.declared.heads.Header.{Header}
+use Rattle.sbx_image.specs.declared.heads.Shape.{Shape}
 use Rattle.sbx_image.specs.declared.heads.Counts.{Counts}
 use Rattle.sbx_image.specs.declared.heads.Bounds.{Bounds}
 use Rattle.sbx_image.specs.declared.heads.FunctionHead.{FunctionHead}
@@ -21,7 +22,8 @@ use Rattle.sbx_parts.specs.declared.parts.Function.{Function}
 use Rattle.sbx_parts.specs.declared.parts.Parts.{Parts}
 use Rattle.sbx_parts.specs.declared.parts.Region.{Region}
 use Rattle.sbx_parts.specs.declared.services.Services.{Services}
-use Rattle.sbx_parts.specs.Rules.{◌>>=◌, wants, between, code_start, admits, is_fuel, is_coefficient, is_known, is_version, is_data_length, in_order, Place}
+use Rattle.sbx_parts.specs.Regions.{pages_for}
+use Rattle.sbx_parts.specs.Rules.{◌>>=◌, wants, between, code_start, admits, is_fuel, is_coefficient, is_known, is_version, is_data_length, is_length_behind, in_order, Place}
 
 -- What a function returned, seen by view, is what reading gives, unless memory ran out.
 abbrev pub Gives : {X Y : Type 0} → (X → Y) → Result X ImageFault → Result Y ImageFault → Type 0
@@ -157,27 +159,54 @@ data_length_at bytes = do
   _ ← wants (is_data_length data_bytes.0) fault.Limit
   Ok data_bytes
 
+-- how many bytes of data version 1 has, or how many regions version 2 has
+unfoldable pub data_count_at : ℕ → List ℕ → Result (ℕ × List ℕ) ImageFault
+data_count_at version bytes = if version == 1 then data_length_at bytes else number_in w16 0 8 fault.Limit bytes
+
 unfoldable pub header_at : List ℕ → Result (Header × List ℕ) ImageFault
 header_at bytes = do
   services ← services_at bytes
   words ← number_in w32 1 65536 fault.Limit services.1
-  data_bytes ← data_length_at words.1
-  stack_pages ← number_in w16 1 16 fault.Limit data_bytes.1
+  data ← data_count_at services.0.0 words.1
+  stack_pages ← number_in w16 1 16 fault.Limit data.1
   functions ← number_in w16 1 256 fault.Limit stack_pages.1
-  Ok (record { version = services.0.0; services = services.0.1; words = words.0; bytes = data_bytes.0; stack_pages = stack_pages.0; functions = functions.0 }, functions.1)
+  Ok (record { version = services.0.0; services = services.0.1; words = words.0; data = data.0; stack_pages = stack_pages.0; functions = functions.0 }, functions.1)
 
--- the data of version 1: one region that may be written, or none where there are no bytes
-abbrev pub regions_of : List ℕ → List Region
-regions_of [] = []
-regions_of (b ∷ bytes) = record { bytes = b ∷ bytes; writable = true } ∷ []
+-- a region's length and kind; the pages of the regions before it go along with the bytes
+unfoldable pub shape_at : ℕ × List ℕ → Result (Shape × (ℕ × List ℕ)) ImageFault
+shape_at cursor = do
+  size ← number_at w32 cursor.1
+  _ ← wants (is_length_behind cursor.0 size.0) fault.Limit
+  kind ← number_in w16 0 1 fault.Limit size.1
+  Ok (record { bytes = size.0; writable = kind.0 == 1 }, (cursor.0 + pages_for size.0, kind.1))
+
+-- the one region of version 1, which may be written, or none where there are no bytes
+abbrev pub shape_of : ℕ → List Shape
+shape_of zero = []
+shape_of (suc n) = record { bytes = suc n; writable = true } ∷ []
+
+-- the regions' lengths and kinds, which version 2 has behind its header
+unfoldable pub shapes_at : Header → List ℕ → Result (List Shape × List ℕ) ImageFault
+shapes_at header bytes =
+    if header.version == 1 then Ok (shape_of header.data, bytes)
+    else (items_at shape_at header.data (0, bytes) >>= λ shapes. Ok (shapes.0, shapes.1.1))
+
+-- the bytes of each region
+unfoldable pub regions_at : List Shape → List ℕ → Result (List Region × List ℕ) ImageFault
+regions_at [] bytes = Ok ([], bytes)
+regions_at (shape ∷ shapes) bytes = do
+  own ← bytes_at shape.bytes bytes
+  others ← regions_at shapes own.1
+  Ok (record { bytes = own.0; writable = shape.writable } ∷ others.0, others.1)
 
 unfoldable pub parts_at : List ℕ → Result (Parts × List ℕ) ImageFault
 parts_at bytes = do
   header ← header_at bytes
-  words ← items_at (number_at w32) header.0.words header.1
-  data_bytes ← bytes_at header.0.bytes words.1
-  functions ← items_at (function_at (code_start + 4 * header.0.words)) header.0.functions ((Exactly code_start, 0), data_bytes.1)
-  Ok (record { version = header.0.version; services = header.0.services; words = words.0; regions = regions_of data_bytes.0; stack_pages = header.0.stack_pages; functions = functions.0 }, functions.1.1)
+  shapes ← shapes_at header.0 header.1
+  words ← items_at (number_at w32) header.0.words shapes.1
+  regions ← regions_at shapes.0 words.1
+  functions ← items_at (function_at (code_start + 4 * header.0.words)) header.0.functions ((Exactly code_start, 0), regions.1)
+  Ok (record { version = header.0.version; services = header.0.services; words = words.0; regions = regions.0; stack_pages = header.0.stack_pages; functions = functions.0 }, functions.1.1)
 
 -- The image that all of the bytes spell.
 unfoldable pub reading : List ℕ → Result Parts ImageFault

@@ -1,5 +1,5 @@
 -- The one spelling of each image: every number with its most significant byte first, and nothing between the fields.
-use Rattle.std.specs.Prelude.{ℕ, ◌<◌, ℤ, List, ◌++◌, length, get_or}
+use Rattle.std.specs.Prelude.{ℕ, ◌<◌, ℤ, Bool, true, false, List, [], ◌++◌, length, get_or, ◌==◌, if◌then◌else◌}
 use Rattle.std.specs.List.{flat_map}
 use Rattle.std.specs.Int.{Width, w8, w16, w32, w64, to_be_bytes, cast_unsigned}
 use Rattle.sbx_parts.specs.declared.parts.Kind.{Kind}
@@ -36,7 +36,15 @@ block_text b =
     ++ flat_map cell_text b.cells
     ++ flat_map term_text b.terms
 
--- a region's bytes alone; version 1 says how many there are, and no more
+abbrev pub right_code : Bool → ℕ
+right_code false = 0
+right_code true = 1
+
+-- a region's length, and whether it may be written
+unfoldable pub shape_text : Region → List ℕ
+shape_text r = to_be_bytes w32 (length r.bytes) ++ to_be_bytes w16 (right_code r.writable)
+
+-- a region's bytes alone
 abbrev pub region_text : Region → List ℕ
 region_text r = r.bytes
 
@@ -63,6 +71,14 @@ function_text f =
     ++ flat_map range_text f.results
     ++ flat_map block_text f.blocks
 
+-- how many bytes of data version 1 has, or how many regions version 2 has
+unfoldable pub data_count_text : Parts → List ℕ
+data_count_text p = if p.version == 1 then to_be_bytes w32 (byte_count p.regions) else to_be_bytes w16 (length p.regions)
+
+-- version 1 tells no more of its region; version 2 tells length and kind of each
+unfoldable pub shapes_text : Parts → List ℕ
+shapes_text p = if p.version == 1 then [] else flat_map shape_text p.regions
+
 -- `SBX8`, the version, and how much follows
 unfoldable pub header_text : Parts → List ℕ
 header_text p =
@@ -70,13 +86,14 @@ header_text p =
     ++ to_be_bytes w16 p.version
     ++ to_be_bytes w16 p.services.0
     ++ to_be_bytes w32 (length p.words)
-    ++ to_be_bytes w32 (byte_count p.regions)
+    ++ data_count_text p
     ++ to_be_bytes w16 p.stack_pages
     ++ to_be_bytes w16 (length p.functions)
 
 unfoldable pub spelling : Parts → List ℕ
 spelling p =
     header_text p
+    ++ shapes_text p
     ++ flat_map (to_be_bytes w32) p.words
     ++ flat_map region_text p.regions
     ++ flat_map function_text p.functions

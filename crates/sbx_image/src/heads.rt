@@ -7,9 +7,17 @@ pub struct Header {
     pub version: u16,
     pub services: Services,
     pub words: u32,
-    pub bytes: u32,
+    /// Bytes of data in version 1, regions in version 2.
+    pub data: u32,
     pub stack_pages: u16,
     pub functions: u16,
+}
+
+/// How many bytes a region has, and whether the program may write them.
+#[derive(Clone, Copy, Drop)]
+pub struct Shape {
+    pub bytes: u32,
+    pub writable: bool,
 }
 
 /// What a function begins with: its kind, and how many ranges follow its head.

@@ -1,6 +1,6 @@
 -- The limits and orders that an image keeps, field by field in the order in which the format has them.
 -- Each test that fails names its fault, and the first one tells.
-use Rattle.std.specs.Prelude.{ℕ, ◌+◌, ◌-◌, ◌*◌, ◌%◌, ℤ, pos, negsuc, Bool, true, false, not, ◌&&◌, ◌||◌, List, [], ◌∷◌, length, Result, Ok, Err, nat_lt, nat_le, int_lt, ◌==◌}
+use Rattle.std.specs.Prelude.{ℕ, ◌+◌, ◌-◌, ◌*◌, ◌%◌, ℤ, pos, negsuc, Bool, true, false, not, ◌&&◌, ◌||◌, List, [], ◌∷◌, length, Result, Ok, Err, nat_lt, nat_le, int_lt, ◌==◌, if◌then◌else◌}
 use Rattle.std.specs.Int.RustNames.{bit_and}
 use Rattle.v8_map.specs.declared.TheConstants.{CODE_START}
 use Rattle.sbx_parts.specs.declared.fault.ImageFault.{ImageFault}
@@ -14,6 +14,7 @@ use Rattle.sbx_parts.specs.declared.parts.Block.{Block}
 use Rattle.sbx_parts.specs.declared.parts.Function.{Function}
 use Rattle.sbx_parts.specs.declared.parts.Region.{Region}
 use Rattle.sbx_parts.specs.declared.parts.Parts.{Parts}
+use Rattle.sbx_parts.specs.Regions.{pages_for}
 
 -- one step after another, up to the first fault
 infixl 10 ◌>>=◌
@@ -114,27 +115,42 @@ function_keeps end place f = do
 abbrev pub is_known : ℕ → Bool
 is_known services = bit_and services 7 == services
 
--- the one version that is known
+-- the versions that are known
 abbrev pub is_version : ℕ → Bool
-is_version n = n == 1
+is_version n = between 1 2 n
 
 -- whole double words
 abbrev pub is_data_length : ℕ → Bool
 is_data_length n = nat_le n 262144 && n % 8 == 0
 
 -- the data of version 1: no region, or one that has bytes and may be written
-abbrev pub is_data : List Region → Bool
-is_data [] = true
-is_data (r ∷ []) = r.writable && (nat_lt 0 (length r.bytes) && is_data_length (length r.bytes))
-is_data (r ∷ s ∷ rest) = false
+abbrev pub is_one_region : List Region → Bool
+is_one_region [] = true
+is_one_region (r ∷ []) = r.writable && (nat_lt 0 (length r.bytes) && is_data_length (length r.bytes))
+is_one_region (r ∷ s ∷ rest) = false
+
+-- the regions where their bytes or they themselves are counted: version 2 has up to 8
+abbrev pub is_data : ℕ → List Region → Bool
+is_data version regions = if version == 1 then is_one_region regions else nat_le (length regions) 8
+
+-- a region's length, behind regions of so many pages: 64 pages are in all, and the region that passes them is told
+abbrev pub is_length_behind : ℕ → ℕ → Bool
+is_length_behind pages n = nat_lt 0 n && (is_data_length n && nat_le (pages + pages_for n) 64)
+
+-- how many pages there are with a region's own
+unfoldable pub region_keeps : ℕ → Region → Result ℕ ImageFault
+region_keeps pages r = do
+  _ ← wants (is_length_behind pages (length r.bytes)) fault.Limit
+  Ok (pages + pages_for (length r.bytes))
 
 unfoldable pub parts_keep : Parts → Result (Unit {0}) ImageFault
 parts_keep p = do
   _ ← wants (is_version p.version) fault.Version
   _ ← wants (is_known p.services.0) fault.Service
   _ ← wants (between 1 65536 (length p.words)) fault.Limit
-  _ ← wants (is_data p.regions) fault.Limit
+  _ ← wants (is_data p.version p.regions) fault.Limit
   _ ← wants (between 1 16 p.stack_pages) fault.Limit
   _ ← wants (between 1 256 (length p.functions)) fault.Limit
+  _ ← each region_keeps 0 p.regions
   _ ← each (function_keeps (code_start + 4 * length p.words)) (Exactly code_start, 0) p.functions
   Ok tt
