@@ -1,5 +1,6 @@
 -- What parts that keep every limit and order are known to keep, taken apart.
-use Rattle.std.proofs.Common.{◌≡◌, ℕ, ◌+◌, ◌-◌, ◌*◌, ◌%◌, ◌≤◌, ◌<◌, leb, ltb, true, List, [], ◌∷◌, length, All, Result, Ok, ap, arith}
+use Rattle.std.proofs.Common.{◌≡◌, ℕ, ◌+◌, ◌-◌, ◌*◌, ◌%◌, ◌≤◌, ◌<◌, leb, ltb, Bool, true, false, List, [], ◌∷◌, length, All, Result, Ok, ap, arith}
+use Rattle.std.specs.Prelude.{◌==◌, if◌then◌else◌}
 use Rattle.std.specs.List.{AllByRecursion}
 use Rattle.std.proofs.lemmas.Bool.{eqb-true, leb-true, ltb-true}
 use Rattle.std.proofs.lemmas.List.Elements.{All-from_recursion}
@@ -14,9 +15,9 @@ use Rattle.sbx_parts.specs.declared.parts.Block.{Block}
 use Rattle.sbx_parts.specs.declared.parts.Function.{Function}
 use Rattle.sbx_parts.specs.declared.parts.Parts.{Parts}
 use Rattle.sbx_parts.specs.declared.parts.Region.{Region}
-use Rattle.sbx_parts.specs.Regions.{AreData}
+use Rattle.sbx_parts.specs.Regions.{AreData, IsSized, byte_count, page_rights, pages_for}
 use Rattle.sbx_parts.proofs.Placing.{page_count}
-use Rattle.sbx_parts.specs.Rules.{◌>>=◌, wants, between, each, Place, code_start, admits, is_location, is_fuel, is_coefficient, is_known, is_version, is_data, in_order, range_keeps, location_keeps, cell_keeps, term_keeps, block_keeps, ranges_keep, function_keeps, parts_keep}
+use Rattle.sbx_parts.specs.Rules.{◌>>=◌, wants, between, each, Place, code_start, admits, is_location, is_fuel, is_coefficient, is_known, is_version, is_data, is_data_length, is_one_region, is_length_behind, region_keeps, in_order, range_keeps, location_keeps, cell_keeps, term_keeps, block_keeps, ranges_keep, function_keeps, parts_keep}
 use Rattle.sbx_parts.specs.Widths.{IsCountedBlock, IsCountedFunction}
 use Rattle.sbx_parts.proofs.Steps.{bind_ok, wanted, wanted_last, both_true, is_between, ok_is}
 
@@ -130,9 +131,11 @@ pub record KeptParts (p : Parts) : Type 0 where
   pub version : is_version p.version ≡ true
   pub services : is_known p.services.0 ≡ true
   pub word_count : between 1 65536 (length p.words) ≡ true
-  pub regions : is_data p.regions ≡ true
+  pub regions : is_data p.version p.regions ≡ true
   pub stack_pages : between 1 16 p.stack_pages ≡ true
   pub function_count : between 1 256 (length p.functions) ≡ true
+  pub last_pages : ℕ
+  pub lengths : each region_keeps 0 p.regions ≡ Ok last_pages
   pub last : Place
   pub functions : each (function_keeps (code_start + 4 * length p.words)) (Exactly code_start, 0) p.functions ≡ Ok last
 
@@ -142,43 +145,90 @@ parts_kept p e =
     let version = wanted (is_version p.version) fault.Version _ _ e in
     let services = wanted (is_known p.services.0) fault.Service _ _ version.1 in
     let word_count = wanted (between 1 65536 (length p.words)) fault.Limit _ _ services.1 in
-    let regions = wanted (is_data p.regions) fault.Limit _ _ word_count.1 in
+    let regions = wanted (is_data p.version p.regions) fault.Limit _ _ word_count.1 in
     let stack_pages = wanted (between 1 16 p.stack_pages) fault.Limit _ _ regions.1 in
     let function_count = wanted (between 1 256 (length p.functions)) fault.Limit _ _ stack_pages.1 in
-    let functions = bind_ok (each (function_keeps (code_start + 4 * length p.words)) (Exactly code_start, 0) p.functions) (λ _. Ok tt) tt function_count.1 in
-    record { version = version.0; services = services.0; word_count = word_count.0; regions = regions.0; stack_pages = stack_pages.0; function_count = function_count.0; last = functions.0; functions = functions.1 }
+    let lengths = bind_ok (each region_keeps 0 p.regions) _ tt function_count.1 in
+    let functions = bind_ok (each (function_keeps (code_start + 4 * length p.words)) (Exactly code_start, 0) p.functions) (λ _. Ok tt) tt lengths.2 in
+    record { version = version.0; services = services.0; word_count = word_count.0; regions = regions.0; stack_pages = stack_pages.0; function_count = function_count.0; last_pages = lengths.0; lengths = lengths.1; last = functions.0; functions = functions.1 }
 
 -- the code has 1 to 65,536 words
 pub words_within : (p : Parts) → parts_keep p ≡ Ok tt → (1 ≤ length p.words) × (length p.words ≤ 65536)
 words_within p e = is_between 1 65536 (length p.words) (parts_kept p e).word_count
 
-one_is_data : (r : Region) → is_data (r ∷ []) ≡ true → AreData (r ∷ [])
-one_is_data r e =
-    let tests = both_true r.writable _ e in
-    let sizes = both_true (ltb 0 (length r.bytes)) _ tests.1 in
-    let whole = both_true (leb (length r.bytes) 262144) _ sizes.1 in
-    let some : 0 < length r.bytes = ltb-true _ _ sizes.0 in
+-- ---- regions
+
+-- a region's length, and how many pages there are with its own
+pub record KeptRegion (pages : ℕ) (r : Region) (state : ℕ) : Type 0 where
+  pub size : IsSized r
+  pub within : state ≤ 64
+  pub state_is : pages + pages_for (length r.bytes) ≡ state
+
+length_kept : (pages : ℕ) (r : Region) → is_length_behind pages (length r.bytes) ≡ true → IsSized r × (pages + pages_for (length r.bytes) ≤ 64)
+length_kept pages r e =
+    let some = both_true (ltb 0 (length r.bytes)) _ e in
+    let tests = both_true (is_data_length (length r.bytes)) _ some.1 in
+    let whole = both_true (leb (length r.bytes) 262144) _ tests.0 in
+    let first : 0 < length r.bytes = ltb-true _ _ some.0 in
     let few : length r.bytes ≤ 262144 = leb-true _ _ whole.0 in
     let eights : length r.bytes % 8 ≡ 0 = eqb-true _ _ whole.1 in
+    (record { some = omega arith; few = few; whole = eights }, leb-true _ _ tests.1)
+
+pub region_kept : (pages : ℕ) (r : Region) (state : ℕ) → region_keeps pages r ≡ Ok state → KeptRegion pages r state
+unfolding region_keeps
+region_kept pages r state e =
+    let test = wanted (is_length_behind pages (length r.bytes)) fault.Limit _ _ e in
+    let kept = length_kept pages r test.0 in
+    let is : pages + pages_for (length r.bytes) ≡ state = ok_is _ _ test.1 in
+    record { size = kept.0; within = omega (arith, kept.1, is); state_is = is }
+
+-- regions behind others of so many pages
+record KeptRegions (pages : ℕ) (rs : List Region) (state : ℕ) : Type 0 where
+  within : state ≤ 64
+  state_is : pages + length (page_rights rs) ≡ state
+  bytes : byte_count rs ≤ 4096 * length (page_rights rs)
+  sizes : AllByRecursion IsSized rs
+
+regions_kept : (rs : List Region) (pages state : ℕ) → pages ≤ 64 → each region_keeps pages rs ≡ Ok state → KeptRegions pages rs state
+unfolding each
+regions_kept [] pages state le e =
+    let is : pages ≡ state = ok_is _ _ e in
+    record { within = omega (arith, le, is); state_is = omega (arith, is); bytes = omega arith; sizes = tt }
+regions_kept (r ∷ rs) pages state le e =
+    let first = bind_ok (region_keeps pages r) (λ next. each region_keeps next rs) state e in
+    let kept = region_kept pages r first.0 first.1 in
+    let others = regions_kept rs first.0 state kept.within first.2 in
     record {
-      few = omega arith;
-      pages = omega (arith, page_count r []);
-      bytes = omega arith;
-      each = (record { some = omega arith; few = few; whole = eights }, tt);
+      within = others.within;
+      state_is = omega (arith, others.state_is, kept.state_is, page_count r rs);
+      bytes = omega (arith, others.bytes, page_count r rs);
+      sizes = (kept.size, others.sizes);
     }
 
-data_of : (rs : List Region) → is_data rs ≡ true → AreData rs
-data_of [] e = record { few = omega arith; pages = omega arith; bytes = omega arith; each = tt }
-data_of (r ∷ []) e = one_is_data r e
-data_of (r ∷ s ∷ rest) e = absurd cc
+one_is_few : (rs : List Region) → is_one_region rs ≡ true → length rs ≤ 8
+one_is_few [] e = omega arith
+one_is_few (r ∷ []) e = omega arith
+one_is_few (r ∷ s ∷ rest) e = absurd cc
+
+are_few : (one : Bool) (rs : List Region) → (if one then is_one_region rs else leb (length rs) 8) ≡ true → length rs ≤ 8
+are_few true rs e = one_is_few rs e
+are_few false rs e = leb-true _ _ e
 
 -- the data keep their limits
 pub data_within : (p : Parts) → parts_keep p ≡ Ok tt → AreData p.regions
-data_within p e = data_of p.regions (parts_kept p e).regions
+data_within p e =
+    let k = parts_kept p e in
+    let kept = regions_kept p.regions 0 k.last_pages (omega arith) k.lengths in
+    record {
+      few = are_few (p.version == 1) p.regions k.regions;
+      pages = omega (arith, kept.within, kept.state_is);
+      bytes = omega (arith, kept.within, kept.state_is, kept.bytes);
+      each = kept.sizes;
+    }
 
--- one version is known
-pub version_is : (p : Parts) → parts_keep p ≡ Ok tt → p.version ≡ 1
-version_is p e = eqb-true p.version 1 (parts_kept p e).version
+-- two versions are known
+pub version_within : (p : Parts) → parts_keep p ≡ Ok tt → (1 ≤ p.version) × (p.version ≤ 2)
+version_within p e = is_between 1 2 p.version (parts_kept p e).version
 
 -- 1 to 16 pages of stack
 pub stack_within : (p : Parts) → parts_keep p ≡ Ok tt → (1 ≤ p.stack_pages) × (p.stack_pages ≤ 16)

@@ -2,12 +2,13 @@
 ghost use Rattle.std.specs.Prelude.{◌≡◌, ◌≤◌, ◌+◌, ◌-◌, true, false, MatchResult, IfOk};
 ghost use Rattle.sbx_parts.specs.declared.order.Next.TheVariants.{Exactly};
 ghost use Rattle.sbx_parts.specs.declared.fault.ImageFault.TheVariants as fault;
-ghost use Rattle.sbx_parts.specs.Rules.{wants, between, range_keeps, location_keeps, cell_keeps, term_keeps, block_keeps, function_keeps, parts_keep, is_data, is_known, is_version, each, code_start};
+ghost use Rattle.sbx_parts.specs.Rules.{wants, between, range_keeps, location_keeps, cell_keeps, term_keeps, block_keeps, function_keeps, parts_keep, is_data, is_one_region, region_keeps, is_known, is_version, each, code_start};
 
 use crate::fault::ImageFault;
 use crate::lists::{Checked, check_each};
 use crate::order::{Next, admits, is_coefficient, is_fuel};
 use crate::parts::{Block, Cell, Function, Parts, Range, Region, Term};
+use crate::regions::{is_length_behind, pages_for};
 use crate::services::Services;
 use v8_map::CODE_START;
 
@@ -30,16 +31,16 @@ fn is_known(services: Services) -> bool
     services.0 & 7 == services.0
 }
 
-/// Whether the version is one that is known.
+/// Whether the version is one that is known: 1 or 2.
 fn is_version(version: u16) -> bool
     ensures { result ≡ is_version version }
 {
-    version == 1
+    between(1, 2, version as u64)
 }
 
 /// Whether regions are data of version 1: none, or one that has whole double words, up to 262,144 bytes, and may be written.
-fn is_data(regions: &[Region]) -> bool
-    ensures { result ≡ is_data regions.now }
+fn is_one_region(regions: &[Region]) -> bool
+    ensures { result ≡ is_one_region regions.now }
 {
     match regions {
         [] => true,
@@ -48,6 +49,17 @@ fn is_data(regions: &[Region]) -> bool
             only.writable && (0 < count && (count <= 262144 && count % 8 == 0))
         }
         _ => false,
+    }
+}
+
+/// Whether a version may have the regions, where they are counted: version 2 has up to 8.
+fn is_data(version: u16, regions: &[Region]) -> bool
+    ensures { result ≡ is_data version regions.now }
+{
+    if version == 1 {
+        is_one_region(regions)
+    } else {
+        regions.len() <= 8
     }
 }
 
@@ -68,6 +80,19 @@ fn check_count(before: u16, count: usize) -> Result<u16, ImageFault>
         Ok(count as u16)
     } else {
         Err(ImageFault::Limit)
+    }
+}
+
+impl Checked for Region {
+    type State = u16;
+
+    ghost keeps = { λ _. region_keeps };
+
+    #[tactic(auto, unfolding(crate::specs::Rules::region_keeps))]
+    fn check(&self, _end: u32, pages: u16) -> Result<u16, ImageFault> {
+        let count = self.bytes.len();
+        wants(is_length_behind(pages, count), ImageFault::Limit)?;
+        Ok(pages + pages_for(count) as u16)
     }
 }
 
@@ -171,13 +196,16 @@ impl Parts {
         wants(is_version(self.version), ImageFault::Version)?;
         wants(is_known(self.services), ImageFault::Service)?;
         wants(between(1, 65536, count as u64), ImageFault::Limit)?;
-        wants(is_data(self.regions.as_slice()), ImageFault::Limit)?;
+        let regions = self.regions.as_slice();
+        wants(is_data(self.version, regions), ImageFault::Limit)?;
         wants(between(1, 16, self.stack_pages as u64), ImageFault::Limit)?;
         wants(
             between(1, 256, self.functions.len() as u64),
             ImageFault::Limit,
         )?;
-        check_functions(CODE_START + 4 * count as u32, self.functions.as_slice())?;
+        let end = CODE_START + 4 * count as u32;
+        check_each(end, 0, regions)?;
+        check_functions(end, self.functions.as_slice())?;
         Ok(())
     }
 }

@@ -80,12 +80,12 @@ pub struct Region {
 /// The fields of an image, whatever they hold.
 #[derive(Debug, Drop)]
 pub struct Parts {
-    /// The format's version, 1 in an image.
+    /// The format's version, 1 or 2 in an image.
     pub version: u16,
     pub services: Services,
     /// The code, 1 to 65,536 words.
     pub words: Items<u32>,
-    /// The data, from the start of the data's addresses on. Version 1 has no region, or one that is writable.
+    /// The data, from the start of the data's addresses on. Version 1 has no region, or one that is writable; version 2 up to 8.
     pub regions: Items<Region>,
     /// Pages of stack, 1 to 16.
     pub stack_pages: u16,

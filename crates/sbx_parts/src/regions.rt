@@ -1,15 +1,24 @@
 //! Where the regions of data lie, and what they hold.
 ghost use Rattle.std.specs.Prelude.{◌≡◌, ◌≤◌, length};
 ghost use Rattle.sbx_parts.specs.Regions.{behind, byte_count, holds, page_rights, pages_for, region_holds};
+ghost use Rattle.sbx_parts.specs.Rules.{is_length_behind};
 
 use crate::parts::Region;
 use v8_map::{DATA_START, PAGE};
 
 /// How many pages so many bytes take.
-fn pages_for(count: usize) -> usize
+pub fn pages_for(count: usize) -> usize
     ensures { result ≡ pages_for count }
 {
     count / 4096 + usize::from(count % 4096 > 0)
+}
+
+/// Whether a region may have so many bytes, behind regions of so many pages: 1 or more, up to 262,144, whole double words, on 64
+/// pages in all.
+pub fn is_length_behind(pages: u16, count: usize) -> bool
+    ensures { result ≡ is_length_behind pages count }
+{
+    0 < count && (count <= 262144 && count % 8 == 0 && usize::from(pages) + pages_for(count) <= 64)
 }
 
 /// The address of the page behind the last one of a region that begins at `start`, where the next one begins.
