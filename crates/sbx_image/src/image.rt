@@ -1,7 +1,7 @@
 //! Parts that keep every limit and order of the format.
 ghost use Rattle.std.specs.Prelude.{◌≡◌, ◌≤◌, length, All, Ok, Err, IfOk, IfErr};
 ghost use Rattle.sbx_image.specs.Spelling.{IsCountedFunction, IsTyped};
-ghost use Rattle.sbx_parts.specs.Regions.{byte_count, holds, page_rights};
+ghost use Rattle.sbx_parts.specs.Regions.{IsSized, byte_count, holds, page_rights};
 ghost use Rattle.sbx_parts.specs.Rules.{parts_keep};
 
 use sbx_parts::{Function, ImageFault, Parts, Region, Services, byte_count, holds};
@@ -48,10 +48,12 @@ impl Image {
         }
     }
 
-    /// The version of the format, 1.
+    /// The version of the format, 1 or 2.
+    #[tactic(auto, using(sbx_parts::proofs::Limits::version_within))]
     pub fn version(&self) -> u16
         ensures value { result ≡ self.now.version }
-        ensures known { result ≡ 1 }
+        ensures some { 1 ≤ result }
+        ensures few { result ≤ 2 }
     {
         self.parts.version
     }
@@ -102,6 +104,7 @@ impl Image {
         ensures value { result.now ≡ self.now.regions }
         ensures few { length self.now.regions ≤ 8 }
         ensures pages { length (page_rights self.now.regions) ≤ 64 }
+        ensures sizes { All IsSized self.now.regions }
     {
         self.parts.regions.as_slice()
     }

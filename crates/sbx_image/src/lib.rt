@@ -1,4 +1,4 @@
-//! The image format: a program with its annotations as bytes, version 1.
+//! The image format: a program with its annotations as bytes, versions 1 and 2.
 #![tactic(auto)]
 
 mod heads;
@@ -8,9 +8,9 @@ mod numbers;
 mod reading;
 mod writing;
 
-pub use heads::{FunctionHead, Header};
+pub use heads::{FunctionHead, Header, Shape};
 pub use image::Image;
-pub use reading::{block_of, function_head_of, header_of, parse, ranges_of};
+pub use reading::{block_of, function_head_of, header_of, parse, ranges_of, shapes_of};
 pub use sbx_parts::{
     Block, Cell, Function, ImageFault, Items, Kind, Next, Parts, Range, Region, Services, Term,
     behind,

@@ -3,15 +3,15 @@ ghost use Rattle.std.specs.Prelude.{◌≡◌, ℕ, ◌+◌, ◌≤◌, List, If
 ghost use Rattle.std.specs.Int.{w8, w16, w32, w64};
 ghost use Rattle.sbx_parts.specs.declared.order.Next.{Next};
 ghost use Rattle.sbx_parts.specs.Rules.{Place};
-ghost use Rattle.sbx_image.specs.Reading.{Gives, number_at, bytes_at, items_at, range_at, location_at, cell_at, term_at, block_head_at, block_at, kind_at, counts_at, bounds_at, function_head_at, function_at, services_at, data_length_at, header_at, regions_of, parts_at, reading};
+ghost use Rattle.sbx_image.specs.Reading.{Gives, number_at, bytes_at, items_at, range_at, location_at, cell_at, term_at, block_head_at, block_at, kind_at, counts_at, bounds_at, function_head_at, function_at, services_at, data_length_at, data_count_at, header_at, shape_at, shape_of, shapes_at, regions_at, parts_at, reading};
 ghost use Rattle.sbx_image.specs.Spelling.{spelling};
 
-use crate::heads::{BlockHead, Bounds, Counts, FunctionHead, Header};
+use crate::heads::{BlockHead, Bounds, Counts, FunctionHead, Header, Shape};
 use crate::image::Image;
 use crate::numbers::{i32_at, i64_at, u8_in, u16_at, u16_in, u32_at, u32_in, u64_in};
 use sbx_parts::{
     Block, Cell, Function, ImageFault, Items, Kind, Next, Parts, Range, Region, Services, Term,
-    admits, is_coefficient, is_fuel, services_of,
+    admits, is_coefficient, is_fuel, is_length_behind, pages_for, services_of,
 };
 use std::alloc::{AllocError, Global};
 use v8_map::CODE_START;
@@ -381,7 +381,7 @@ fn services_in(bytes: &[u8]) -> Result<((u16, Services), &[u8]), ImageFault>
 {
     let (_, rest) = u32_in(bytes, 0x5342_5838, 0x5342_5838, ImageFault::Magic)?;
     let (version, rest) = u16_at(rest)?;
-    if version != 1 {
+    if version != 1 && version != 2 {
         return Err(ImageFault::Version);
     }
     let (bits, rest) = u16_at(rest)?;
@@ -402,7 +402,19 @@ fn data_length_of(bytes: &[u8]) -> Result<(u32, &[u8]), ImageFault>
     Ok((data_bytes, rest))
 }
 
-/// What stands before the words: the services, behind magic and version, and the counts.
+/// How many bytes of data version 1 has, or how many regions version 2 has.
+#[tactic(auto, unfolding(crate::specs::Reading::data_count_at))]
+fn data_count_of(version: u16, bytes: &[u8]) -> Result<(u32, &[u8]), ImageFault>
+    ensures { Gives (λ x. (x.0, x.1.now)) result (data_count_at version bytes.now) }
+{
+    if version == 1 {
+        return data_length_of(bytes);
+    }
+    let (count, rest) = u16_in(bytes, 0, 8, ImageFault::Limit)?;
+    Ok((count as u32, rest))
+}
+
+/// What stands before the regions' lengths and the words: the services, behind magic and version, and the counts.
 #[tactic(auto, unfolding(crate::specs::Reading::header_at))]
 pub fn header_of(bytes: &[u8]) -> Result<(Header, &[u8]), ImageFault>
     ensures reads { Gives (λ x. (x.0, x.1.now)) result (header_at bytes.now) }
@@ -410,32 +422,90 @@ pub fn header_of(bytes: &[u8]) -> Result<(Header, &[u8]), ImageFault>
 {
     let ((version, services), rest) = services_in(bytes)?;
     let (words, rest) = u32_in(rest, 1, 65536, ImageFault::Limit)?;
-    let (data_bytes, rest) = data_length_of(rest)?;
+    let (data, rest) = data_count_of(version, rest)?;
     let (stack_pages, rest) = u16_in(rest, 1, 16, ImageFault::Limit)?;
     let (functions, rest) = u16_in(rest, 1, 256, ImageFault::Limit)?;
     let header = Header {
         version,
         services,
         words,
-        bytes: data_bytes,
+        data,
         stack_pages,
         functions,
     };
     Ok((header, rest))
 }
 
-/// The data of version 1: one region that may be written, or none where there are no bytes.
-fn regions_of(alloc: Global, bytes: Vec<u8>) -> Result<Vec<Region>, AllocError>
-    ensures { IfOk result (λ v. v.items ≡ regions_of bytes.items) }
+impl Readable for Shape {
+    type State = u16;
+
+    ghost Cursor = { ℕ × List ℕ };
+
+    ghost at = { λ pages bytes. (pages, bytes) };
+
+    ghost item_at = { λ _. shape_at };
+
+    #[tactic(auto, unfolding(crate::specs::Reading::shape_at))]
+    fn read(
+        _alloc: Global,
+        _end: u32,
+        pages: u16,
+        bytes: &[u8],
+    ) -> Result<(Shape, (u16, &[u8])), ImageFault> {
+        let (count, rest) = u32_at(bytes)?;
+        if !is_length_behind(pages, count as usize) {
+            return Err(ImageFault::Limit);
+        }
+        let (kind, rest) = u16_in(rest, 0, 1, ImageFault::Limit)?;
+        let shape = Shape {
+            bytes: count,
+            writable: kind == 1,
+        };
+        Ok((shape, (pages + pages_for(count as usize) as u16, rest)))
+    }
+}
+
+/// The one region of version 1, which may be written, or none where there are no bytes.
+fn shape_of(alloc: Global, count: u32) -> Result<Vec<Shape>, AllocError>
+    ensures { IfOk result (λ v. v.items ≡ shape_of count) }
 {
-    let mut regions = Vec::new(alloc);
-    if !bytes.is_empty() {
-        regions.push(Region {
-            bytes: Items::new(bytes),
+    let mut shapes = Vec::new(alloc);
+    if count > 0 {
+        shapes.push(Shape {
+            bytes: count,
             writable: true,
         })?;
     }
-    Ok(regions)
+    Ok(shapes)
+}
+
+/// The regions' lengths and kinds, which version 2 has behind its header.
+#[tactic(auto, unfolding(crate::specs::Reading::shapes_at))]
+pub fn shapes_of(alloc: Global, header: Header, bytes: &[u8]) -> Result<(Vec<Shape>, &[u8]), ImageFault>
+    ensures { Gives (λ x. (x.0.items, x.1.now)) result (shapes_at header bytes.now) }
+{
+    if header.version == 1 {
+        return Ok((shape_of(alloc, header.data)?, bytes));
+    }
+    let (shapes, (_, rest)) = items_of(alloc, 0, header.data, 0, bytes)?;
+    Ok((shapes, rest))
+}
+
+/// The bytes of each region.
+fn regions_of<'a>(alloc: Global, shapes: &[Shape], bytes: &'a [u8]) -> Result<(Vec<Region>, &'a [u8]), ImageFault>
+    ensures { Gives (λ x. (x.0.items, x.1.now)) result (regions_at shapes.now bytes.now) }
+{
+    let mut regions = Vec::with_capacity(alloc, shapes.len())?;
+    let mut rest = bytes;
+    for shape in shapes {
+        let (own, after) = bytes_of(alloc, shape.bytes, rest)?;
+        regions.push(Region {
+            bytes: Items::new(own),
+            writable: shape.writable,
+        })?;
+        rest = after;
+    }
+    Ok((regions, rest))
 }
 
 #[tactic(auto, unfolding(crate::specs::Reading::parts_at))]
@@ -443,11 +513,11 @@ fn parts_of(alloc: Global, bytes: &[u8]) -> Result<(Parts, &[u8]), ImageFault>
     ensures { Gives (λ x. (x.0, x.1.now)) result (parts_at bytes.now) }
 {
     let (header, rest) = header_of(bytes)?;
+    let (shapes, rest) = shapes_of(alloc, header, rest)?;
     let end = CODE_START + 4 * header.words;
     let first = (Next::Exactly(CODE_START), 0);
     let (words, ((), rest)) = items_of(alloc, end, header.words, (), rest)?;
-    let (data_bytes, rest) = bytes_of(alloc, header.bytes, rest)?;
-    let regions = regions_of(alloc, data_bytes)?;
+    let (regions, rest) = regions_of(alloc, shapes.as_slice(), rest)?;
     let (functions, (_, rest)) = items_of(alloc, end, header.functions as u32, first, rest)?;
     let parts = Parts {
         version: header.version,

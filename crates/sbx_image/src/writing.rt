@@ -1,8 +1,8 @@
 //! The one spelling of an image.
-ghost use Rattle.std.specs.Prelude.{◌≡◌, ◌<◌, ◌^◌, ◌++◌, OnOk, IfOk, All};
+ghost use Rattle.std.specs.Prelude.{◌≡◌, ◌<◌, ◌≤◌, ◌^◌, ◌++◌, length, OnOk, IfOk, All};
 ghost use Rattle.std.specs.Int.{w8, w16, w32, w64, to_be_bytes};
 ghost use Rattle.std.specs.List.{flat_map};
-ghost use Rattle.sbx_image.specs.Spelling.{kind_code, signed, IsCountedBlock, IsCountedFunction, block_text, cell_text, function_head_text, function_text, header_text, range_text, region_text, spelling, term_text};
+ghost use Rattle.sbx_image.specs.Spelling.{kind_code, signed, IsCountedBlock, IsCountedFunction, block_text, cell_text, function_head_text, function_text, header_text, range_text, region_text, data_count_text, shape_text, shapes_text, spelling, term_text};
 
 use crate::image::Image;
 use sbx_parts::{Block, Cell, Function, Kind, Range, Region, Term};
@@ -176,6 +176,42 @@ impl Writable for Function {
     }
 }
 
+/// How many bytes of data version 1 has, or how many regions version 2 has.
+#[tactic(auto, unfolding(crate::specs::Spelling::data_count_text))]
+fn put_data_count(out: &mut Vec<u8>, image: &Image) -> Result<(), AllocError>
+    ensures { OnOk result (out.new.items ≡ out.old.items ++ data_count_text image.now) }
+{
+    if image.version() == 1 {
+        put_u32(out, image.byte_count())
+    } else {
+        put_u16(out, image.regions().len() as u16)
+    }
+}
+
+/// A region's length, and whether it may be written.
+#[tactic(auto, unfolding(crate::specs::Spelling::shape_text))]
+fn put_shape(out: &mut Vec<u8>, region: &Region) -> Result<(), AllocError>
+    requires { length region.now.bytes ≤ 262144 }
+    ensures { OnOk result (out.new.items ≡ out.old.items ++ shape_text region.now) }
+{
+    put_u32(out, region.bytes.len() as u32)?;
+    put_u16(out, u16::from(region.writable))
+}
+
+/// Length and kind of each region; version 1 tells none.
+#[tactic(auto, unfolding(crate::specs::Spelling::shapes_text))]
+fn put_shapes(out: &mut Vec<u8>, image: &Image) -> Result<(), AllocError>
+    ensures { OnOk result (out.new.items ≡ out.old.items ++ shapes_text image.now) }
+{
+    if image.version() == 1 {
+        return Ok(());
+    }
+    for region in image.regions() {
+        put_shape(out, region)?;
+    }
+    Ok(())
+}
+
 #[tactic(auto, unfolding(crate::specs::Spelling::header_text))]
 fn put_header(out: &mut Vec<u8>, image: &Image) -> Result<(), AllocError>
     ensures { OnOk result (out.new.items ≡ out.old.items ++ header_text image.now) }
@@ -184,7 +220,7 @@ fn put_header(out: &mut Vec<u8>, image: &Image) -> Result<(), AllocError>
     put_u16(out, image.version())?;
     put_u16(out, image.services().0)?;
     put_u32(out, image.word_count())?;
-    put_u32(out, image.byte_count())?;
+    put_data_count(out, image)?;
     put_u16(out, image.stack_pages())?;
     put_u16(out, image.function_count())
 }
@@ -196,6 +232,7 @@ pub fn write(image: &Image, alloc: Global) -> Result<Vec<u8>, AllocError>
 {
     let mut out = Vec::new(alloc);
     put_header(&mut out, image)?;
+    put_shapes(&mut out, image)?;
     put_each(&mut out, image.words())?;
     put_each(&mut out, image.regions())?;
     put_each(&mut out, image.functions())?;
