@@ -49,7 +49,6 @@ impl Image {
     }
 
     /// The version of the format, 1 or 2.
-    #[tactic(auto, using(sbx_parts::proofs::Limits::version_within))]
     pub fn version(&self) -> u16
         ensures value { result ≡ self.now.version }
         ensures some { 1 ≤ result }

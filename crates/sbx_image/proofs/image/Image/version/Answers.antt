@@ -1,5 +1,8 @@
-use Rattle.sbx_parts.proofs.Limits.{version_is}
+use Rattle.sbx_parts.proofs.Limits.{version_within}
 use Rattle.sbx_image.proofs.image.Image.version.Goals as goal
 
-pub returns-clause-known : goal.returns-clause-known
-returns-clause-known c = version_is c.self.inside.parts c.self.invariant
+pub returns-clause-some : goal.returns-clause-some
+returns-clause-some c = (version_within c.self.inside.parts c.self.invariant).0
+
+pub returns-clause-few : goal.returns-clause-few
+returns-clause-few c = (version_within c.self.inside.parts c.self.invariant).1
