@@ -495,7 +495,7 @@ fn reads_the_data(rt: HostRuntime) {
 /// The version, services, the bytes of each region and whether it may be written, and the fault.
 type Data = (u16, u16, &'static [(usize, bool)], Option<ImageFault>);
 
-const DATA: [Data; 16] = [
+const DATA: [Data; 27] = [
     (1, 0, &[], None),
     (1, 0, &[(8, true)], None),
     (1, 0, &[(262_136, true)], None),
@@ -508,10 +508,21 @@ const DATA: [Data; 16] = [
     (1, 0, &[(8, true), (8, true)], Some(ImageFault::Limit)),
     (1, 0, &[(8, false), (8, true)], Some(ImageFault::Limit)),
     (0, 0, &[], Some(ImageFault::Version)),
-    (2, 0, &[], Some(ImageFault::Version)),
-    (2, 0, &[(8, false), (8, true)], Some(ImageFault::Version)),
+    (3, 0, &[], Some(ImageFault::Version)),
+    (3, 0, &[(8, false), (8, true)], Some(ImageFault::Version)),
+    (2, 0, &[], None),
+    (2, 0, &[(8, false), (8, true)], None),
+    (2, 0, &[(262_144, false)], None),
+    (2, 0, &[(131_072, true), (131_072, false)], None),
+    (2, 0, &[(8, true), (8, true), (8, true), (8, true), (8, false), (8, false), (8, false), (8, false)], None),
+    (2, 0, &[(8, true), (8, true), (8, true), (8, true), (8, true), (8, true), (8, true), (8, true), (8, true)], Some(ImageFault::Limit)),
+    (2, 0, &[(0, false)], Some(ImageFault::Limit)),
+    (2, 0, &[(8, false), (4, true)], Some(ImageFault::Limit)),
+    (2, 0, &[(12, true)], Some(ImageFault::Limit)),
+    (2, 0, &[(262_152, true)], Some(ImageFault::Limit)),
+    (2, 0, &[(262_144, true), (8, true)], Some(ImageFault::Limit)), // 65 pages
     (65535, 0, &[(8, true)], Some(ImageFault::Version)),
-    (2, 8, &[(4, true)], Some(ImageFault::Version)), // the version stands before the services
+    (3, 8, &[(4, true)], Some(ImageFault::Version)), // the version stands before the services
 ];
 
 /// Regions of zeros.
@@ -578,4 +589,48 @@ fn parts_of_data(rt: HostRuntime) {
     for row in DATA {
         assert!(rt; are_data_told(rt.alloc(), row), "at {row:?}");
     }
+}
+
+/// Two regions of 8 bytes, of which the first may be read alone.
+const REGIONS: [u8; 116] = [
+    0x53, 0x42, 0x58, 0x38, 0, 2, 0, 5, 0, 0, 0, 7, 0, 2, 0, 1, 0, 1, // header
+    0, 0, 0, 8, 0, 0, 0, 0, 0, 8, 0, 1, // lengths and kinds
+    0x03, 0x00, 0x02, 0x00, 0xD0, 0x08, 0x40, 0x00, 0x91, 0xD0, 0x20, 0x02, // words
+    0x05, 0x00, 0x02, 0x04, 0xD0, 0x28, 0xA0, 0x07, 0x90, 0x10, 0x20, 0x00, //
+    0x91, 0xD0, 0x20, 0x00, //
+    72, 105, 0, 0, 0, 0, 0, 0, 0, 0, 0, 0, 0, 0, 0, 0, // the regions' bytes
+    0, 0, 0, 0, 0, 4, 0, 0, 0, 0, 0, 0, 0, 0, 0, 0, 0, 0, 0, 0, 0, 0, 0, 13, 0, 1, // a function
+    0, 4, 0, 0, 0, 0, 0, 0, 0, 0, 0, 0, 0, 0, 0, 13, // its block
+];
+
+const OF_REGIONS: [Change; 12] = [
+    (4, &[0, 2], None),
+    (4, &[0, 0], Some(ImageFault::Version)),
+    (4, &[0, 3], Some(ImageFault::Version)),
+    (12, &[0, 9], Some(ImageFault::Limit)),
+    (18, &[0, 0, 0, 4], Some(ImageFault::Limit)),
+    (18, &[0, 0, 0, 0], Some(ImageFault::Limit)),
+    (18, &[0, 4, 0, 8], Some(ImageFault::Limit)),
+    (18, &[0, 4, 0, 0], Some(ImageFault::Limit)), // the second region passes 64 pages
+    (22, &[0, 1], None),
+    (22, &[0, 2], Some(ImageFault::Limit)),
+    (28, &[0, 2], Some(ImageFault::Limit)),
+    (28, &[0, 0], None),
+];
+
+/// `REGIONS` with the bytes from a place on replaced.
+fn with_regions(place: usize, change: &[u8]) -> [u8; 116] {
+    let mut bytes = REGIONS;
+    for (old, new) in bytes.iter_mut().skip(place).zip(change) {
+        *old = *new;
+    }
+    bytes
+}
+
+#[test]
+fn regions_are_read(rt: HostRuntime) {
+    for (place, change, wanted) in OF_REGIONS {
+        assert!(rt; is_told(rt.alloc(), &with_regions(place, change), wanted), "at {place}");
+    }
+    assert!(rt; is_written_back(rt.alloc(), &REGIONS));
 }
