@@ -191,6 +191,11 @@ shapes_at header bytes =
     if header.version == 1 then Ok (shape_of header.data, bytes)
     else (items_at shape_at header.data (0, bytes) >>= λ shapes. Ok (shapes.0, shapes.1.1))
 
+-- how many bytes all regions have
+abbrev pub shape_bytes : List Shape → ℕ
+shape_bytes [] = 0
+shape_bytes (shape ∷ shapes) = shape.bytes + shape_bytes shapes
+
 -- the bytes of each region
 unfoldable pub regions_at : List Shape → List ℕ → Result (List Region × List ℕ) ImageFault
 regions_at [] bytes = Ok ([], bytes)

@@ -3,7 +3,7 @@ ghost use Rattle.std.specs.Prelude.{◌≡◌, ℕ, ◌+◌, ◌≤◌, List, If
 ghost use Rattle.std.specs.Int.{w8, w16, w32, w64};
 ghost use Rattle.sbx_parts.specs.declared.order.Next.{Next};
 ghost use Rattle.sbx_parts.specs.Rules.{Place};
-ghost use Rattle.sbx_image.specs.Reading.{Gives, number_at, bytes_at, items_at, range_at, location_at, cell_at, term_at, block_head_at, block_at, kind_at, counts_at, bounds_at, function_head_at, function_at, services_at, data_length_at, data_count_at, header_at, shape_at, shape_of, shapes_at, regions_at, parts_at, reading};
+ghost use Rattle.sbx_image.specs.Reading.{Gives, number_at, bytes_at, items_at, range_at, location_at, cell_at, term_at, block_head_at, block_at, kind_at, counts_at, bounds_at, function_head_at, function_at, services_at, data_length_at, data_count_at, header_at, shape_at, shape_of, shapes_at, shape_bytes, regions_at, parts_at, reading};
 ghost use Rattle.sbx_image.specs.Spelling.{spelling};
 
 use crate::heads::{BlockHead, Bounds, Counts, FunctionHead, Header, Shape};
@@ -418,7 +418,7 @@ fn data_count_of(version: u16, bytes: &[u8]) -> Result<(u32, &[u8]), ImageFault>
 #[tactic(auto, unfolding(crate::specs::Reading::header_at))]
 pub fn header_of(bytes: &[u8]) -> Result<(Header, &[u8]), ImageFault>
     ensures reads { Gives (λ x. (x.0, x.1.now)) result (header_at bytes.now) }
-    ensures bound { IfOk result (λ x. x.0.words ≤ 65536) }
+    ensures bound { IfOk result (λ x. (x.0.words ≤ 65536) × (x.0.data ≤ 262144)) }
 {
     let ((version, services), rest) = services_in(bytes)?;
     let (words, rest) = u32_in(rest, 1, 65536, ImageFault::Limit)?;
@@ -482,13 +482,26 @@ fn shape_of(alloc: Global, count: u32) -> Result<Vec<Shape>, AllocError>
 /// The regions' lengths and kinds, which version 2 has behind its header.
 #[tactic(auto, unfolding(crate::specs::Reading::shapes_at))]
 pub fn shapes_of(alloc: Global, header: Header, bytes: &[u8]) -> Result<(Vec<Shape>, &[u8]), ImageFault>
-    ensures { Gives (λ x. (x.0.items, x.1.now)) result (shapes_at header bytes.now) }
+    ensures reads { Gives (λ x. (x.0.items, x.1.now)) result (shapes_at header bytes.now) }
+    ensures bound { IfOk result (λ x. header.data ≤ 262144 → shape_bytes x.0.items ≤ 262144) }
 {
     if header.version == 1 {
         return Ok((shape_of(alloc, header.data)?, bytes));
     }
     let (shapes, (_, rest)) = items_of(alloc, 0, header.data, 0, bytes)?;
     Ok((shapes, rest))
+}
+
+/// How many bytes all regions have.
+pub fn shape_bytes(shapes: &[Shape]) -> u32
+    requires { shape_bytes shapes.now ≤ 262144 }
+    ensures { result ≡ shape_bytes shapes.now }
+{
+    let mut count = 0;
+    for shape in shapes {
+        count += shape.bytes;
+    }
+    count
 }
 
 /// The bytes of each region.

@@ -139,7 +139,7 @@ type Change = (usize, &'static [u8], Option<ImageFault>);
 /// Changes of the header.
 const OF_HEADER: [Change; 18] = [
     (0, &[82], Some(ImageFault::Magic)),
-    (4, &[0, 2], Some(ImageFault::Version)),
+    (4, &[0, 3], Some(ImageFault::Version)),
     (4, &[0, 0], Some(ImageFault::Version)),
     (6, &[0, 8], Some(ImageFault::Service)),
     (6, &[0, 0], None),

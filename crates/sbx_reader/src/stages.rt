@@ -3,7 +3,7 @@ ghost use Rattle.std.specs.Prelude.{◌≡◌, ◌-◌, suc, length};
 ghost use Rattle.sbx_reader.specs.declared.stages.Stage.TheVariants.{Front, Functions, Blocks};
 ghost use Rattle.sbx_reader.specs.Stages.{IsWhole, IsItem};
 
-use sbx_image::{ImageFault, Next, block_of, function_head_of, header_of, ranges_of};
+use sbx_image::{ImageFault, Next, block_of, function_head_of, header_of, ranges_of, shape_bytes, shapes_of};
 use std::alloc::Global;
 use v8_map::CODE_START;
 
@@ -26,12 +26,13 @@ fn read_of(bytes: &[u8], rest: &[u8]) -> usize
     bytes.len().saturating_sub(rest.len())
 }
 
-/// Header, words and data. A word or a byte of data has no fault of its own, so both are skipped at once.
-fn front_item(bytes: &[u8]) -> Result<(Stage, usize), ImageFault>
+/// Header, the regions' lengths and kinds, words and data. A word or a byte of data has no fault of its own, so both are skipped at once.
+fn front_item(alloc: Global, bytes: &[u8]) -> Result<(Stage, usize), ImageFault>
     ensures { IsWhole Front bytes.now result }
 {
     let (header, rest) = header_of(bytes)?;
-    let count = 4 * header.words as usize + header.bytes as usize;
+    let (shapes, rest) = shapes_of(alloc, header, rest)?;
+    let count = 4 * header.words as usize + shape_bytes(shapes.as_slice()) as usize;
     if rest.len() < count {
         return Err(ImageFault::Short);
     }
@@ -63,7 +64,7 @@ fn whole_item(alloc: Global, stage: Stage, bytes: &[u8]) -> Result<(Stage, usize
     ensures { IsWhole stage bytes.now result }
 {
     match stage {
-        Stage::Front => front_item(bytes),
+        Stage::Front => front_item(alloc, bytes),
         Stage::Functions(end, left, next, total) => {
             function_or_end(alloc, end, left, (next, total), bytes)
         }

@@ -107,7 +107,7 @@ fn rows() -> [Row; 15] {
     [
         broken(0, 0, ImageFault::Magic, 3),
         broken(5, 0, ImageFault::Version, 5),
-        broken(5, 2, ImageFault::Version, 5),
+        broken(5, 3, ImageFault::Version, 5),
         broken(7, 8, ImageFault::Service, 7),
         broken(8, 1, ImageFault::Limit, 11),
         broken(15, 1, ImageFault::Limit, 15),
