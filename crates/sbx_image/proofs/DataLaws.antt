@@ -1,52 +1,45 @@
--- The data of version 1: its regions as bytes, and bytes as its regions.
-use Rattle.std.proofs.Common.{◌≡◌, ℕ, ◌+◌, true, ltb, ◌&&◌, List, [], ◌∷◌, ◌++◌, length, refl, sym, ap, ◌∙◌, arith}
+-- The one region of version 1: as a length and as bytes.
+use Rattle.std.proofs.Common.{◌≡◌, ℕ, zero, suc, ◌+◌, true, ltb, ◌&&◌, List, [], ◌∷◌, ◌++◌, length, Result, Ok, refl, sym, ap, ◌∙◌, arith}
 use Rattle.std.proofs.lemmas.Bool.{lt-ltb}
-use Rattle.std.proofs.lemmas.List.{append-nil, length-append}
-use Rattle.std.specs.List.{flat_map}
-use Rattle.std.proofs.lemmas.List.Concat.{flat_map-cons}
 use Rattle.sbx_parts.specs.declared.parts.Region.{Region}
+use Rattle.sbx_image.specs.declared.heads.Shape.{Shape}
 use Rattle.sbx_parts.specs.Regions.{byte_count}
-use Rattle.sbx_parts.specs.Rules.{is_data, is_data_length}
+use Rattle.sbx_parts.specs.Rules.{is_one_region, is_data_length}
 use Rattle.sbx_parts.proofs.Steps.{both_true}
-use Rattle.sbx_image.specs.Reading.{regions_of}
-use Rattle.sbx_image.specs.Spelling.{region_text}
+use Rattle.sbx_image.specs.Reading.{shape_of}
+use Rattle.sbx_image.proofs.RegionLaws.{shapes_of}
 
-pub read_bytes : (bytes : List ℕ) → flat_map region_text (regions_of bytes) ≡ bytes
-read_bytes [] = refl
-read_bytes (b ∷ bytes) = flat_map-cons region_text (record { bytes = b ∷ bytes; writable = true }) [] ∙ append-nil (b ∷ bytes)
+-- a length and a right of one region, taken apart
+lengths_are : (s t : Shape) (rest : List Shape) → s ∷ [] ≡ t ∷ rest → (s.bytes ≡ t.bytes) × (s.writable ≡ t.writable) × (rest ≡ [])
+lengths_are s t rest e = (cc, cc, cc)
 
-pub read_count : (bytes : List ℕ) → byte_count (regions_of bytes) ≡ length bytes
-read_count [] = refl
-read_count (b ∷ bytes) = (omega arith)
+-- what is read of version 1 is its one region, and its length is kept
+pub one_is_read : (n : ℕ) (rs : List Region) → shapes_of rs ≡ shape_of n → is_data_length n ≡ true → (is_one_region rs ≡ true) × (byte_count rs ≡ n)
+one_is_read zero [] e whole = (refl, refl)
+one_is_read zero (r ∷ rs) e whole = absurd cc
+one_is_read (suc n) [] e whole = absurd cc
+one_is_read (suc n) (r ∷ []) e whole =
+    let is : length r.bytes ≡ suc n = cc in
+    let may : r.writable ≡ true = cc in
+    (rw (may, is, lt-ltb 0 (suc n) (omega arith), whole) refl, omega (arith, is))
+one_is_read (suc n) (r ∷ s ∷ rest) e whole = absurd cc
 
-pub read_keeps : (bytes : List ℕ) → is_data_length (length bytes) ≡ true → is_data (regions_of bytes) ≡ true
-read_keeps [] e = refl
-read_keeps (b ∷ bytes) e = ap (λ t. t && is_data_length (length (b ∷ bytes))) some ∙ e
-  where
-    some : ltb 0 (length (b ∷ bytes)) ≡ true
-    some = lt-ltb _ _ (omega arith)
-
--- the regions of parts that keep the rules
-pub all_count : (rs : List Region) → length (flat_map region_text rs) ≡ byte_count rs
-all_count [] = refl
-all_count (r ∷ rs) = ap length (flat_map-cons region_text r rs) ∙ length-append r.bytes (flat_map region_text rs) ∙ ap (λ n. length r.bytes + n) (all_count rs)
-
-one_again : (r : Region) → is_data (r ∷ []) ≡ true → regions_of (r.bytes ++ []) ≡ r ∷ []
-one_again r e =
+-- what version 1 keeps is read again
+pub one_again : (rs : List Region) → is_one_region rs ≡ true → shape_of (byte_count rs) ≡ shapes_of rs
+one_again [] e = refl
+one_again (r ∷ []) e =
     let writable = both_true r.writable _ e in
     let some = both_true (ltb 0 (length r.bytes)) _ writable.1 in
-    ap regions_of (append-nil r.bytes) ∙ by r.bytes some.0 ∙ ap (λ w. record { bytes = r.bytes; writable = w } ∷ []) (sym writable.0)
+    ap shape_of (single (length r.bytes)) ∙ by (length r.bytes) some.0 ∙ ap (λ w. record { bytes = length r.bytes; writable = w } ∷ []) (sym writable.0)
   where
-    by : (bytes : List ℕ) → ltb 0 (length bytes) ≡ true → regions_of bytes ≡ record { bytes = bytes; writable = true } ∷ []
-    by [] h = absurd cc
-    by (b ∷ bytes) h = refl
+    single : (n : ℕ) → n + 0 ≡ n
+    single n = omega arith
+    by : (n : ℕ) → ltb 0 n ≡ true → shape_of n ≡ record { bytes = n; writable = true } ∷ []
+    by zero h = absurd cc
+    by (suc n) h = refl
+one_again (r ∷ s ∷ rest) e = absurd cc
 
-pub again : (rs : List Region) → is_data rs ≡ true → regions_of (flat_map region_text rs) ≡ rs
-again [] e = refl
-again (r ∷ []) e = ap regions_of (flat_map-cons region_text r []) ∙ one_again r e
-again (r ∷ s ∷ rest) e = absurd cc
-
-pub count_keeps : (rs : List Region) → is_data rs ≡ true → is_data_length (byte_count rs) ≡ true
+pub count_keeps : (rs : List Region) → is_one_region rs ≡ true → is_data_length (byte_count rs) ≡ true
 count_keeps [] e = refl
 count_keeps (r ∷ []) e =
     let writable = both_true r.writable _ e in

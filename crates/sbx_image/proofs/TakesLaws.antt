@@ -1,5 +1,6 @@
 -- What is read is spelled so, and keeps the rules: a law for each part of an image.
 use Rattle.std.proofs.Common.{◌≡◌, ℕ, zero, suc, ◌+◌, ◌-◌, ◌*◌, ◌^◌, ◌≤◌, true, cond, ltb, eqb, List, [], ◌∷◌, ◌++◌, length, Result, Ok, refl, sym, ap, subst, ◌∙◌, arith}
+use Rattle.std.specs.Prelude.{Bool, false, ◌==◌, if◌then◌else◌}
 use Rattle.std.specs.Int.{w8, w16, w32, w64, to_be_bytes}
 use Rattle.std.specs.List.{flat_map}
 use Rattle.std.proofs.lemmas.Bool.{eqb-true}
@@ -24,10 +25,11 @@ use Rattle.sbx_parts.specs.declared.parts.Function.{Function}
 use Rattle.sbx_parts.specs.declared.parts.Parts.{Parts}
 use Rattle.sbx_parts.specs.declared.services.Services.{Services}
 use Rattle.sbx_parts.specs.Rules.{between, each, Place, code_start, admits, is_fuel, is_coefficient, is_known, is_version, is_data, is_data_length, in_order, range_keeps, location_keeps, cell_keeps, term_keeps, block_keeps, function_keeps, parts_keep}
-use Rattle.sbx_image.specs.Reading.{number_at, items_at, range_at, location_at, cell_at, term_at, block_head_at, block_at, kind_at, counts_at, bounds_at, function_head_at, function_at, services_at, data_length_at, header_at, regions_of, parts_at, reading}
+use Rattle.sbx_image.specs.Reading.{number_at, number_in, items_at, range_at, location_at, cell_at, term_at, block_head_at, block_at, kind_at, counts_at, bounds_at, function_head_at, function_at, services_at, data_length_at, data_count_at, header_at, shapes_at, shape_of, regions_at, parts_at, reading}
 use Rattle.sbx_image.specs.Spelling.{IsBytes, signed, kind_code, range_text, region_text, cell_text, term_text, block_text, function_head_text, function_text, header_text, spelling}
 use Rattle.sbx_parts.specs.Regions.{byte_count}
-use Rattle.sbx_image.proofs.DataLaws.{read_bytes, read_count, read_keeps}
+use Rattle.sbx_image.proofs.DataLaws.{one_is_read}
+use Rattle.sbx_image.proofs.RegionLaws.{regions_keep, regions_take, shape_takes, shapes_of, shapes_spelled}
 use Rattle.sbx_image.proofs.Fields.{bind_ok, wanted, is_between, ok_is, Takes, Takes-then, wide8, wide16, wide32, wide64, signed32, signed64, number_takes, number_in_takes, signed_takes, bytes_take}
 
 range_keeps_by : (r : Range) → in_order r.lo r.hi ≡ true → between 0 3 r.alignment ≡ true → range_keeps r ≡ Ok tt
@@ -252,14 +254,21 @@ function_takes end place bytes x fits e =
 
 -- ---- the whole
 
+-- how many bytes of data version 1 has, or how many regions version 2 has
+abbrev pub data_text : Bool → ℕ → List ℕ
+data_text one n = if one then to_be_bytes w32 n else to_be_bytes w16 n
+
+abbrev pub data_keeps : Bool → ℕ → Bool
+data_keeps one n = if one then is_data_length n else between 0 8 n
+
 abbrev pub counts_text : Header → List ℕ
-counts_text h = to_be_bytes w32 0x53425838 ++ to_be_bytes w16 h.version ++ to_be_bytes w16 h.services.0 ++ to_be_bytes w32 h.words ++ to_be_bytes w32 h.bytes ++ to_be_bytes w16 h.stack_pages ++ to_be_bytes w16 h.functions
+counts_text h = to_be_bytes w32 0x53425838 ++ to_be_bytes w16 h.version ++ to_be_bytes w16 h.services.0 ++ to_be_bytes w32 h.words ++ data_text (h.version == 1) h.data ++ to_be_bytes w16 h.stack_pages ++ to_be_bytes w16 h.functions
 
 pub record HeaderKeeps (h : Header) : Type 0 where
   pub version : is_version h.version ≡ true
   pub services : is_known h.services.0 ≡ true
   pub words : between 1 65536 h.words ≡ true
-  pub bytes : is_data_length h.bytes ≡ true
+  pub data : data_keeps (h.version == 1) h.data ≡ true
   pub stack_pages : between 1 16 h.stack_pages ≡ true
   pub functions : between 1 256 h.functions ≡ true
 
@@ -292,8 +301,12 @@ data_length_takes bytes x fits e =
     let t = number_takes w32 (2 ^ 32) wide32 bytes data_bytes.0 fits data_bytes.1 in
     subst (λ (y : ℕ × List ℕ). Takes bytes (to_be_bytes w32 y.0) y.1 × (is_data_length y.0 ≡ true)) (ok_is data_bytes.0 x whole_slots.1) (t.0, whole_slots.0)
 
+data_count_takes : (one : Bool) (bytes : List ℕ) (x : ℕ × List ℕ) → IsBytes bytes → (if one then data_length_at bytes else number_in w16 0 8 fault.Limit bytes) ≡ Ok x → Takes bytes (data_text one x.0) x.1 × (data_keeps one x.0 ≡ true)
+data_count_takes true bytes x fits e = data_length_takes bytes x fits e
+data_count_takes false bytes x fits e = number_in_takes w16 (2 ^ 16) wide16 0 8 fault.Limit bytes x fits e
+
 pub header_takes : (bytes : List ℕ) (x : Header × List ℕ) → IsBytes bytes → header_at bytes ≡ Ok x → Takes bytes (counts_text x.0) x.1 × HeaderKeeps x.0
-unfolding header_at
+unfolding header_at data_count_at
 header_takes bytes x fits e =
     let services = bind_ok _ _ _ e in
     let words = bind_ok _ _ _ services.2 in
@@ -302,13 +315,13 @@ header_takes bytes x fits e =
     let functions = bind_ok _ _ _ stack_pages.2 in
     let t0 = services_take bytes services.0 fits services.1 in
     let t1 = number_in_takes w32 (2 ^ 32) wide32 1 65536 fault.Limit services.0.1 words.0 t0.0.rest_fits words.1 in
-    let t2 = data_length_takes words.0.1 data_bytes.0 t1.0.rest_fits data_bytes.1 in
+    let t2 = data_count_takes (services.0.0.0 == 1) words.0.1 data_bytes.0 t1.0.rest_fits data_bytes.1 in
     let t3 = number_in_takes w16 (2 ^ 16) wide16 1 16 fault.Limit data_bytes.0.1 stack_pages.0 t2.0.rest_fits stack_pages.1 in
     let t4 = number_in_takes w16 (2 ^ 16) wide16 1 256 fault.Limit stack_pages.0.1 functions.0 t3.0.rest_fits functions.1 in
     let whole = Takes-then _ _ _ _ _ (Takes-then _ _ _ _ _ (Takes-then _ _ _ _ _ (Takes-then _ _ _ _ _ t0.0 t1.0) t2.0) t3.0) t4.0 in
-    let made : Header × List ℕ = (record { version = services.0.0.0; services = services.0.0.1; words = words.0.0; bytes = data_bytes.0.0; stack_pages = stack_pages.0.0; functions = functions.0.0 }, functions.0.1) in
+    let made : Header × List ℕ = (record { version = services.0.0.0; services = services.0.0.1; words = words.0.0; data = data_bytes.0.0; stack_pages = stack_pages.0.0; functions = functions.0.0 }, functions.0.1) in
     subst (λ (y : Header × List ℕ). Takes bytes (counts_text y.0) y.1 × HeaderKeeps y.0) (ok_is made x functions.2)
-    (whole, record { version = t0.1; services = t0.2; words = t1.1; bytes = t2.1; stack_pages = t3.1; functions = t4.1 })
+    (whole, record { version = t0.1; services = t0.2; words = t1.1; data = t2.1; stack_pages = t3.1; functions = t4.1 })
 
 abbrev done_with : ℕ → Result (Unit {0}) ImageFault
 done_with _ = Ok tt
