@@ -1,6 +1,8 @@
 pub mod Loops
 pub mod Fields
 pub mod DataLaws
+pub mod RegionLaws
+pub mod VersionLaws
 pub mod TakesLaws
 pub mod Appends
 pub mod AgainLaws
