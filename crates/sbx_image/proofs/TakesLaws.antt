@@ -11,6 +11,7 @@ use Rattle.sbx_parts.specs.declared.fault.ImageFault.TheVariants as fault
 use Rattle.sbx_parts.specs.declared.order.Next.{Next}
 use Rattle.sbx_parts.specs.declared.order.Next.TheVariants.{Exactly, Above}
 use Rattle.sbx_image.specs.declared.heads.Header.{Header}
+use Rattle.sbx_image.specs.declared.heads.Shape.{Shape}
 use Rattle.sbx_image.specs.declared.heads.Counts.{Counts}
 use Rattle.sbx_image.specs.declared.heads.Bounds.{Bounds}
 use Rattle.sbx_image.specs.declared.heads.FunctionHead.{FunctionHead}
@@ -24,12 +25,12 @@ use Rattle.sbx_parts.specs.declared.parts.Block.{Block}
 use Rattle.sbx_parts.specs.declared.parts.Function.{Function}
 use Rattle.sbx_parts.specs.declared.parts.Parts.{Parts}
 use Rattle.sbx_parts.specs.declared.services.Services.{Services}
-use Rattle.sbx_parts.specs.Rules.{between, each, Place, code_start, admits, is_fuel, is_coefficient, is_known, is_version, is_data, is_data_length, in_order, range_keeps, location_keeps, cell_keeps, term_keeps, block_keeps, function_keeps, parts_keep}
-use Rattle.sbx_image.specs.Reading.{number_at, number_in, items_at, range_at, location_at, cell_at, term_at, block_head_at, block_at, kind_at, counts_at, bounds_at, function_head_at, function_at, services_at, data_length_at, data_count_at, header_at, shapes_at, shape_of, regions_at, parts_at, reading}
-use Rattle.sbx_image.specs.Spelling.{IsBytes, signed, kind_code, range_text, region_text, cell_text, term_text, block_text, function_head_text, function_text, header_text, spelling}
+use Rattle.sbx_parts.specs.Rules.{◌>>=◌, between, each, Place, code_start, admits, is_fuel, is_coefficient, is_known, is_version, is_data, is_data_length, in_order, range_keeps, location_keeps, cell_keeps, term_keeps, block_keeps, function_keeps, parts_keep}
+use Rattle.sbx_image.specs.Reading.{number_at, number_in, items_at, range_at, location_at, cell_at, term_at, block_head_at, block_at, kind_at, counts_at, bounds_at, function_head_at, function_at, services_at, data_length_at, data_count_at, header_at, shape_at, shapes_at, shape_of, parts_at, reading}
+use Rattle.sbx_image.specs.Spelling.{IsBytes, signed, kind_code, range_text, region_text, cell_text, term_text, block_text, function_head_text, function_text, data_count_text, shapes_text, header_text, spelling}
 use Rattle.sbx_parts.specs.Regions.{byte_count}
-use Rattle.sbx_image.proofs.DataLaws.{one_is_read}
-use Rattle.sbx_image.proofs.RegionLaws.{regions_keep, regions_take, shape_takes, shapes_of, shapes_spelled}
+use Rattle.sbx_image.proofs.RegionLaws.{regions_take, shape_code, shape_keeps, shape_takes}
+use Rattle.sbx_image.proofs.VersionLaws.{LengthsRead, regions_read}
 use Rattle.sbx_image.proofs.Fields.{bind_ok, wanted, is_between, ok_is, Takes, Takes-then, wide8, wide16, wide32, wide64, signed32, signed64, number_takes, number_in_takes, signed_takes, bytes_take}
 
 range_keeps_by : (r : Range) → in_order r.lo r.hi ≡ true → between 0 3 r.alignment ≡ true → range_keeps r ≡ Ok tt
@@ -329,29 +330,45 @@ done_with _ = Ok tt
 pub word_takes : (bytes : List ℕ) (x : ℕ × List ℕ) → IsBytes bytes → number_at w32 bytes ≡ Ok x → Takes bytes (to_be_bytes w32 x.0) x.1 × (done_with x.0 ≡ Ok tt)
 word_takes bytes x fits e = ((number_takes w32 (2 ^ 32) wide32 bytes x fits e).0, refl)
 
+abbrev shapes_code : Bool → List Shape → List ℕ
+shapes_code one shapes = if one then [] else flat_map shape_code shapes
+
+-- the regions' lengths and kinds, where the header says how many
+shapes_take : (one : Bool) (n : ℕ) (bytes : List ℕ) (x : List Shape × List ℕ) → IsBytes bytes
+    → (if one then Ok (shape_of n, bytes) else (items_at shape_at n (0, bytes) >>= λ shapes. Ok (shapes.0, shapes.1.1))) ≡ Ok x → Takes bytes (shapes_code one x.0) x.1 × LengthsRead one n x.0
+shapes_take true n bytes x fits e =
+    subst (λ (y : List Shape × List ℕ). Takes bytes [] y.1 × (y.0 ≡ shape_of n)) (ok_is (shape_of n, bytes) x e) (record { parts = refl; rest_fits = fits }, refl)
+shapes_take false n bytes x fits e =
+    let shapes = bind_ok _ _ _ e in
+    let t = items_take shape_at (λ y. y.1) (λ y. y.0) shape_keeps shape_code (λ y z g k. shape_takes y.0 y.1 z g k) n (0, bytes) shapes.0 fits shapes.1 in
+    subst (λ (y : List Shape × List ℕ). Takes bytes (flat_map shape_code y.0) y.1 × LengthsRead false n y.0) (ok_is (shapes.0.0, shapes.0.1.1) x shapes.2)
+    (t.0, t.1, shapes.0.1.0, t.2)
+
 parts_take : (bytes : List ℕ) (x : Parts × List ℕ) → IsBytes bytes → parts_at bytes ≡ Ok x → Takes bytes (spelling x.0) x.1 × (parts_keep x.0 ≡ Ok tt)
-unfolding parts_at header_text spelling parts_keep
+unfolding parts_at shapes_at data_count_text shapes_text header_text spelling parts_keep
 parts_take bytes x fits e =
     let header = bind_ok _ _ _ e in
-    let words = bind_ok _ _ _ header.2 in
-    let data_bytes = bind_ok _ _ _ words.2 in
-    let functions = bind_ok _ _ _ data_bytes.2 in
+    let shapes = bind_ok _ _ _ header.2 in
+    let words = bind_ok _ _ _ shapes.2 in
+    let regions = bind_ok _ _ _ words.2 in
+    let functions = bind_ok _ _ _ regions.2 in
     let end = code_start + 4 * header.0.0.words in
+    let one = header.0.0.version == 1 in
     let h = header_takes bytes header.0 fits header.1 in
-    let w = items_take (number_at w32) (λ y. y) (λ _. tt) (λ _ _. Ok tt) (to_be_bytes w32) (λ y z f k. word_takes y z f k) header.0.0.words header.0.1 words.0 h.0.rest_fits words.1 in
-    let d = bytes_take header.0.0.bytes words.0.1 data_bytes.0 w.0.rest_fits data_bytes.1 in
-    let f = items_take (function_at end) (λ y. y.1) (λ y. y.0) (function_keeps end) function_text (λ y z g k. function_takes end y.0 y.1 z g k) header.0.0.functions ((Exactly code_start, 0), data_bytes.0.1) functions.0 d.0.rest_fits functions.1 in
-    let lists = Takes-then _ _ _ _ _ (Takes-then _ _ _ _ _ (Takes-then _ _ _ _ _ h.0 w.0) d.0) f.0 in
-    let counted : Header = record { version = header.0.0.version; services = header.0.0.services; words = length words.0.0; bytes = byte_count (regions_of data_bytes.0.0); stack_pages = header.0.0.stack_pages; functions = length functions.0.0 } in
-    let count : byte_count (regions_of data_bytes.0.0) ≡ header.0.0.bytes = read_count data_bytes.0.0 ∙ d.1 in
-    let same : header.0.0 ≡ counted = rw (w.1, count, f.1) refl in
-    let whole = subst (λ (g : Header). Takes bytes (counts_text g ++ flat_map (to_be_bytes w32) words.0.0 ++ flat_map region_text (regions_of data_bytes.0.0) ++ flat_map function_text functions.0.0) functions.0.1.1) same (rw (read_bytes data_bytes.0.0) lists) in
+    let s = shapes_take one header.0.0.data header.0.1 shapes.0 h.0.rest_fits shapes.1 in
+    let w = items_take (number_at w32) (λ y. y) (λ _. tt) (λ _ _. Ok tt) (to_be_bytes w32) (λ y z f k. word_takes y z f k) header.0.0.words shapes.0.1 words.0 s.0.rest_fits words.1 in
+    let d = regions_take shapes.0.0 words.0.1 regions.0 w.0.rest_fits regions.1 in
+    let f = items_take (function_at end) (λ y. y.1) (λ y. y.0) (function_keeps end) function_text (λ y z g k. function_takes end y.0 y.1 z g k) header.0.0.functions ((Exactly code_start, 0), regions.0.1) functions.0 d.0.rest_fits functions.1 in
+    let lists = Takes-then _ _ _ _ _ (Takes-then _ _ _ _ _ (Takes-then _ _ _ _ _ (Takes-then _ _ _ _ _ h.0 s.0) w.0) d.0) f.0 in
+    let r = regions_read one header.0.0.data shapes.0.0 regions.0.0 s.1 d.1 h.1.data in
+    let counted : Header = record { version = header.0.0.version; services = header.0.0.services; words = length words.0.0; data = if one then byte_count regions.0.0 else length regions.0.0; stack_pages = header.0.0.stack_pages; functions = length functions.0.0 } in
+    let same : header.0.0 ≡ counted = rw (w.1, ← r.count, f.1) refl in
+    let whole = subst (λ (g : Header). Takes bytes (counts_text g ++ shapes_code one shapes.0.0 ++ flat_map (to_be_bytes w32) words.0.0 ++ flat_map region_text regions.0.0 ++ flat_map function_text functions.0.0) functions.0.1.1) same lists in
     let k : HeaderKeeps counted = subst HeaderKeeps same h.1 in
-    let kept : is_data (regions_of data_bytes.0.0) ≡ true = read_keeps data_bytes.0.0 (subst (λ (n : ℕ). is_data_length n ≡ true) (read_count data_bytes.0.0) k.bytes) in
     let in_turn : each (function_keeps (code_start + 4 * length words.0.0)) (Exactly code_start, 0) functions.0.0 ≡ Ok functions.0.1.0 = subst (λ (n : ℕ). each (function_keeps (code_start + 4 * n)) (Exactly code_start, 0) functions.0.0 ≡ Ok functions.0.1.0) (sym w.1) f.2 in
-    let made : Parts × List ℕ = (record { version = header.0.0.version; services = header.0.0.services; words = words.0.0; regions = regions_of data_bytes.0.0; stack_pages = header.0.0.stack_pages; functions = functions.0.0 }, functions.0.1.1) in
+    let made : Parts × List ℕ = (record { version = header.0.0.version; services = header.0.0.services; words = words.0.0; regions = regions.0.0; stack_pages = header.0.0.stack_pages; functions = functions.0.0 }, functions.0.1.1) in
     subst (λ (y : Parts × List ℕ). Takes bytes (spelling y.0) y.1 × (parts_keep y.0 ≡ Ok tt)) (ok_is made x functions.2)
-    (whole, rw (k.version, k.services, k.words, kept, k.stack_pages, k.functions, in_turn) refl)
+    (subst (λ (t : List ℕ). Takes bytes (counts_text counted ++ t ++ flat_map (to_be_bytes w32) words.0.0 ++ flat_map region_text regions.0.0 ++ flat_map function_text functions.0.0) functions.0.1.1) r.spelled whole, rw (k.version, k.services, k.words, r.data, k.stack_pages, k.functions, r.lengths, in_turn) refl)
 
 pub reading_takes : (bytes : List ℕ) (p : Parts) → IsBytes bytes → reading bytes ≡ Ok p → (bytes ≡ spelling p) × (parts_keep p ≡ Ok tt)
 unfolding reading
