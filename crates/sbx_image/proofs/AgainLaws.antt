@@ -1,5 +1,6 @@
 -- What keeps the rules is read from its spelling: a law for each part of an image.
-use Rattle.std.proofs.Common.{◌≡◌, ℕ, suc, ◌+◌, ◌-◌, ◌*◌, ◌^◌, ◌<◌, List, [], ◌∷◌, ◌++◌, length, Result, Ok, refl, sym, ap, ◌∙◌, append_assoc, lit<, arith, true}
+use Rattle.std.proofs.Common.{◌≡◌, ℕ, suc, ◌+◌, ◌-◌, ◌*◌, ◌^◌, ◌<◌, List, [], ◌∷◌, ◌++◌, length, Result, Ok, refl, sym, ap, ◌∙◌, append_assoc, lit<, arith, true, leb}
+use Rattle.std.specs.Prelude.{Bool, false, ◌==◌, if◌then◌else◌}
 use Rattle.std.specs.Int.{w8, w16, w32, w64, to_be_bytes}
 use Rattle.std.specs.List.{flat_map, AllByRecursion}
 use Rattle.std.proofs.lemmas.Bool.{leb-true}
@@ -10,6 +11,7 @@ use Rattle.sbx_parts.specs.declared.fault.ImageFault.TheVariants as fault
 use Rattle.sbx_parts.specs.declared.order.Next.{Next}
 use Rattle.sbx_parts.specs.declared.order.Next.TheVariants.{Exactly}
 use Rattle.sbx_image.specs.declared.heads.Header.{Header}
+use Rattle.sbx_image.specs.declared.heads.Shape.{Shape}
 use Rattle.sbx_image.specs.declared.heads.Counts.{Counts}
 use Rattle.sbx_image.specs.declared.heads.Bounds.{Bounds}
 use Rattle.sbx_image.specs.declared.heads.FunctionHead.{FunctionHead}
@@ -22,14 +24,15 @@ use Rattle.sbx_parts.specs.declared.parts.Block.{Block}
 use Rattle.sbx_parts.specs.declared.parts.Function.{Function}
 use Rattle.sbx_parts.specs.declared.parts.Parts.{Parts}
 use Rattle.sbx_parts.specs.declared.services.Services.{Services}
-use Rattle.sbx_parts.specs.Rules.{◌>>=◌, between, is_known, is_version, is_data_length, each, Place, code_start, range_keeps, location_keeps, cell_keeps, term_keeps, block_keeps, function_keeps, parts_keep}
-use Rattle.sbx_image.specs.Reading.{number_at, bytes_at, items_at, range_at, location_at, cell_at, term_at, block_head_at, block_at, kind_at, counts_at, bounds_at, function_head_at, function_at, services_at, data_length_at, header_at, parts_at, reading}
-use Rattle.sbx_image.specs.Spelling.{IsTyped, IsTypedRange, IsTypedCell, IsTypedTerm, IsTypedBlock, IsTypedFunction, signed, kind_code, range_text, region_text, cell_text, term_text, block_text, function_head_text, function_text, header_text, spelling}
+use Rattle.sbx_parts.specs.Rules.{◌>>=◌, between, is_known, is_version, is_data_length, is_length_behind, is_one_region, region_keeps, each, Place, code_start, range_keeps, location_keeps, cell_keeps, term_keeps, block_keeps, function_keeps, parts_keep}
+use Rattle.sbx_image.specs.Reading.{number_at, number_in, items_at, range_at, location_at, cell_at, term_at, block_head_at, block_at, kind_at, counts_at, bounds_at, function_head_at, function_at, services_at, data_length_at, data_count_at, header_at, shape_at, shape_of, shapes_at, regions_at, parts_at, reading}
+use Rattle.sbx_image.specs.Spelling.{IsTyped, IsTypedRange, IsTypedCell, IsTypedTerm, IsTypedBlock, IsTypedFunction, signed, kind_code, range_text, region_text, right_code, shape_text, cell_text, term_text, block_text, function_head_text, function_text, data_count_text, shapes_text, header_text, spelling}
 use Rattle.sbx_parts.specs.declared.parts.Region.{Region}
-use Rattle.sbx_parts.specs.Regions.{byte_count}
-use Rattle.sbx_image.proofs.DataLaws.{again, all_count, count_keeps}
-use Rattle.sbx_image.proofs.Fields.{bind_ok, both_true, ok_is, wants_true, number_reads, number_in_reads, signed_reads, bytes_again, wide8, wide16, wide32, wide64, signed32, signed64}
-use Rattle.sbx_image.proofs.TakesLaws.{head_text, HeadKeeps, counts_text, HeaderKeeps}
+use Rattle.sbx_parts.specs.Regions.{byte_count, pages_for}
+use Rattle.sbx_image.proofs.DataLaws.{count_keeps, one_again}
+use Rattle.sbx_image.proofs.RegionLaws.{shape_code, shape_keeps, shapes_of, shapes_spelled}
+use Rattle.sbx_image.proofs.Fields.{bind_ok, wanted, both_true, ok_is, wants_true, number_reads, number_in_reads, signed_reads, bytes_again, wide8, wide16, wide32, wide64, signed32, signed64}
+use Rattle.sbx_image.proofs.TakesLaws.{head_text, HeadKeeps, counts_text, data_keeps, data_text, HeaderKeeps}
 use Rattle.sbx_parts.proofs.Limits.{range_kept, location_kept, cell_kept, term_kept, block_kept, function_kept, parts_kept}
 
 -- a step that gives what is known, and then the rest
@@ -197,18 +200,74 @@ data_length_reads n rest whole =
     then_is _ _ _ _ (number_reads w32 (2 ^ 32) wide32 n (to_be_bytes w32 n ++ rest) rest refl few)
     (then_is _ _ _ _ (wants_true _ fault.Limit whole) refl)
 
+data_count_reads : (one : Bool) (n : ℕ) (rest : List ℕ) → data_keeps one n ≡ true → (if one then data_length_at (data_text one n ++ rest) else number_in w16 0 8 fault.Limit (data_text one n ++ rest)) ≡ Ok (n, rest)
+data_count_reads true n rest keeps = data_length_reads n rest keeps
+data_count_reads false n rest keeps = number_in_reads w16 (2 ^ 16) wide16 0 8 fault.Limit n (to_be_bytes w16 n ++ rest) rest refl (lit< tt) keeps
+
 header_reads : (h : Header) (bytes rest : List ℕ) → bytes ≡ counts_text h ++ rest → HeaderKeeps h → h.version < 2 ^ 16 → h.services.0 < 2 ^ 16 → header_at bytes ≡ Ok (h, rest)
-unfolding header_at
+unfolding header_at data_count_at
 header_reads h bytes rest b k version services =
     let r4 = to_be_bytes w16 h.functions ++ rest in
     let r3 = to_be_bytes w16 h.stack_pages ++ r4 in
-    let r2 = to_be_bytes w32 h.bytes ++ r3 in
+    let r2 = data_text (h.version == 1) h.data ++ r3 in
     let r1 = to_be_bytes w32 h.words ++ r2 in
     then_is _ _ _ _ (services_read h.version h.services bytes r1 b version services k.version k.services)
     (then_is _ _ _ _ (number_in_reads w32 (2 ^ 32) wide32 1 65536 fault.Limit h.words r1 r2 refl (lit< tt) k.words)
-    (then_is _ _ _ _ (data_length_reads h.bytes r3 k.bytes)
+    (then_is _ _ _ _ (data_count_reads (h.version == 1) h.data r3 k.data)
     (then_is _ _ _ _ (number_in_reads w16 (2 ^ 16) wide16 1 16 fault.Limit h.stack_pages r3 r4 refl (lit< tt) k.stack_pages)
     (then_is _ _ _ _ (number_in_reads w16 (2 ^ 16) wide16 1 256 fault.Limit h.functions r4 rest refl (lit< tt) k.functions) refl))))
+
+-- ---- regions
+
+right_within : (w : Bool) → (between 0 1 (right_code w) ≡ true) × ((right_code w == 1) ≡ w)
+right_within false = (refl, refl)
+right_within true = (refl, refl)
+
+shape_reads : (pages : ℕ) (s : Shape) (state : ℕ) (rest : List ℕ) → Unit {0} → shape_keeps pages s ≡ Ok state → shape_at (pages, shape_code s ++ rest) ≡ Ok (s, (state, rest))
+unfolding shape_at
+shape_reads pages s state rest typed e =
+    let test = wanted (is_length_behind pages s.bytes) fault.Limit _ _ e in
+    let some = both_true _ _ test.0 in
+    let whole = both_true _ _ (both_true _ _ some.1).0 in
+    let few : s.bytes < 2 ^ 32 = omega (arith, leb-true s.bytes 262144 whole.0) in
+    let last = to_be_bytes w16 (right_code s.writable) ++ rest in
+    let right = right_within s.writable in
+    then_is _ _ _ _ (number_reads w32 (2 ^ 32) wide32 s.bytes (shape_code s ++ rest) last (append_assoc (to_be_bytes w32 s.bytes) (to_be_bytes w16 (right_code s.writable)) rest) few)
+    (then_is _ _ _ _ (wants_true _ fault.Limit test.0)
+    (then_is _ _ _ _ (number_in_reads w16 (2 ^ 16) wide16 0 1 fault.Limit (right_code s.writable) last rest refl (lit< tt) right.0)
+    (ap (λ (w : Bool). Ok (record { bytes = s.bytes; writable = w }, (pages + pages_for s.bytes, rest))) right.1 ∙ ap (λ (n : ℕ). Ok (s, (n, rest))) (ok_is _ _ test.1))))
+
+-- lengths keep what the regions keep
+lengths_keep : (rs : List Region) (pages state : ℕ) → each region_keeps pages rs ≡ Ok state → each shape_keeps pages (shapes_of rs) ≡ Ok state
+unfolding each region_keeps
+lengths_keep [] pages state e = e
+lengths_keep (r ∷ rs) pages state e =
+    let first = bind_ok (region_keeps pages r) (λ next. each region_keeps next rs) state e in
+    rw first.1 (lengths_keep rs first.0 state first.2)
+
+no_types : (shapes : List Shape) → AllByRecursion (λ _. Unit {0}) shapes
+no_types [] = tt
+no_types (s ∷ shapes) = (tt, no_types shapes)
+
+shape_count : (rs : List Region) → length (shapes_of rs) ≡ length rs
+shape_count [] = refl
+shape_count (r ∷ rs) = ap suc (shape_count rs)
+
+shapes_read : (one : Bool) (rs : List Region) (pages : ℕ) (rest : List ℕ) → (if one then is_one_region rs else leb (length rs) 8) ≡ true → each region_keeps 0 rs ≡ Ok pages
+    → (if one then Ok (shape_of (if one then byte_count rs else length rs), (if one then [] else flat_map shape_text rs) ++ rest)
+       else (items_at shape_at (if one then byte_count rs else length rs) (0, (if one then [] else flat_map shape_text rs) ++ rest) >>= λ shapes. Ok (shapes.0, shapes.1.1))) ≡ Ok (shapes_of rs, rest)
+shapes_read true rs pages rest data lengths = ap (λ (shapes : List Shape). Ok (shapes, rest)) (one_again rs data)
+shapes_read false rs pages rest data lengths =
+    rw (← shapes_spelled rs, ← shape_count rs)
+    (then_is _ _ _ _ (items_read shape_at (λ s y. (s, y)) shape_keeps shape_code (λ _. Unit {0}) shape_reads (shapes_of rs) 0 pages rest (no_types (shapes_of rs)) (lengths_keep rs 0 pages lengths)) refl)
+
+regions_again : (rs : List Region) (rest : List ℕ) → regions_at (shapes_of rs) (flat_map region_text rs ++ rest) ≡ Ok (rs, rest)
+unfolding regions_at
+regions_again [] rest = refl
+regions_again (r ∷ rs) rest =
+    let regrouped : flat_map region_text (r ∷ rs) ++ rest ≡ r.bytes ++ (flat_map region_text rs ++ rest) = ap (λ (y : List ℕ). y ++ rest) (flat_map-cons region_text r rs) ∙ append_assoc r.bytes (flat_map region_text rs) rest in
+    ap (regions_at (shapes_of (r ∷ rs))) regrouped
+    ∙ then_is _ _ _ _ (bytes_again r.bytes (flat_map region_text rs ++ rest)) (then_is _ _ _ _ (regions_again rs rest) refl)
 
 word_reads : (w : ℕ) (rest : List ℕ) → w < 2 ^ 32 → number_at w32 (to_be_bytes w32 w ++ rest) ≡ Ok (w, rest)
 word_reads w rest lt = number_reads w32 (2 ^ 32) wide32 w (to_be_bytes w32 w ++ rest) rest refl lt
@@ -222,22 +281,34 @@ unfolding each
 all_words [] = refl
 all_words (w ∷ ws) = all_words ws
 
+count_kept : (one : Bool) (rs : List Region) → (if one then is_one_region rs else leb (length rs) 8) ≡ true → data_keeps one (if one then byte_count rs else length rs) ≡ true
+count_kept true rs e = count_keeps rs e
+count_kept false rs e = e
+
+data_of : (one : Bool) (p : Parts) → (if one then to_be_bytes w32 (byte_count p.regions) else to_be_bytes w16 (length p.regions)) ≡ data_text one (if one then byte_count p.regions else length p.regions)
+data_of true p = refl
+data_of false p = refl
+
 parts_read : (p : Parts) (rest : List ℕ) → IsTyped p → parts_keep p ≡ Ok tt → parts_at (spelling p ++ rest) ≡ Ok (p, rest)
-unfolding parts_at header_text spelling
+unfolding parts_at shapes_at data_count_text shapes_text header_text spelling
 parts_read p rest typed e =
     let k = parts_kept p e in
-    let header : Header = record { version = p.version; services = p.services; words = length p.words; bytes = byte_count p.regions; stack_pages = p.stack_pages; functions = length p.functions } in
+    let one = p.version == 1 in
+    let header : Header = record { version = p.version; services = p.services; words = length p.words; data = if one then byte_count p.regions else length p.regions; stack_pages = p.stack_pages; functions = length p.functions } in
+    let shapes = if one then [] else flat_map shape_text p.regions in
     let words = flat_map (to_be_bytes w32) p.words in
     let functions = flat_map function_text p.functions in
     let bytes = flat_map region_text p.regions in
     let end = code_start + 4 * length p.words in
-    let grouped : spelling p ++ rest ≡ counts_text header ++ (words ++ (bytes ++ (functions ++ rest))) = unnest4 (counts_text header) words bytes functions rest in
-    let keeps : HeaderKeeps header = record { version = k.version; services = k.services; words = k.word_count; bytes = count_keeps p.regions k.regions; stack_pages = k.stack_pages; functions = k.function_count } in
-    then_is _ _ _ _ (header_reads header (spelling p ++ rest) (words ++ (bytes ++ (functions ++ rest))) grouped keeps typed.version typed.services)
+    let behind = words ++ (bytes ++ (functions ++ rest)) in
+    let counted : header_text p ≡ counts_text header = ap (λ (t : List ℕ). to_be_bytes w32 0x53425838 ++ to_be_bytes w16 p.version ++ to_be_bytes w16 p.services.0 ++ to_be_bytes w32 (length p.words) ++ t ++ to_be_bytes w16 p.stack_pages ++ to_be_bytes w16 (length p.functions)) (data_of one p) in
+    let grouped : spelling p ++ rest ≡ counts_text header ++ (shapes ++ behind) = ap (λ (t : List ℕ). (t ++ shapes ++ words ++ bytes ++ functions) ++ rest) counted ∙ append_assoc (counts_text header ++ shapes ++ words ++ bytes) functions rest ∙ unnest4 (counts_text header) shapes words bytes (functions ++ rest) in
+    let keeps : HeaderKeeps header = record { version = k.version; services = k.services; words = k.word_count; data = count_kept one p.regions k.regions; stack_pages = k.stack_pages; functions = k.function_count } in
+    then_is _ _ _ _ (header_reads header (spelling p ++ rest) (shapes ++ behind) grouped keeps typed.version typed.services)
+    (then_is _ _ _ _ (shapes_read one p.regions k.last_pages behind k.regions k.lengths)
     (then_is _ _ _ _ (items_read (number_at w32) (λ _ y. y) any_word (to_be_bytes w32) (λ w. w < 2 ^ 32) (λ _ w _ y t _. word_reads w y t) p.words tt tt (bytes ++ (functions ++ rest)) typed.words (all_words p.words))
-    (then_is _ _ _ _ (ap (λ (n : ℕ). bytes_at n (bytes ++ (functions ++ rest))) (sym (all_count p.regions)) ∙ bytes_again bytes (functions ++ rest))
-    (then_is _ _ _ _ (items_read (function_at end) (λ s y. (s, y)) (function_keeps end) function_text IsTypedFunction (function_reads end) p.functions (Exactly code_start, 0) k.last rest typed.functions k.functions)
-    (ap (λ (rs : List Region). Ok (record p { regions = rs }, rest)) (again p.regions k.regions)))))
+    (then_is _ _ _ _ (regions_again p.regions (functions ++ rest))
+    (then_is _ _ _ _ (items_read (function_at end) (λ s y. (s, y)) (function_keeps end) function_text IsTypedFunction (function_reads end) p.functions (Exactly code_start, 0) k.last rest typed.functions k.functions) refl))))
 
 pub reading_again : (p : Parts) → IsTyped p → parts_keep p ≡ Ok tt → reading (spelling p) ≡ Ok p
 unfolding reading
