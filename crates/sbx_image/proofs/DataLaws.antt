@@ -34,6 +34,7 @@ one_again (r ∷ []) e =
   where
     single : (n : ℕ) → n + 0 ≡ n
     single n = omega arith
+
     by : (n : ℕ) → ltb 0 n ≡ true → shape_of n ≡ record { bytes = n; writable = true } ∷ []
     by zero h = absurd cc
     by (suc n) h = refl

@@ -10,7 +10,9 @@ mod writing;
 
 pub use heads::{FunctionHead, Header, Shape};
 pub use image::Image;
-pub use reading::{block_of, function_head_of, header_of, parse, ranges_of, shape_bytes, shapes_of};
+pub use reading::{
+    block_of, function_head_of, header_of, parse, ranges_of, shape_bytes, shapes_of,
+};
 pub use sbx_parts::{
     Block, Cell, Function, ImageFault, Items, Kind, Next, Parts, Range, Region, Services, Term,
     behind,

@@ -481,7 +481,11 @@ fn shape_of(alloc: Global, count: u32) -> Result<Vec<Shape>, AllocError>
 
 /// The regions' lengths and kinds, which version 2 has behind its header.
 #[tactic(auto, unfolding(crate::specs::Reading::shapes_at))]
-pub fn shapes_of(alloc: Global, header: Header, bytes: &[u8]) -> Result<(Vec<Shape>, &[u8]), ImageFault>
+pub fn shapes_of(
+    alloc: Global,
+    header: Header,
+    bytes: &[u8],
+) -> Result<(Vec<Shape>, &[u8]), ImageFault>
     ensures reads { Gives (λ x. (x.0.items, x.1.now)) result (shapes_at header bytes.now) }
     ensures bound { IfOk result (λ x. header.data ≤ 262144 → shape_bytes x.0.items ≤ 262144) }
 {
@@ -505,7 +509,11 @@ pub fn shape_bytes(shapes: &[Shape]) -> u32
 }
 
 /// The bytes of each region.
-fn regions_of<'a>(alloc: Global, shapes: &[Shape], bytes: &'a [u8]) -> Result<(Vec<Region>, &'a [u8]), ImageFault>
+fn regions_of<'a>(
+    alloc: Global,
+    shapes: &[Shape],
+    bytes: &'a [u8],
+) -> Result<(Vec<Region>, &'a [u8]), ImageFault>
     ensures { Gives (λ x. (x.0.items, x.1.now)) result (regions_at shapes.now bytes.now) }
 {
     let mut regions = Vec::with_capacity(alloc, shapes.len())?;

@@ -514,8 +514,37 @@ const DATA: [Data; 27] = [
     (2, 0, &[(8, false), (8, true)], None),
     (2, 0, &[(262_144, false)], None),
     (2, 0, &[(131_072, true), (131_072, false)], None),
-    (2, 0, &[(8, true), (8, true), (8, true), (8, true), (8, false), (8, false), (8, false), (8, false)], None),
-    (2, 0, &[(8, true), (8, true), (8, true), (8, true), (8, true), (8, true), (8, true), (8, true), (8, true)], Some(ImageFault::Limit)),
+    (
+        2,
+        0,
+        &[
+            (8, true),
+            (8, true),
+            (8, true),
+            (8, true),
+            (8, false),
+            (8, false),
+            (8, false),
+            (8, false),
+        ],
+        None,
+    ),
+    (
+        2,
+        0,
+        &[
+            (8, true),
+            (8, true),
+            (8, true),
+            (8, true),
+            (8, true),
+            (8, true),
+            (8, true),
+            (8, true),
+            (8, true),
+        ],
+        Some(ImageFault::Limit),
+    ),
     (2, 0, &[(0, false)], Some(ImageFault::Limit)),
     (2, 0, &[(8, false), (4, true)], Some(ImageFault::Limit)),
     (2, 0, &[(12, true)], Some(ImageFault::Limit)),
@@ -630,7 +659,10 @@ fn with_regions(place: usize, change: &[u8]) -> [u8; 116] {
 #[test]
 fn regions_are_read(rt: HostRuntime) {
     for (place, change, wanted) in OF_REGIONS {
-        assert!(rt; is_told(rt.alloc(), &with_regions(place, change), wanted), "at {place}");
+        assert!(rt;
+            is_told(rt.alloc(), &with_regions(place, change), wanted),
+            "at {place}"
+        );
     }
     assert!(rt; is_written_back(rt.alloc(), &REGIONS));
 }

@@ -3,7 +3,9 @@ ghost use Rattle.std.specs.Prelude.{◌≡◌, ◌-◌, suc, length};
 ghost use Rattle.sbx_reader.specs.declared.stages.Stage.TheVariants.{Front, Functions, Blocks};
 ghost use Rattle.sbx_reader.specs.Stages.{IsWhole, IsItem};
 
-use sbx_image::{ImageFault, Next, block_of, function_head_of, header_of, ranges_of, shape_bytes, shapes_of};
+use sbx_image::{
+    ImageFault, Next, block_of, function_head_of, header_of, ranges_of, shape_bytes, shapes_of,
+};
 use std::alloc::Global;
 use v8_map::CODE_START;
 
