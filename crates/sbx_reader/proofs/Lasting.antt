@@ -1,6 +1,6 @@
 -- What is read from the front of bytes stays when bytes are added: a value is the same, with more bytes after it, and so is each fault but that the bytes end.
 use Rattle.std.proofs.Common.{◌≡◌, ◌≢◌, ℕ, zero, suc, ◌+◌, ◌-◌, ◌*◌, ◌≤◌, Bool, true, false, ltb, List, [], ◌∷◌, ◌++◌, length, take, drop, Result, Ok, Err, refl, ap, subst, arith, inl, inr}
-use Rattle.std.specs.Prelude.{◌==◌}
+use Rattle.std.specs.Prelude.{◌==◌, if◌then◌else◌}
 use Rattle.std.specs.Int.{Width, w8, w16, w32, w64, byte_len, from_be_bytes}
 use Rattle.std.proofs.lemmas.Bool.{cases_lt, lt-ltb, le-ltb, ne_eqb}
 use Rattle.std.proofs.lemmas.List.{length-append, take-append-le, drop-append-le}
@@ -9,8 +9,10 @@ use Rattle.sbx_image.specs.ImageFault.TheVariants as fault
 use Rattle.sbx_image.specs.Next.{Next}
 use Rattle.sbx_image.specs.Next.TheVariants.{Exactly}
 use Rattle.sbx_image.specs.Parts.{Parts}
-use Rattle.sbx_image.specs.Rules.{◌>>=◌, wants, between, admits, in_order, is_fuel, is_coefficient, is_known, is_version, is_data_length, Place, code_start}
-use Rattle.sbx_image.specs.Reading.{number_at, number_in, signed_at, bytes_at, items_at, range_at, location_at, cell_at, term_at, block_head_at, block_at, kind_at, counts_at, bounds_at, function_head_at, function_at, services_at, data_length_at, header_at, parts_at, reading}
+use Rattle.sbx_image.specs.Rules.{◌>>=◌, wants, between, admits, in_order, is_fuel, is_coefficient, is_known, is_version, is_data_length, is_length_behind, Place, code_start}
+use Rattle.sbx_image.specs.Reading.{number_at, number_in, signed_at, bytes_at, items_at, range_at, location_at, cell_at, term_at, block_head_at, block_at, kind_at, counts_at, bounds_at, function_head_at, function_at, services_at, data_length_at, data_count_at, header_at, shape_at, shape_of, shapes_at, regions_at, parts_at, reading}
+use Rattle.sbx_image.specs.declared.heads.Header.{Header}
+use Rattle.sbx_image.specs.declared.heads.Shape.{Shape}
 use Rattle.sbx_reader.specs.Fronts.{lasting, told, front}
 
 -- What the shorter bytes give, and what the longer ones give.
@@ -184,22 +186,48 @@ module _ (more : List ℕ) where
   unfolding data_length_at
   data_length_lasts bytes = then_lasts _ _ _ _ _ (number_lasts more w32 bytes) (λ count. test_lasts (is_data_length count.0) fault.Limit _ _ (done_lasts _ count))
 
+  data_count_lasts : (one : Bool) (bytes : List ℕ) → Lasts (grown more) (if one then data_length_at bytes else number_in w16 0 8 fault.Limit bytes) (if one then data_length_at (bytes ++ more) else number_in w16 0 8 fault.Limit (bytes ++ more))
+  data_count_lasts true bytes = data_length_lasts bytes
+  data_count_lasts false bytes = number_in_lasts more w16 0 8 fault.Limit bytes
+
   pub header_lasts : (bytes : List ℕ) → Lasts (grown more) (header_at bytes) (header_at (bytes ++ more))
-  unfolding header_at
+  unfolding header_at data_count_at
   header_lasts bytes =
       then_lasts _ _ _ _ _ (services_last bytes) (λ services.
       then_lasts _ _ _ _ _ (number_in_lasts more w32 1 65536 fault.Limit services.1) (λ words.
-      then_lasts _ _ _ _ _ (data_length_lasts words.1) (λ data_bytes.
+      then_lasts _ _ _ _ _ (data_count_lasts (services.0.0 == 1) words.1) (λ data_bytes.
       then_lasts _ _ _ _ _ (number_in_lasts more w16 1 16 fault.Limit data_bytes.1) (λ stack_pages.
       then_lasts _ _ _ _ _ (number_in_lasts more w16 1 256 fault.Limit stack_pages.1) (λ functions. done_lasts _ _)))))
+
+  shape_lasts : (cursor : ℕ × List ℕ) → Lasts (grown_after more) (shape_at cursor) (shape_at (cursor.0, cursor.1 ++ more))
+  unfolding shape_at
+  shape_lasts cursor =
+      then_lasts _ _ _ _ _ (number_lasts more w32 cursor.1) (λ size. test_lasts (is_length_behind cursor.0 size.0) fault.Limit _ _
+      (then_lasts _ _ _ _ _ (number_in_lasts more w16 0 1 fault.Limit size.1) (λ kind. done_lasts _ _)))
+
+  lengths_last : (one : Bool) (n : ℕ) (bytes : List ℕ) → Lasts (grown more) (if one then Ok (shape_of n, bytes) else (items_at shape_at n (0, bytes) >>= λ shapes. Ok (shapes.0, shapes.1.1))) (if one then Ok (shape_of n, bytes ++ more) else (items_at shape_at n (0, bytes ++ more) >>= λ shapes. Ok (shapes.0, shapes.1.1)))
+  lengths_last true n bytes = done_lasts _ _
+  lengths_last false n bytes = then_lasts _ _ _ _ _ (items_last longer_after shape_at shape_lasts n (0, bytes)) (λ shapes. done_lasts _ _)
+
+  pub shapes_last : (h : Header) (bytes : List ℕ) → Lasts (grown more) (shapes_at h bytes) (shapes_at h (bytes ++ more))
+  unfolding shapes_at
+  shapes_last h bytes = lengths_last (h.version == 1) h.data bytes
+
+  pub regions_last : (shapes : List Shape) (bytes : List ℕ) → Lasts (grown more) (regions_at shapes bytes) (regions_at shapes (bytes ++ more))
+  unfolding regions_at
+  regions_last [] bytes = done_lasts _ _
+  regions_last (s ∷ shapes) bytes =
+      then_lasts _ _ _ _ _ (bytes_last more s.bytes bytes) (λ own.
+      then_lasts _ _ _ _ _ (regions_last shapes own.1) (λ others. done_lasts _ _))
 
   parts_last : (bytes : List ℕ) → Lasts (grown more) (parts_at bytes) (parts_at (bytes ++ more))
   unfolding parts_at
   parts_last bytes =
       then_lasts _ _ _ _ _ (header_lasts bytes) (λ header.
-      then_lasts _ _ _ _ _ (items_last longer (number_at w32) (number_lasts more w32) header.0.words header.1) (λ words.
-      then_lasts _ _ _ _ _ (bytes_last more header.0.bytes words.1) (λ data_bytes.
-      then_lasts _ _ _ _ _ (items_last longer_after (function_at (code_start + 4 * header.0.words)) (function_lasts (code_start + 4 * header.0.words)) header.0.functions ((Exactly code_start, 0), data_bytes.1)) (λ functions. done_lasts _ _))))
+      then_lasts _ _ _ _ _ (shapes_last header.0 header.1) (λ shapes.
+      then_lasts _ _ _ _ _ (items_last longer (number_at w32) (number_lasts more w32) header.0.words shapes.1) (λ words.
+      then_lasts _ _ _ _ _ (regions_last shapes.0 words.1) (λ regions.
+      then_lasts _ _ _ _ _ (items_last longer_after (function_at (code_start + 4 * header.0.words)) (function_lasts (code_start + 4 * header.0.words)) header.0.functions ((Exactly code_start, 0), regions.1)) (λ functions. done_lasts _ _)))))
 
   -- ---- the end of the bytes
 
