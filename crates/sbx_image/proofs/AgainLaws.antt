@@ -209,11 +209,11 @@ unfolding header_at data_count_at
 header_reads h bytes rest b k version services =
     let r4 = to_be_bytes w16 h.functions ++ rest in
     let r3 = to_be_bytes w16 h.stack_pages ++ r4 in
-    let r2 = data_text (h.version == 1) h.data ++ r3 in
+    let r2 = data_text (h.version == 1) h.data_count ++ r3 in
     let r1 = to_be_bytes w32 h.words ++ r2 in
     then_is _ _ _ _ (services_read h.version h.services bytes r1 b version services k.version k.services)
     (then_is _ _ _ _ (number_in_reads w32 (2 ^ 32) wide32 1 65536 fault.Limit h.words r1 r2 refl (lit< tt) k.words)
-    (then_is _ _ _ _ (data_count_reads (h.version == 1) h.data r3 k.data)
+    (then_is _ _ _ _ (data_count_reads (h.version == 1) h.data_count r3 k.data_count)
     (then_is _ _ _ _ (number_in_reads w16 (2 ^ 16) wide16 1 16 fault.Limit h.stack_pages r3 r4 refl (lit< tt) k.stack_pages)
     (then_is _ _ _ _ (number_in_reads w16 (2 ^ 16) wide16 1 256 fault.Limit h.functions r4 rest refl (lit< tt) k.functions) refl))))
 
@@ -256,8 +256,8 @@ shape_count (r ∷ rs) = ap suc (shape_count rs)
 shapes_read : (one : Bool) (rs : List Region) (pages : ℕ) (rest : List ℕ) → (if one then is_one_region rs else leb (length rs) 8) ≡ true → each region_keeps 0 rs ≡ Ok pages
     → (if one then Ok (shape_of (if one then byte_count rs else length rs), (if one then [] else flat_map shape_text rs) ++ rest)
        else (items_at shape_at (if one then byte_count rs else length rs) (0, (if one then [] else flat_map shape_text rs) ++ rest) >>= λ shapes. Ok (shapes.0, shapes.1.1))) ≡ Ok (shapes_of rs, rest)
-shapes_read true rs pages rest data lengths = ap (λ (shapes : List Shape). Ok (shapes, rest)) (one_again rs data)
-shapes_read false rs pages rest data lengths =
+shapes_read true rs pages rest kept lengths = ap (λ (shapes : List Shape). Ok (shapes, rest)) (one_again rs kept)
+shapes_read false rs pages rest kept lengths =
     rw (← shapes_spelled rs, ← shape_count rs)
     (then_is _ _ _ _ (items_read shape_at (λ s y. (s, y)) shape_keeps shape_code (λ _. Unit {0}) shape_reads (shapes_of rs) 0 pages rest (no_types (shapes_of rs)) (lengths_keep rs 0 pages lengths)) refl)
 
@@ -294,7 +294,7 @@ unfolding parts_at shapes_at data_count_text shapes_text header_text spelling
 parts_read p rest typed e =
     let k = parts_kept p e in
     let one = p.version == 1 in
-    let header : Header = record { version = p.version; services = p.services; words = length p.words; data = if one then byte_count p.regions else length p.regions; stack_pages = p.stack_pages; functions = length p.functions } in
+    let header : Header = record { version = p.version; services = p.services; words = length p.words; data_count = if one then byte_count p.regions else length p.regions; stack_pages = p.stack_pages; functions = length p.functions } in
     let shapes = if one then [] else flat_map shape_text p.regions in
     let words = flat_map (to_be_bytes w32) p.words in
     let functions = flat_map function_text p.functions in
@@ -303,7 +303,7 @@ parts_read p rest typed e =
     let behind = words ++ (bytes ++ (functions ++ rest)) in
     let counted : header_text p ≡ counts_text header = ap (λ (t : List ℕ). to_be_bytes w32 0x53425838 ++ to_be_bytes w16 p.version ++ to_be_bytes w16 p.services.0 ++ to_be_bytes w32 (length p.words) ++ t ++ to_be_bytes w16 p.stack_pages ++ to_be_bytes w16 (length p.functions)) (data_of one p) in
     let grouped : spelling p ++ rest ≡ counts_text header ++ (shapes ++ behind) = ap (λ (t : List ℕ). (t ++ shapes ++ words ++ bytes ++ functions) ++ rest) counted ∙ append_assoc (counts_text header ++ shapes ++ words ++ bytes) functions rest ∙ unnest4 (counts_text header) shapes words bytes (functions ++ rest) in
-    let keeps : HeaderKeeps header = record { version = k.version; services = k.services; words = k.word_count; data = count_kept one p.regions k.regions; stack_pages = k.stack_pages; functions = k.function_count } in
+    let keeps : HeaderKeeps header = record { version = k.version; services = k.services; words = k.word_count; data_count = count_kept one p.regions k.regions; stack_pages = k.stack_pages; functions = k.function_count } in
     then_is _ _ _ _ (header_reads header (spelling p ++ rest) (shapes ++ behind) grouped keeps typed.version typed.services)
     (then_is _ _ _ _ (shapes_read one p.regions k.last_pages behind k.regions k.lengths)
     (then_is _ _ _ _ (items_read (number_at w32) (λ _ y. y) any_word (to_be_bytes w32) (λ w. w < 2 ^ 32) (λ _ w _ y t _. word_reads w y t) p.words tt tt (bytes ++ (functions ++ rest)) typed.words (all_words p.words))

@@ -263,13 +263,13 @@ abbrev pub data_keeps : Bool → ℕ → Bool
 data_keeps one n = if one then is_data_length n else between 0 8 n
 
 abbrev pub counts_text : Header → List ℕ
-counts_text h = to_be_bytes w32 0x53425838 ++ to_be_bytes w16 h.version ++ to_be_bytes w16 h.services.0 ++ to_be_bytes w32 h.words ++ data_text (h.version == 1) h.data ++ to_be_bytes w16 h.stack_pages ++ to_be_bytes w16 h.functions
+counts_text h = to_be_bytes w32 0x53425838 ++ to_be_bytes w16 h.version ++ to_be_bytes w16 h.services.0 ++ to_be_bytes w32 h.words ++ data_text (h.version == 1) h.data_count ++ to_be_bytes w16 h.stack_pages ++ to_be_bytes w16 h.functions
 
 pub record HeaderKeeps (h : Header) : Type 0 where
   pub version : is_version h.version ≡ true
   pub services : is_known h.services.0 ≡ true
   pub words : between 1 65536 h.words ≡ true
-  pub data : data_keeps (h.version == 1) h.data ≡ true
+  pub data_count : data_keeps (h.version == 1) h.data_count ≡ true
   pub stack_pages : between 1 16 h.stack_pages ≡ true
   pub functions : between 1 256 h.functions ≡ true
 
@@ -320,9 +320,9 @@ header_takes bytes x fits e =
     let t3 = number_in_takes w16 (2 ^ 16) wide16 1 16 fault.Limit data_bytes.0.1 stack_pages.0 t2.0.rest_fits stack_pages.1 in
     let t4 = number_in_takes w16 (2 ^ 16) wide16 1 256 fault.Limit stack_pages.0.1 functions.0 t3.0.rest_fits functions.1 in
     let whole = Takes-then _ _ _ _ _ (Takes-then _ _ _ _ _ (Takes-then _ _ _ _ _ (Takes-then _ _ _ _ _ t0.0 t1.0) t2.0) t3.0) t4.0 in
-    let made : Header × List ℕ = (record { version = services.0.0.0; services = services.0.0.1; words = words.0.0; data = data_bytes.0.0; stack_pages = stack_pages.0.0; functions = functions.0.0 }, functions.0.1) in
+    let made : Header × List ℕ = (record { version = services.0.0.0; services = services.0.0.1; words = words.0.0; data_count = data_bytes.0.0; stack_pages = stack_pages.0.0; functions = functions.0.0 }, functions.0.1) in
     subst (λ (y : Header × List ℕ). Takes bytes (counts_text y.0) y.1 × HeaderKeeps y.0) (ok_is made x functions.2)
-    (whole, record { version = t0.1; services = t0.2; words = t1.1; data = t2.1; stack_pages = t3.1; functions = t4.1 })
+    (whole, record { version = t0.1; services = t0.2; words = t1.1; data_count = t2.1; stack_pages = t3.1; functions = t4.1 })
 
 abbrev done_with : ℕ → Result (Unit {0}) ImageFault
 done_with _ = Ok tt
@@ -355,20 +355,20 @@ parts_take bytes x fits e =
     let end = code_start + 4 * header.0.0.words in
     let one = header.0.0.version == 1 in
     let h = header_takes bytes header.0 fits header.1 in
-    let s = shapes_take one header.0.0.data header.0.1 shapes.0 h.0.rest_fits shapes.1 in
+    let s = shapes_take one header.0.0.data_count header.0.1 shapes.0 h.0.rest_fits shapes.1 in
     let w = items_take (number_at w32) (λ y. y) (λ _. tt) (λ _ _. Ok tt) (to_be_bytes w32) (λ y z f k. word_takes y z f k) header.0.0.words shapes.0.1 words.0 s.0.rest_fits words.1 in
     let d = regions_take shapes.0.0 words.0.1 regions.0 w.0.rest_fits regions.1 in
     let f = items_take (function_at end) (λ y. y.1) (λ y. y.0) (function_keeps end) function_text (λ y z g k. function_takes end y.0 y.1 z g k) header.0.0.functions ((Exactly code_start, 0), regions.0.1) functions.0 d.0.rest_fits functions.1 in
     let lists = Takes-then _ _ _ _ _ (Takes-then _ _ _ _ _ (Takes-then _ _ _ _ _ (Takes-then _ _ _ _ _ h.0 s.0) w.0) d.0) f.0 in
-    let r = regions_read one header.0.0.data shapes.0.0 regions.0.0 s.1 d.1 h.1.data in
-    let counted : Header = record { version = header.0.0.version; services = header.0.0.services; words = length words.0.0; data = if one then byte_count regions.0.0 else length regions.0.0; stack_pages = header.0.0.stack_pages; functions = length functions.0.0 } in
+    let r = regions_read one header.0.0.data_count shapes.0.0 regions.0.0 s.1 d.1 h.1.data_count in
+    let counted : Header = record { version = header.0.0.version; services = header.0.0.services; words = length words.0.0; data_count = if one then byte_count regions.0.0 else length regions.0.0; stack_pages = header.0.0.stack_pages; functions = length functions.0.0 } in
     let same : header.0.0 ≡ counted = rw (w.1, ← r.count, f.1) refl in
     let whole = subst (λ (g : Header). Takes bytes (counts_text g ++ shapes_code one shapes.0.0 ++ flat_map (to_be_bytes w32) words.0.0 ++ flat_map region_text regions.0.0 ++ flat_map function_text functions.0.0) functions.0.1.1) same lists in
     let k : HeaderKeeps counted = subst HeaderKeeps same h.1 in
     let in_turn : each (function_keeps (code_start + 4 * length words.0.0)) (Exactly code_start, 0) functions.0.0 ≡ Ok functions.0.1.0 = subst (λ (n : ℕ). each (function_keeps (code_start + 4 * n)) (Exactly code_start, 0) functions.0.0 ≡ Ok functions.0.1.0) (sym w.1) f.2 in
     let made : Parts × List ℕ = (record { version = header.0.0.version; services = header.0.0.services; words = words.0.0; regions = regions.0.0; stack_pages = header.0.0.stack_pages; functions = functions.0.0 }, functions.0.1.1) in
     subst (λ (y : Parts × List ℕ). Takes bytes (spelling y.0) y.1 × (parts_keep y.0 ≡ Ok tt)) (ok_is made x functions.2)
-    (subst (λ (t : List ℕ). Takes bytes (counts_text counted ++ t ++ flat_map (to_be_bytes w32) words.0.0 ++ flat_map region_text regions.0.0 ++ flat_map function_text functions.0.0) functions.0.1.1) r.spelled whole, rw (k.version, k.services, k.words, r.data, k.stack_pages, k.functions, r.lengths, in_turn) refl)
+    (subst (λ (t : List ℕ). Takes bytes (counts_text counted ++ t ++ flat_map (to_be_bytes w32) words.0.0 ++ flat_map region_text regions.0.0 ++ flat_map function_text functions.0.0) functions.0.1.1) r.spelled whole, rw (k.version, k.services, k.words, r.kept, k.stack_pages, k.functions, r.lengths, in_turn) refl)
 
 pub reading_takes : (bytes : List ℕ) (p : Parts) → IsBytes bytes → reading bytes ≡ Ok p → (bytes ≡ spelling p) × (parts_keep p ≡ Ok tt)
 unfolding reading

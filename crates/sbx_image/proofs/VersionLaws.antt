@@ -23,7 +23,7 @@ LengthsRead false n shapes = (length shapes ≡ n) × (pages : ℕ) × (each sha
 
 -- the regions that they are the lengths of
 pub record RegionsRead (one : Bool) (n : ℕ) (shapes : List Shape) (rs : List Region) : Type 0 where
-  pub data : (if one then is_one_region rs else leb (length rs) 8) ≡ true
+  pub kept : (if one then is_one_region rs else leb (length rs) 8) ≡ true
   pub count : n ≡ (if one then byte_count rs else length rs)
   pub pages : ℕ
   pub lengths : each region_keeps 0 rs ≡ Ok pages
@@ -50,11 +50,11 @@ pub regions_read : (one : Bool) (n : ℕ) (shapes : List Shape) (rs : List Regio
 regions_read true n shapes rs read same keeps =
     let one = one_is_read n rs (same ∙ read) keeps in
     let lengths = one_keeps rs one.0 in
-    record { data = one.0; count = sym one.1; pages = lengths.0; lengths = lengths.1; spelled = refl }
+    record { kept = one.0; count = sym one.1; pages = lengths.0; lengths = lengths.1; spelled = refl }
 regions_read false n shapes rs read same keeps =
     let count : length rs ≡ n = sym (same_length rs) ∙ ap length same ∙ read.0 in
     record {
-      data = le-leb _ _ (omega (arith, count, (is_between 0 8 n keeps).1));
+      kept = le-leb _ _ (omega (arith, count, (is_between 0 8 n keeps).1));
       count = sym count;
       pages = read.1.0;
       lengths = regions_keep rs 0 read.1.0 (subst (λ (ts : List Shape). each shape_keeps 0 ts ≡ Ok read.1.0) (sym same) read.1.1);

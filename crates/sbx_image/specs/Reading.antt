@@ -167,10 +167,10 @@ unfoldable pub header_at : List ℕ → Result (Header × List ℕ) ImageFault
 header_at bytes = do
   services ← services_at bytes
   words ← number_in w32 1 65536 fault.Limit services.1
-  data ← data_count_at services.0.0 words.1
-  stack_pages ← number_in w16 1 16 fault.Limit data.1
+  data_count ← data_count_at services.0.0 words.1
+  stack_pages ← number_in w16 1 16 fault.Limit data_count.1
   functions ← number_in w16 1 256 fault.Limit stack_pages.1
-  Ok (record { version = services.0.0; services = services.0.1; words = words.0; data = data.0; stack_pages = stack_pages.0; functions = functions.0 }, functions.1)
+  Ok (record { version = services.0.0; services = services.0.1; words = words.0; data_count = data_count.0; stack_pages = stack_pages.0; functions = functions.0 }, functions.1)
 
 -- a region's length and kind; the pages of the regions before it go along with the bytes
 unfoldable pub shape_at : ℕ × List ℕ → Result (Shape × (ℕ × List ℕ)) ImageFault
@@ -188,8 +188,8 @@ shape_of (suc n) = record { bytes = suc n; writable = true } ∷ []
 -- the regions' lengths and kinds, which version 2 has behind its header
 unfoldable pub shapes_at : Header → List ℕ → Result (List Shape × List ℕ) ImageFault
 shapes_at header bytes =
-    if header.version == 1 then Ok (shape_of header.data, bytes)
-    else (items_at shape_at header.data (0, bytes) >>= λ shapes. Ok (shapes.0, shapes.1.1))
+    if header.version == 1 then Ok (shape_of header.data_count, bytes)
+    else (items_at shape_at header.data_count (0, bytes) >>= λ shapes. Ok (shapes.0, shapes.1.1))
 
 -- how many bytes all regions have
 abbrev pub shape_bytes : List Shape → ℕ

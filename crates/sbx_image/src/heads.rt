@@ -8,7 +8,7 @@ pub struct Header {
     pub services: Services,
     pub words: u32,
     /// Bytes of data in version 1, regions in version 2.
-    pub data: u32,
+    pub data_count: u32,
     pub stack_pages: u16,
     pub functions: u16,
 }

@@ -418,18 +418,18 @@ fn data_count_of(version: u16, bytes: &[u8]) -> Result<(u32, &[u8]), ImageFault>
 #[tactic(auto, unfolding(crate::specs::Reading::header_at))]
 pub fn header_of(bytes: &[u8]) -> Result<(Header, &[u8]), ImageFault>
     ensures reads { Gives (λ x. (x.0, x.1.now)) result (header_at bytes.now) }
-    ensures bound { IfOk result (λ x. (x.0.words ≤ 65536) × (x.0.data ≤ 262144)) }
+    ensures bound { IfOk result (λ x. (x.0.words ≤ 65536) × (x.0.data_count ≤ 262144)) }
 {
     let ((version, services), rest) = services_in(bytes)?;
     let (words, rest) = u32_in(rest, 1, 65536, ImageFault::Limit)?;
-    let (data, rest) = data_count_of(version, rest)?;
+    let (data_count, rest) = data_count_of(version, rest)?;
     let (stack_pages, rest) = u16_in(rest, 1, 16, ImageFault::Limit)?;
     let (functions, rest) = u16_in(rest, 1, 256, ImageFault::Limit)?;
     let header = Header {
         version,
         services,
         words,
-        data,
+        data_count,
         stack_pages,
         functions,
     };
@@ -487,12 +487,12 @@ pub fn shapes_of(
     bytes: &[u8],
 ) -> Result<(Vec<Shape>, &[u8]), ImageFault>
     ensures reads { Gives (λ x. (x.0.items, x.1.now)) result (shapes_at header bytes.now) }
-    ensures bound { IfOk result (λ x. header.data ≤ 262144 → shape_bytes x.0.items ≤ 262144) }
+    ensures bound { IfOk result (λ x. header.data_count ≤ 262144 → shape_bytes x.0.items ≤ 262144) }
 {
     if header.version == 1 {
-        return Ok((shape_of(alloc, header.data)?, bytes));
+        return Ok((shape_of(alloc, header.data_count)?, bytes));
     }
-    let (shapes, (_, rest)) = items_of(alloc, 0, header.data, 0, bytes)?;
+    let (shapes, (_, rest)) = items_of(alloc, 0, header.data_count, 0, bytes)?;
     Ok((shapes, rest))
 }
 

@@ -211,7 +211,7 @@ module _ (more : List ℕ) where
 
   pub shapes_last : (h : Header) (bytes : List ℕ) → Lasts (grown more) (shapes_at h bytes) (shapes_at h (bytes ++ more))
   unfolding shapes_at
-  shapes_last h bytes = lengths_last (h.version == 1) h.data bytes
+  shapes_last h bytes = lengths_last (h.version == 1) h.data_count bytes
 
   pub regions_last : (shapes : List Shape) (bytes : List ℕ) → Lasts (grown more) (regions_at shapes bytes) (regions_at shapes (bytes ++ more))
   unfolding regions_at
