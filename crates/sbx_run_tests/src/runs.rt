@@ -2,9 +2,9 @@
 ghost use Rattle.std.specs.Prelude.{◌≤◌};
 
 use crate::sources::{
-    BARE, BYTES, CALLED, CALLER, CALLER_OF_39, CALLS, CHAIN, CHAIN_REST, COPY, COUNTDOWN,
-    COUNTDOWN_REST, ECHO, FRAMED, HELLO, INCREMENT, LINKS, LONG_ECHO, Links, RESULT, RESULT_LINKS,
-    ROUNDS, ROUNDS_LINKS, Source, WORD_OUT,
+    BARE, BETWEEN_REGIONS, BYTES, CALLED, CALLER, CALLER_OF_39, CALLS, CHAIN, CHAIN_REST, COPY,
+    COUNTDOWN, COUNTDOWN_REST, ECHO, EXITS, FRAMED, HELLO, INCREMENT, LINKS, LONG_ECHO, Links,
+    RESULT, RESULT_LINKS, ROUNDS, ROUNDS_LINKS, Source, TWO_REGIONS, WORD_OUT,
 };
 use sbx_image::Image;
 use sbx_run::{
@@ -12,9 +12,11 @@ use sbx_run::{
 };
 use std::alloc::{AllocError, Global};
 use std::test::Fail;
+use v8_word::TrapType;
 
 /// What a source's image gives on an input: its budget, the exit word, the output, the turns where there are windows enough, the
-/// overflows on four windows, how many of them each window more spares, and whether the stack's last page is used.
+/// overflows on four windows, how many of them each window more spares, whether the stack's last page is used, and which pages of the
+/// data are, and are written.
 #[derive(Clone, Copy)]
 pub(crate) struct Row<'a> {
     pieces: &'static [&'static str],
@@ -27,6 +29,7 @@ pub(crate) struct Row<'a> {
     overflows: u64,
     spared: u64,
     stack: bool,
+    data: (u64, u64),
 }
 
 /// Nothing is put in or out, and four windows suffice.
@@ -41,6 +44,7 @@ const QUIET: Row<'static> = Row {
     overflows: 0,
     spared: 0,
     stack: false,
+    data: (0, 0),
 };
 
 pub(crate) static HI: Row<'static> = Row {
@@ -82,6 +86,22 @@ static INCREMENTS: Row<'static> = Row {
     budget: 39,
     turns: 15,
     ..QUIET
+};
+
+/// A byte of a region that may be read alone is put out, and stored into one that may be written, which is all on the next page.
+static REGIONS: Row<'static> = Row {
+    output: b"H",
+    pieces: &[TWO_REGIONS, BETWEEN_REGIONS, " stb %o0,[%g2+7]\n", EXITS],
+    budget: 13,
+    turns: 13,
+    data: (3, 2),
+    ..QUIET
+};
+
+/// ... and the same with a store into the first region.
+static STORED: Row<'static> = Row {
+    pieces: &[TWO_REGIONS, BETWEEN_REGIONS, " stb %o0,[%g1]\n", EXITS],
+    ..REGIONS
 };
 
 pub(crate) static CHAINED: Row<'static> = Row {
@@ -215,12 +235,12 @@ impl Row<'_> {
         (overflows, underflows, turns)
     }
 
-    /// The pages that are used: the first of the code, and the last of the stack.
+    /// The pages that are used: the first of the code, those of the data, and the last of the stack.
     fn pages(&self) -> PageUse {
         let last = if self.stack { 1 << 63 } else { 0 };
         PageUse {
-            referenced: [1, 0, last],
-            modified: [0, 0, last],
+            referenced: [1, self.data.0, last],
+            modified: [0, self.data.1, last],
         }
     }
 
@@ -312,6 +332,7 @@ fn are_so(alloc: Global) -> bool {
     is_so(alloc, &HI)
         && is_so(alloc, &COPIES)
         && is_so(alloc, &INCREMENTS)
+        && is_so(alloc, &REGIONS)
         && is_so(alloc, &CHAINED)
 }
 
@@ -485,4 +506,35 @@ fn increments_raw(alloc: Global, row: &Row<'_>) -> bool {
 #[test]
 fn raw_runs_agree(rt: HostRuntime) {
     assert!(rt; increments_raw(rt.alloc(), &INCREMENTS));
+}
+
+/// Whether a raw run puts the first byte out, and ends at a store for which there is no right: a protection error at level 3 of a store
+/// to user data, whose address is known (appendix H).
+fn is_trapped(raw: &Raw) -> bool {
+    let told = &raw.outcome;
+    told.ending == Ending::Trapped(TrapType::DATA_ACCESS_EXCEPTION)
+        && (told.turns, told.overflows, told.underflows) == (11, 0, 0)
+        && raw.output.as_slice() == b"H".as_slice()
+        && raw.fault_status == 0x0000_038A
+}
+
+/// Whether the raw run of the image does.
+fn traps_on_8(alloc: Global, image: &Image) -> bool {
+    match run_raw::<8>(alloc, image, b"", 1000) {
+        Ok(raw) => is_trapped(&raw),
+        Err(_fault) => false,
+    }
+}
+
+/// Whether the raw run of the row's image does.
+fn traps(alloc: Global, row: &Row<'_>) -> bool {
+    match row.image(alloc) {
+        Some(image) => traps_on_8(alloc, &image),
+        None => false,
+    }
+}
+
+#[test]
+fn a_store_to_what_is_read_alone_traps(rt: HostRuntime) {
+    assert!(rt; traps(rt.alloc(), &STORED));
 }

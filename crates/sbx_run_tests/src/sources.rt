@@ -324,3 +324,20 @@ pub(crate) const CALLED: &str = ".function framed,framed,96,96,52
  retl
  xor %o0,%o1,%o0
 ";
+
+/// Two bytes of data that may be read alone, and a double word behind them, on the next page, that may be written.
+pub(crate) const TWO_REGIONS: &str =
+    ".services exit,put\n.region ro\n.byte 72,105\n.region rw\n.skip 8\n";
+
+/// Puts out the first byte, and has the address of the double word in `%g2`.
+pub(crate) const BETWEEN_REGIONS: &str = ".text
+.function main,leaf,0,0,13
+.fuel 13
+ sethi 512,%g1
+ ldub [%g1],%o0
+ ta 2
+ sethi 516,%g2
+";
+
+/// Exits with 0.
+pub(crate) const EXITS: &str = " mov 0,%o0\n ta 0\n";

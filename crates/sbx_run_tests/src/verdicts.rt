@@ -1,7 +1,7 @@
 //! What `verify` refuses, and how it is told.
 use crate::sources::{
-    BARE, BYTES, CALLER, CALLER_OF_39, CHAIN_REST, COUNTDOWN, COUNTDOWN_REST, FRAMED, HELLO,
-    INCREMENT, LINKS, Links, Source,
+    BARE, BETWEEN_REGIONS, BYTES, CALLER, CALLER_OF_39, CHAIN_REST, COUNTDOWN, COUNTDOWN_REST,
+    EXITS, FRAMED, HELLO, INCREMENT, LINKS, Links, Source, TWO_REGIONS,
 };
 use sbx_image::{Image, parse};
 use sbx_run::{Refusal, verify};
@@ -15,7 +15,18 @@ type Row = (
     Option<&'static Links>,
 );
 
-static ROWS: [Row; 28] = [
+static ROWS: [Row; 30] = [
+    // one byte behind the last of the second region, and a store into the first, which may be read alone
+    (
+        "refused V9 in function 0 at 00040010",
+        &[TWO_REGIONS, BETWEEN_REGIONS, " stb %o0,[%g2+8]\n", EXITS],
+        None,
+    ),
+    (
+        "refused V9 in function 0 at 00040010",
+        &[TWO_REGIONS, BETWEEN_REGIONS, " stb %o0,[%g1]\n", EXITS],
+        None,
+    ),
     (
         "refused V14 in function 0 at 00040014",
         &[
