@@ -220,6 +220,7 @@ left_of_refine cond a b v w are h =
 
 -- ---- where the condition holds
 
+-- what is known is refined to something, which holds of these words wherever they fit
 record Goes (start : Cells) (d : Known) (words : Words) (icc : Icc) (y : ℕ) (refined : Option Known) : Type 0 where
   pub known : Known
   pub is : refined ≡ Some known

@@ -98,6 +98,7 @@ is_natural z h = grind (arith, ints)
 
 -- ---- along an edge
 
+-- terms in the order of their numbers, none of them 0 times its number
 pub record AreTerms (ts : List FormTerm) : Type 0 where
   pub ascend : AscendFrom 0 ts
   pub nonzero : AreNonzero ts

@@ -89,6 +89,7 @@ terms_from cells last (t ∷ ts) end e =
 
 -- ---- blocks and functions
 
+-- what a block that keeps the format promises of its annotations: few terms, in order, and cells that hold some word
 record KeptAnnotations (block : Block) : Type 0 where
   few : length block.terms ≤ 8
   terms : (cells : List Cell) → AreTermsFrom 0 (counted cells block.terms)
@@ -103,6 +104,7 @@ annotations end next block after e =
       cells = each_all cell_keeps (λ c. IsSome c.range) cell_some block.cells 0 k.last_cell k.cells;
     }
 
+-- the same of a function: parameters that hold some word, and its blocks
 record KeptPromises (f : Function) : Type 0 where
   params : AllByRecursion IsSome f.params
   blocks : AllByRecursion KeptAnnotations f.blocks

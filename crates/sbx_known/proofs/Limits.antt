@@ -10,6 +10,7 @@ use Rattle.sbx_image.proofs.Fields.{is_between}
 use Rattle.sbx_image.proofs.Limits.{each_all, function_kept, parts_kept}
 use Rattle.sbx_image.specs.Order.{function_at, or_function}
 
+-- the limits of a function that keeps the format
 pub record IsLimited (f : Function) : Type 0 where
   pub params : length f.params ≤ 6
   pub budget : f.budget ≤ 1099511627775

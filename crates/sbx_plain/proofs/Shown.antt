@@ -209,6 +209,7 @@ module _ (old new : Frames) (base fill : ℕ) (file : Registers) (is : IsPushed 
 
 -- ---- back to the caller
 
+-- frames after a RESTORE: outs are the ins that were, and the rest is the caller's
 pub record IsPopped (old new : Frames) (caller : Saved) : Type 0 where
   pub globals : new.globals ≡ old.globals
   pub outs : new.outs ≡ old.ins

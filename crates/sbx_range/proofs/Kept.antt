@@ -163,6 +163,7 @@ keeps-narrowed OverflowClear a b x y p q s u h = record { left = s; right = u }
 
 -- ---- alignments
 
+-- two words are multiples of what two ranges ask for
 pub record AreMultiples (p : Pair) (x y : ℕ) : Type 0 where
   pub left : IsAligned p.left.alignment x
   pub right : IsAligned p.right.alignment y

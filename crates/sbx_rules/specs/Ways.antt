@@ -82,6 +82,7 @@ fuel_at parts f b = record { constant = (block_at parts f b).fuel; terms = count
 
 -- ---- where control goes
 
+-- a way on from a word
 pub data Way : Type 0 where
   -- to the next word of the block
   Next : Way

@@ -32,6 +32,7 @@ use Rattle.sbx_windows.proofs.Start.{boot, flat_start, is_flat_start, start_show
 
 -- ---- the word that is fetched
 
+-- an address of the code, by the number of its word
 record Located (words : List ℕ) (pc : ℕ) : Type 0 where
   index : ℕ
   place : pc ≡ CODE_START + 4 * index

@@ -232,6 +232,7 @@ abbrev pub OnDone : Moved → Type 0 → Type 0
 OnDone (Done v pa) P = P
 OnDone (Fault st) P = Unit
 
+-- what a load, a store or a swap leaves: RAM keeps what is held, the device stays, and what was reached is the mode's own
 pub record MoveIs (n : ℕ) (g : Pages) (held : Contents) (d : Device) (user store : Bool) (va : ℕ) (size : Size) (r : Moved × Memory Device) : Type 0 where
   pub kept : IsKept n g held r.1.ram
   pub device : r.1.device ≡ d

@@ -15,6 +15,7 @@ use Rattle.v8_contained.proofs.Stays.{IsFree}
 
 -- ---- the kinds of pages
 
+-- a page of code, which may be fetched from alone
 pub record IsCode (g : Pages) (va : ℕ) (p : Mapped) : Type 0 where
   pub acc : p.acc ≡ 4
   pub low : 0x40000 ≤ va
@@ -36,14 +37,17 @@ pub record IsWritable (g : Pages) (va : ℕ) (p : Mapped) : Type 0 where
   pub free : IsFree g p.pa
   pub high : p.pa < 0xA0000
 
+-- the trap table's page or the window handlers', which only the supervisor reaches
 pub record IsSystem (p : Mapped) : Type 0 where
   pub acc : p.acc ≡ 6
   pub high : p.pa < 0x2000
 
+-- the device's page, past RAM, which only the supervisor reaches
 pub record IsDevice (va : ℕ) (p : Mapped) : Type 0 where
   pub acc : p.acc ≡ 7
   pub pa : 0x100000000 ≤ p.pa
 
+-- which of them the page of an address is
 pub data Kind (g : Pages) (va : ℕ) (p : Mapped) : Type 0 where
   Code : IsCode g va p → Kind g va p
   Fixed : IsFixed g va p → Kind g va p
@@ -90,6 +94,7 @@ kinds_of g few va =
 
 -- ---- the page that a walk ends at
 
+-- a walk for this access ends at a page of such a kind, which permits the access, and its entry can be marked
 pub record Reach (g : Pages) (ram : List ℕ) (va : ℕ) (a : Access) (page : Page) : Type 0 where
   pub acc : ℕ
   pub kind : Kind g va (mapped page.pa acc page.place)

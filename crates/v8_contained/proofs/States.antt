@@ -45,6 +45,7 @@ use Rattle.v8_contained.proofs.Stays.{number_is, with_number_size}
 
 -- ---- memory and input
 
+-- RAM of 1 MiB of bytes, and an input of bytes
 record AreHeld (ram : List ℕ) (d : Device) : Type 0 where
   pub size : length ram ≡ 0x100000
   pub bytes : AreBytes ram
@@ -199,6 +200,7 @@ sent_fits n v (transfer.Exchange Register) rd f = reads_word n v rd f
 
 -- ---- a turn
 
+-- a sound processor beside such a RAM and input
 record IsFine (n : ℕ) (x : World n Device) : Type 0 where
   pub cpu : IsSound n x.cpu
   pub held : AreHeld x.memory.ram x.memory.device

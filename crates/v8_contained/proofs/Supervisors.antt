@@ -121,6 +121,7 @@ abbrev pub MadeBy : (n : ℕ) → Option ℕ → Cpu n → Type 0
 MadeBy n None cpu = IsUser n cpu ⊎ IsSupervisor n cpu
 MadeBy n (Some t) cpu = cpu.control.et ≡ false
 
+-- where a turn of supervisor code ends: RAM keeps what is held, the device stays, and the mode is one that its trap makes
 pub record SuperEnds (n : ℕ) (g : Pages) (held : Contents) (d : Device) (o : Outcome × World n Device) : Type 0 where
   pub kept : IsKept n g held o.1.memory.ram
   pub device : o.1.memory.device ≡ d

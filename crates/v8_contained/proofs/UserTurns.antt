@@ -45,6 +45,7 @@ OnWord (Err st) P = Unit
 abbrev InCode : Pages → ℕ → Type 0
 InCode g va = (0x40000 ≤ va) × (va + 4 ≤ 0x40000 + 4096 * g.code_count)
 
+-- what a fetch of user code leaves: RAM keeps what is held, and a word that was fetched lies in the code
 pub record FetchIs (n : ℕ) (g : Pages) (held : Contents) (va : ℕ) (r : Result ℕ ℕ × List ℕ) : Type 0 where
   pub kept : IsKept n g held r.1
   pub own : OnWord r.0 (InCode g va)

@@ -163,6 +163,7 @@ user_effect n cpu Coprocessor few u calm = u
 
 -- ---- with memory
 
+-- where a turn of user code ends: RAM keeps what is held, the device stays, the processor is the user's, and the access its own
 pub record UserEnds (n : ℕ) (g : Pages) (held : Contents) (d : Device) (o : Outcome × World n Device) : Type 0 where
   pub kept : IsKept n g held o.1.memory.ram
   pub device : o.1.memory.device ≡ d

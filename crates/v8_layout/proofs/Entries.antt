@@ -21,6 +21,7 @@ unmarked_marked w store page = unmarked_by (marked w store) w (marked_high w sto
 
 -- ---- a page's entry, as the walk reads it
 
+-- the entry at a place of RAM, which is this one but for its marks
 pub record PageEntry (ram : List ℕ) (place t : ℕ) : Type 0 where
   pub word : ℕ
   pub there : entry_of ram place ≡ Some word

@@ -34,6 +34,7 @@ use Rattle.v8_memory.specs.Board.{Device, board}
 use Rattle.v8_loaded.proofs.Words.{fields, source, at_stack}
 use Rattle.v8_loaded.proofs.Stages.{Inside, registers, stage, onward, finished, read_zero, read_global, read_own, local_written, local_computed, global_computed}
 
+-- an operation of the supervisor that takes no trap and no memory, and what it makes of the processor
 pub record Does (n : ℕ) (cpu : Cpu n) (i : Operation) (new : Cpu n) : Type 0 where
   pub system : cpu.control.s ≡ true
   pub sane : cpu.control.error ≡ None

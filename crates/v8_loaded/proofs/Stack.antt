@@ -92,6 +92,7 @@ double_is ram p x y small =
 
 -- ---- the stack's pages
 
+-- eight bytes of the stack's pages, at a multiple of 8
 pub record OnStack (g : Pages) (va : ℕ) : Type 0 where
   pub low : 0x100000 ≤ va + 4096 * g.stack_count
   pub high : va + 8 ≤ 0x100000

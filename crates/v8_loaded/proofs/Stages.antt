@@ -28,6 +28,7 @@ inside rows w globals row current mask = record { globals = globals; words = sli
 abbrev pub handling : Control → ℕ → ℕ → Control
 handling c pc npc = record c { pc = pc; npc = npc; annul = false; error = None; s = true; et = false }
 
+-- where a handler stands: the words of the windows, the globals, the words of the window that it writes, the mask, and where it goes on
 pub record Inside : Type 0 where
   pub rows : List (List ℕ)
   pub globals : List ℕ

@@ -36,6 +36,7 @@ use Rattle.v8_loaded.proofs.Fetches.{by_supervisor, fetches_handlers, fetches_ta
 use Rattle.v8_loaded.proofs.Effects.{Does}
 use Rattle.v8_loaded.proofs.Words.{Asks}
 
+-- what holds around the turns: the context's table, a device that goes on, 4 to 32 windows, pages that have room
 pub record Setting (n : ℕ) (g : Pages) (mmu : MmuRegs) (device : Device) : Type 0 where
   pub root : root_of mmu ≡ 0x2000
   pub running : device.stopped ≡ None
@@ -174,6 +175,7 @@ keeps_stored base word stored reached store old ram k whole fits small =
 abbrev pub IsWithin : Area → Turn → Type 0
 IsWithin a turn = IsHandlers (a.base + 0x60000) (4 * a.reached) a.store turn
 
+-- so many turns lead to this processor: RAM keeps all but the save area and marks, and each turn stays within handlers and area
 pub record Comes (n : ℕ) (g : Pages) (words : List ℕ) (mmu : MmuRegs) (device : Device) (a : Area) (j : ℕ) (old : World n Device) (new : Cpu n) : Type 0 where
   pub ram : List ℕ
   pub keeps : Keeps a old.memory.ram ram

@@ -74,6 +74,7 @@ all_apart = refl
 
 -- ---- what is known of the form of a word
 
+-- a word's form is found by the name that is printed for it, and its values make the word again
 pub record Found (f : Form) (w : ℕ) : Type 0 where
   pub names : named f (f.name ++ suffix_text f.conditional w) ≡ Some (condition_in f w)
   pub is_named : is_name (f.name ++ suffix_text f.conditional w) ≡ true

@@ -177,6 +177,7 @@ abbrev pub shut : List Part → List Part → Bool
 shut (parts.Number range ∷ ks) (parts.Address other ∷ ps) = true
 shut _ _ = false
 
+-- the text of operands as words of a line, which are read back as the word's values, and by no form that is shut to them
 pub record Operands (ps : List Part) (w : ℕ) : Type 0 where
   pub said : ℕ → List Word
   pub heard : Heard 40 (operands_text ps w) said
