@@ -4,6 +4,7 @@ ghost use Rattle.v8_state.specs.Registers.{booted, cleared, flag_at, psr_codes, 
 ghost use Rattle.v8_windows.specs.Windows.{IsFile};
 
 use crate::state::{Control, Cpu};
+use v8_map::{CODE_START, STACK_START, TRAP_TABLE};
 use v8_windows::RegFile;
 use v8_word::{Icc, Reg, TrapType, bits_of};
 
@@ -66,8 +67,8 @@ impl Control {
         ensures { result ≡ started_with y }
     {
         Control {
-            pc: 0x0004_0000,
-            npc: 0x0004_0004,
+            pc: CODE_START,
+            npc: CODE_START + 4,
             annul: false,
             icc: Icc {
                 n: false,
@@ -80,7 +81,7 @@ impl Control {
             s: false,
             ps: false,
             et: true,
-            base: 0xF000_0000,
+            base: TRAP_TABLE,
             tt: TrapType::new(0),
             status: 0,
             error: None,
@@ -115,7 +116,7 @@ impl<const N: usize> Cpu<N> {
         let _ = self.regs.cwp();
         self.regs.set_cwp(0);
         self.regs.set_wim(2);
-        self.regs.set(Reg::SP, 0x000F_FFC0);
+        self.regs.set(Reg::SP, STACK_START);
         self.control = Control::start(self.control.y);
         // What is read shows that the registers are a register file.
         let _ = self.regs.cwp();
