@@ -72,19 +72,14 @@ impl<const N: usize, P: Port> Board<N, P> {
         ensures failed { IfOk result (λ board. board.failed ≡ P.failed port) }
         ensures calls { IfOk result (λ board. board.calls ≡ P.calls port) }
     {
-        match Memory::new(alloc, port) {
-            Ok(memory) => Ok(Board {
-                machine: Machine::new(
-                    memory,
-                    MmuRegs {
-                        table: CONTEXT_TABLE as u64,
-                        context: 0,
-                    },
-                ),
-                counts: Counts::NONE,
-            }),
-            Err(refused) => Err(refused),
-        }
+        let regs = MmuRegs {
+            table: CONTEXT_TABLE as u64,
+            context: 0,
+        };
+        Ok(Board {
+            machine: Machine::new(Memory::new(alloc, port)?, regs),
+            counts: Counts::NONE,
+        })
     }
 
     /// Loads an image and boots: trap table, handlers and page tables, the image's code and data, and 0 in the rest of their last

@@ -37,15 +37,12 @@ impl<P: Port> Memory<P> {
         ensures ended { IfOk result (λ m. m.ended ≡ false) }
         ensures stopped { IfOk result (λ m. m.stopped ≡ None) }
     {
-        match Ram::new(alloc) {
-            Ok(ram) => Ok(Memory {
-                ram,
-                port,
-                ended: false,
-                stopped: None,
-            }),
-            Err(refused) => Err(refused),
-        }
+        Ok(Memory {
+            ram: Ram::new(alloc)?,
+            port,
+            ended: false,
+            stopped: None,
+        })
     }
 
     /// Takes back the device's stop and the end of its input. RAM, which holds bytes, stays.
