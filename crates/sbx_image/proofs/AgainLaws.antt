@@ -255,7 +255,7 @@ shape_count (r ∷ rs) = ap suc (shape_count rs)
 
 shapes_read : (one : Bool) (rs : List Region) (pages : ℕ) (rest : List ℕ) → (if one then is_one_region rs else leb (length rs) 8) ≡ true → each region_keeps 0 rs ≡ Ok pages
     → (if one then Ok (shape_of (if one then byte_count rs else length rs), (if one then [] else flat_map shape_text rs) ++ rest)
-       else (items_at shape_at (if one then byte_count rs else length rs) (0, (if one then [] else flat_map shape_text rs) ++ rest) >>= λ shapes. Ok (shapes.0, shapes.1.1))) ≡ Ok (shapes_of rs, rest)
+    else (items_at shape_at (if one then byte_count rs else length rs) (0, (if one then [] else flat_map shape_text rs) ++ rest) >>= λ shapes. Ok (shapes.0, shapes.1.1))) ≡ Ok (shapes_of rs, rest)
 shapes_read true rs pages rest kept lengths = ap (λ (shapes : List Shape). Ok (shapes, rest)) (one_again rs kept)
 shapes_read false rs pages rest kept lengths =
     rw (← shapes_spelled rs, ← shape_count rs)

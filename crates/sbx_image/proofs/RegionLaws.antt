@@ -32,8 +32,8 @@ shape_keeps pages s = do
 
 -- a kind of 0 or 1 is what its right is spelled as
 pub right_again : (n : ℕ) → n ≤ 1 → right_code (n == 1) ≡ n
-right_again 0 le = refl
-right_again (suc 0) le = refl
+right_again zero le = refl
+right_again (suc zero) le = refl
 right_again (suc (suc n)) le = absurd (omega (arith, le))
 
 pub shape_takes : (pages : ℕ) (bytes : List ℕ) (x : Shape × (ℕ × List ℕ)) → IsBytes bytes → shape_at (pages, bytes) ≡ Ok x → Takes bytes (shape_code x.0) x.1.1 × (shape_keeps pages x.0 ≡ Ok x.1.0)

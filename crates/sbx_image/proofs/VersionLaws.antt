@@ -56,7 +56,7 @@ regions_read false n shapes rs read same keeps =
     record {
       kept = le-leb _ _ (omega (arith, count, (is_between 0 8 n keeps).1));
       count = sym count;
-      pages = read.1.0;
-      lengths = regions_keep rs 0 read.1.0 (subst (λ (ts : List Shape). each shape_keeps 0 ts ≡ Ok read.1.0) (sym same) read.1.1);
+      pages = read.1;
+      lengths = regions_keep rs 0 read.1 (subst (λ (ts : List Shape). each shape_keeps 0 ts ≡ Ok read.1) (sym same) read.2);
       spelled = ap (flat_map shape_code) (sym same) ∙ shapes_spelled rs;
     }
