@@ -13,7 +13,7 @@ use Rattle.sbx_image.proofs.RegionLaws.{shape_of_region, shapes_of}
 first_is : (s t : Shape) (u v : List Shape) → s ∷ u ≡ t ∷ v → s ≡ t
 first_is s t u v e = cc
 
-both_are : (a b : Bool) → a ≡ true → b ≡ true → (a && b) ≡ true
+pub both_are : (a b : Bool) → a ≡ true → b ≡ true → (a && b) ≡ true
 both_are true true h k = refl
 both_are true false h k = absurd cc
 both_are false b h k = absurd cc
