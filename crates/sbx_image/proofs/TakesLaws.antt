@@ -25,14 +25,14 @@ use Rattle.sbx_parts.specs.declared.parts.Block.{Block}
 use Rattle.sbx_parts.specs.declared.parts.Function.{Function}
 use Rattle.sbx_parts.specs.declared.parts.Parts.{Parts}
 use Rattle.sbx_parts.specs.declared.services.Services.{Services}
-use Rattle.sbx_parts.specs.Rules.{◌>>=◌, between, each, Place, code_start, admits, is_fuel, is_coefficient, is_known, is_version, is_data, is_data_length, in_order, range_keeps, location_keeps, cell_keeps, term_keeps, block_keeps, function_keeps, parts_keep}
+use Rattle.sbx_parts.specs.Rules.{◌>>=◌, between, each, Place, code_start, admits, is_fuel, is_coefficient, is_known, is_version, is_data_length, in_order, range_keeps, location_keeps, cell_keeps, term_keeps, block_keeps, function_keeps, parts_keep}
 use Rattle.sbx_image.specs.Reading.{number_at, number_in, items_at, range_at, location_at, cell_at, term_at, block_head_at, block_at, kind_at, counts_at, bounds_at, function_head_at, function_at, services_at, data_length_at, data_count_at, header_at, shape_at, shapes_at, shape_of, parts_at, reading}
 use Rattle.sbx_image.specs.Spelling.{IsBytes, signed, kind_code, range_text, region_text, cell_text, term_text, block_text, function_head_text, function_text, shape_text, data_count_text, shapes_text, header_text, spelling}
 use Rattle.sbx_parts.specs.declared.parts.Region.{Region}
 use Rattle.sbx_parts.specs.Regions.{byte_count}
 use Rattle.sbx_image.proofs.RegionLaws.{regions_take, shape_code, shape_keeps, shape_takes}
 use Rattle.sbx_image.proofs.VersionLaws.{LengthsRead, regions_read}
-use Rattle.sbx_image.proofs.Fields.{bind_ok, wanted, is_between, ok_is, Takes, Takes-then, wide8, wide16, wide32, wide64, signed32, signed64, number_takes, number_in_takes, signed_takes, bytes_take}
+use Rattle.sbx_image.proofs.Fields.{bind_ok, wanted, is_between, ok_is, Takes, Takes-then, wide8, wide16, wide32, wide64, signed32, signed64, number_takes, number_in_takes, signed_takes}
 
 range_keeps_by : (r : Range) → in_order r.lo r.hi ≡ true → between 0 3 r.alignment ≡ true → range_keeps r ≡ Ok tt
 unfolding range_keeps
