@@ -3,7 +3,7 @@ use Rattle.std.proofs.Common.{◌≡◌, ℕ, suc, ◌+◌, ◌-◌, ◌*◌, �
 use Rattle.std.specs.Prelude.{Bool, false, ◌==◌, if◌then◌else◌}
 use Rattle.std.specs.Int.{w8, w16, w32, w64, to_be_bytes}
 use Rattle.std.specs.List.{flat_map, AllByRecursion}
-use Rattle.std.proofs.lemmas.Bool.{leb-true}
+use Rattle.std.proofs.lemmas.Bool.{leb-true, le-leb}
 use Rattle.std.proofs.lemmas.List.{append-nil}
 use Rattle.std.proofs.lemmas.List.Concat.{flat_map-cons}
 use Rattle.sbx_parts.specs.declared.fault.ImageFault.{ImageFault}
@@ -25,14 +25,14 @@ use Rattle.sbx_parts.specs.declared.parts.Function.{Function}
 use Rattle.sbx_parts.specs.declared.parts.Parts.{Parts}
 use Rattle.sbx_parts.specs.declared.services.Services.{Services}
 use Rattle.sbx_parts.specs.Rules.{◌>>=◌, between, is_known, is_version, is_data_length, is_length_behind, is_one_region, region_keeps, each, Place, code_start, range_keeps, location_keeps, cell_keeps, term_keeps, block_keeps, function_keeps, parts_keep}
-use Rattle.sbx_image.specs.Reading.{number_at, number_in, items_at, range_at, location_at, cell_at, term_at, block_head_at, block_at, kind_at, counts_at, bounds_at, function_head_at, function_at, services_at, data_length_at, data_count_at, header_at, shape_at, shape_of, shapes_at, regions_at, parts_at, reading}
+use Rattle.sbx_image.specs.Reading.{number_at, number_in, items_at, range_at, location_at, cell_at, term_at, block_head_at, block_at, kind_at, counts_at, bounds_at, function_head_at, function_at, services_at, data_length_at, data_count_at, header_at, shape_at, shapes_at, regions_at, parts_at, reading}
 use Rattle.sbx_image.specs.Spelling.{IsTyped, IsTypedRange, IsTypedCell, IsTypedTerm, IsTypedBlock, IsTypedFunction, signed, kind_code, range_text, region_text, right_code, shape_text, cell_text, term_text, block_text, function_head_text, function_text, data_count_text, shapes_text, header_text, spelling}
 use Rattle.sbx_parts.specs.declared.parts.Region.{Region}
 use Rattle.sbx_parts.specs.Regions.{byte_count, pages_for}
-use Rattle.sbx_image.proofs.DataLaws.{count_keeps, one_again}
+use Rattle.sbx_image.proofs.DataLaws.{both_are, count_keeps, one_again}
 use Rattle.sbx_image.proofs.RegionLaws.{shape_code, shape_keeps, shapes_of, shapes_spelled}
 use Rattle.sbx_image.proofs.Fields.{bind_ok, wanted, both_true, ok_is, wants_true, number_reads, number_in_reads, signed_reads, bytes_again, wide8, wide16, wide32, wide64, signed32, signed64}
-use Rattle.sbx_image.proofs.TakesLaws.{head_text, HeadKeeps, counts_text, data_keeps, data_text, HeaderKeeps}
+use Rattle.sbx_image.proofs.TakesLaws.{head_text, HeadKeeps, counts_text, data_keeps, data_of, data_text, HeaderKeeps, lengths_at}
 use Rattle.sbx_parts.proofs.Limits.{range_kept, location_kept, cell_kept, term_kept, block_kept, function_kept, parts_kept}
 
 -- a step that gives what is known, and then the rest
@@ -211,7 +211,9 @@ header_reads h bytes rest b k version services =
     let r3 = to_be_bytes w16 h.stack_pages ++ r4 in
     let r2 = data_text (h.version == 1) h.data_count ++ r3 in
     let r1 = to_be_bytes w32 h.words ++ r2 in
-    then_is _ _ _ _ (services_read h.version h.services bytes r1 b version services k.version k.services)
+    let in_turn : bytes ≡ to_be_bytes w32 0x53425838 ++ (to_be_bytes w16 h.version ++ (to_be_bytes w16 h.services.0 ++ r1))
+    = b ∙ ap (λ (t : List ℕ). to_be_bytes w32 0x53425838 ++ (to_be_bytes w16 h.version ++ (to_be_bytes w16 h.services.0 ++ (to_be_bytes w32 h.words ++ t)))) (unnest3 (data_text (h.version == 1) h.data_count) (to_be_bytes w16 h.stack_pages) (to_be_bytes w16 h.functions) rest) in
+    then_is _ _ _ _ (services_read h.version h.services bytes r1 in_turn version services k.version k.services)
     (then_is _ _ _ _ (number_in_reads w32 (2 ^ 32) wide32 1 65536 fault.Limit h.words r1 r2 refl (lit< tt) k.words)
     (then_is _ _ _ _ (data_count_reads (h.version == 1) h.data_count r3 k.data_count)
     (then_is _ _ _ _ (number_in_reads w16 (2 ^ 16) wide16 1 16 fault.Limit h.stack_pages r3 r4 refl (lit< tt) k.stack_pages)
@@ -254,8 +256,7 @@ shape_count [] = refl
 shape_count (r ∷ rs) = ap suc (shape_count rs)
 
 shapes_read : (one : Bool) (rs : List Region) (pages : ℕ) (rest : List ℕ) → (if one then is_one_region rs else leb (length rs) 8) ≡ true → each region_keeps 0 rs ≡ Ok pages
-    → (if one then Ok (shape_of (if one then byte_count rs else length rs), (if one then [] else flat_map shape_text rs) ++ rest)
-       else (items_at shape_at (if one then byte_count rs else length rs) (0, (if one then [] else flat_map shape_text rs) ++ rest) >>= λ shapes. Ok (shapes.0, shapes.1.1))) ≡ Ok (shapes_of rs, rest)
+    → lengths_at one (if one then byte_count rs else length rs) ((if one then [] else flat_map shape_text rs) ++ rest) ≡ Ok (shapes_of rs, rest)
 shapes_read true rs pages rest kept lengths = ap (λ (shapes : List Shape). Ok (shapes, rest)) (one_again rs kept)
 shapes_read false rs pages rest kept lengths =
     rw (← shapes_spelled rs, ← shape_count rs)
@@ -283,11 +284,7 @@ all_words (w ∷ ws) = all_words ws
 
 count_kept : (one : Bool) (rs : List Region) → (if one then is_one_region rs else leb (length rs) 8) ≡ true → data_keeps one (if one then byte_count rs else length rs) ≡ true
 count_kept true rs e = count_keeps rs e
-count_kept false rs e = e
-
-data_of : (one : Bool) (p : Parts) → (if one then to_be_bytes w32 (byte_count p.regions) else to_be_bytes w16 (length p.regions)) ≡ data_text one (if one then byte_count p.regions else length p.regions)
-data_of true p = refl
-data_of false p = refl
+count_kept false rs e = both_are (leb 0 (length rs)) (leb (length rs) 8) (le-leb 0 (length rs) (omega arith)) e
 
 parts_read : (p : Parts) (rest : List ℕ) → IsTyped p → parts_keep p ≡ Ok tt → parts_at (spelling p ++ rest) ≡ Ok (p, rest)
 unfolding parts_at shapes_at data_count_text shapes_text header_text spelling
@@ -301,7 +298,7 @@ parts_read p rest typed e =
     let bytes = flat_map region_text p.regions in
     let end = code_start + 4 * length p.words in
     let behind = words ++ (bytes ++ (functions ++ rest)) in
-    let counted : header_text p ≡ counts_text header = ap (λ (t : List ℕ). to_be_bytes w32 0x53425838 ++ to_be_bytes w16 p.version ++ to_be_bytes w16 p.services.0 ++ to_be_bytes w32 (length p.words) ++ t ++ to_be_bytes w16 p.stack_pages ++ to_be_bytes w16 (length p.functions)) (data_of one p) in
+    let counted : header_text p ≡ counts_text header = ap (λ (t : List ℕ). to_be_bytes w32 0x53425838 ++ to_be_bytes w16 p.version ++ to_be_bytes w16 p.services.0 ++ to_be_bytes w32 (length p.words) ++ t ++ to_be_bytes w16 p.stack_pages ++ to_be_bytes w16 (length p.functions)) (sym (data_of one p.regions)) in
     let grouped : spelling p ++ rest ≡ counts_text header ++ (shapes ++ behind) = ap (λ (t : List ℕ). (t ++ shapes ++ words ++ bytes ++ functions) ++ rest) counted ∙ append_assoc (counts_text header ++ shapes ++ words ++ bytes) functions rest ∙ unnest4 (counts_text header) shapes words bytes (functions ++ rest) in
     let keeps : HeaderKeeps header = record { version = k.version; services = k.services; words = k.word_count; data_count = count_kept one p.regions k.regions; stack_pages = k.stack_pages; functions = k.function_count } in
     then_is _ _ _ _ (header_reads header (spelling p ++ rest) (shapes ++ behind) grouped keeps typed.version typed.services)

@@ -1,5 +1,6 @@
 pub mod Loops
 pub mod Fields
+pub mod Lengths
 pub mod DataLaws
 pub mod RegionLaws
 pub mod VersionLaws

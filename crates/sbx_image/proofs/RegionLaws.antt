@@ -1,6 +1,6 @@
 -- Regions as lengths and kinds, and as bytes: what is read of them keeps the rules and is spelled so.
-use Rattle.std.proofs.Common.{◌≡◌, ℕ, zero, suc, ◌+◌, ◌*◌, ◌^◌, ◌≤◌, Bool, true, false, ltb, leb, ◌&&◌, List, [], ◌∷◌, ◌++◌, length, Result, Ok, refl, sym, ap, subst, ◌∙◌, append_assoc, arith}
-use Rattle.std.specs.Prelude.{◌==◌, if◌then◌else◌}
+use Rattle.std.proofs.Common.{◌≡◌, ℕ, zero, suc, ◌+◌, ◌^◌, ◌≤◌, List, [], ◌∷◌, ◌++◌, length, Result, Ok, refl, sym, ap, subst, ◌∙◌, arith}
+use Rattle.std.specs.Prelude.{◌==◌}
 use Rattle.std.specs.Int.{w16, w32, to_be_bytes}
 use Rattle.std.specs.List.{flat_map}
 use Rattle.std.proofs.lemmas.List.Concat.{flat_map-cons}
@@ -8,9 +8,9 @@ use Rattle.sbx_parts.specs.declared.fault.ImageFault.{ImageFault}
 use Rattle.sbx_parts.specs.declared.fault.ImageFault.TheVariants as fault
 use Rattle.sbx_parts.specs.declared.parts.Region.{Region}
 use Rattle.sbx_image.specs.declared.heads.Shape.{Shape}
-use Rattle.sbx_parts.specs.Regions.{byte_count, pages_for}
-use Rattle.sbx_parts.specs.Rules.{◌>>=◌, wants, between, each, is_data_length, is_one_region, is_length_behind, region_keeps}
-use Rattle.sbx_image.specs.Reading.{number_in, data_length_at, shape_at, regions_at}
+use Rattle.sbx_parts.specs.Regions.{pages_for}
+use Rattle.sbx_parts.specs.Rules.{◌>>=◌, wants, each, is_length_behind, region_keeps}
+use Rattle.sbx_image.specs.Reading.{shape_at, regions_at}
 use Rattle.sbx_image.specs.Spelling.{IsBytes, right_code, region_text, shape_text}
 use Rattle.sbx_image.proofs.Fields.{bind_ok, wanted, is_between, ok_is, Takes, Takes-then, wide16, wide32, number_takes, number_in_takes, bytes_take}
 
@@ -32,8 +32,8 @@ shape_keeps pages s = do
 
 -- a kind of 0 or 1 is what its right is spelled as
 pub right_again : (n : ℕ) → n ≤ 1 → right_code (n == 1) ≡ n
-right_again 0 le = refl
-right_again (suc 0) le = refl
+right_again zero le = refl
+right_again (suc zero) le = refl
 right_again (suc (suc n)) le = absurd (omega (arith, le))
 
 pub shape_takes : (pages : ℕ) (bytes : List ℕ) (x : Shape × (ℕ × List ℕ)) → IsBytes bytes → shape_at (pages, bytes) ≡ Ok x → Takes bytes (shape_code x.0) x.1.1 × (shape_keeps pages x.0 ≡ Ok x.1.0)

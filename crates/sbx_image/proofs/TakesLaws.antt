@@ -25,13 +25,14 @@ use Rattle.sbx_parts.specs.declared.parts.Block.{Block}
 use Rattle.sbx_parts.specs.declared.parts.Function.{Function}
 use Rattle.sbx_parts.specs.declared.parts.Parts.{Parts}
 use Rattle.sbx_parts.specs.declared.services.Services.{Services}
-use Rattle.sbx_parts.specs.Rules.{◌>>=◌, between, each, Place, code_start, admits, is_fuel, is_coefficient, is_known, is_version, is_data, is_data_length, in_order, range_keeps, location_keeps, cell_keeps, term_keeps, block_keeps, function_keeps, parts_keep}
+use Rattle.sbx_parts.specs.Rules.{◌>>=◌, between, each, Place, code_start, admits, is_fuel, is_coefficient, is_known, is_version, is_data_length, in_order, range_keeps, location_keeps, cell_keeps, term_keeps, block_keeps, function_keeps, parts_keep}
 use Rattle.sbx_image.specs.Reading.{number_at, number_in, items_at, range_at, location_at, cell_at, term_at, block_head_at, block_at, kind_at, counts_at, bounds_at, function_head_at, function_at, services_at, data_length_at, data_count_at, header_at, shape_at, shapes_at, shape_of, parts_at, reading}
-use Rattle.sbx_image.specs.Spelling.{IsBytes, signed, kind_code, range_text, region_text, cell_text, term_text, block_text, function_head_text, function_text, data_count_text, shapes_text, header_text, spelling}
+use Rattle.sbx_image.specs.Spelling.{IsBytes, signed, kind_code, range_text, region_text, cell_text, term_text, block_text, function_head_text, function_text, shape_text, data_count_text, shapes_text, header_text, spelling}
+use Rattle.sbx_parts.specs.declared.parts.Region.{Region}
 use Rattle.sbx_parts.specs.Regions.{byte_count}
 use Rattle.sbx_image.proofs.RegionLaws.{regions_take, shape_code, shape_keeps, shape_takes}
 use Rattle.sbx_image.proofs.VersionLaws.{LengthsRead, regions_read}
-use Rattle.sbx_image.proofs.Fields.{bind_ok, wanted, is_between, ok_is, Takes, Takes-then, wide8, wide16, wide32, wide64, signed32, signed64, number_takes, number_in_takes, signed_takes, bytes_take}
+use Rattle.sbx_image.proofs.Fields.{bind_ok, wanted, is_between, ok_is, Takes, Takes-then, wide8, wide16, wide32, wide64, signed32, signed64, number_takes, number_in_takes, signed_takes}
 
 range_keeps_by : (r : Range) → in_order r.lo r.hi ≡ true → between 0 3 r.alignment ≡ true → range_keeps r ≡ Ok tt
 unfolding range_keeps
@@ -262,6 +263,11 @@ data_text one n = if one then to_be_bytes w32 n else to_be_bytes w16 n
 abbrev pub data_keeps : Bool → ℕ → Bool
 data_keeps one n = if one then is_data_length n else between 0 8 n
 
+-- what is counted in the one version and in the other
+pub data_of : (one : Bool) (rs : List Region) → data_text one (if one then byte_count rs else length rs) ≡ (if one then to_be_bytes w32 (byte_count rs) else to_be_bytes w16 (length rs))
+data_of true rs = refl
+data_of false rs = refl
+
 abbrev pub counts_text : Header → List ℕ
 counts_text h = to_be_bytes w32 0x53425838 ++ to_be_bytes w16 h.version ++ to_be_bytes w16 h.services.0 ++ to_be_bytes w32 h.words ++ data_text (h.version == 1) h.data_count ++ to_be_bytes w16 h.stack_pages ++ to_be_bytes w16 h.functions
 
@@ -334,15 +340,17 @@ abbrev shapes_code : Bool → List Shape → List ℕ
 shapes_code one shapes = if one then [] else flat_map shape_code shapes
 
 -- the regions' lengths and kinds, where the header says how many
-shapes_take : (one : Bool) (n : ℕ) (bytes : List ℕ) (x : List Shape × List ℕ) → IsBytes bytes
-    → (if one then Ok (shape_of n, bytes) else (items_at shape_at n (0, bytes) >>= λ shapes. Ok (shapes.0, shapes.1.1))) ≡ Ok x → Takes bytes (shapes_code one x.0) x.1 × LengthsRead one n x.0
+abbrev pub lengths_at : Bool → ℕ → List ℕ → Result (List Shape × List ℕ) ImageFault
+lengths_at one n bytes = if one then Ok (shape_of n, bytes) else (items_at shape_at n (0, bytes) >>= λ shapes. Ok (shapes.0, shapes.1.1))
+
+shapes_take : (one : Bool) (n : ℕ) (bytes : List ℕ) (x : List Shape × List ℕ) → IsBytes bytes → lengths_at one n bytes ≡ Ok x → Takes bytes (shapes_code one x.0) x.1 × LengthsRead one n x.0
 shapes_take true n bytes x fits e =
     subst (λ (y : List Shape × List ℕ). Takes bytes [] y.1 × (y.0 ≡ shape_of n)) (ok_is (shape_of n, bytes) x e) (record { parts = refl; rest_fits = fits }, refl)
 shapes_take false n bytes x fits e =
     let shapes = bind_ok _ _ _ e in
     let t = items_take shape_at (λ y. y.1) (λ y. y.0) shape_keeps shape_code (λ y z g k. shape_takes y.0 y.1 z g k) n (0, bytes) shapes.0 fits shapes.1 in
     subst (λ (y : List Shape × List ℕ). Takes bytes (flat_map shape_code y.0) y.1 × LengthsRead false n y.0) (ok_is (shapes.0.0, shapes.0.1.1) x shapes.2)
-    (t.0, t.1, shapes.0.1.0, t.2)
+    (t.0, (t.1, shapes.0.1.0, t.2))
 
 parts_take : (bytes : List ℕ) (x : Parts × List ℕ) → IsBytes bytes → parts_at bytes ≡ Ok x → Takes bytes (spelling x.0) x.1 × (parts_keep x.0 ≡ Ok tt)
 unfolding parts_at shapes_at data_count_text shapes_text header_text spelling parts_keep
@@ -366,9 +374,12 @@ parts_take bytes x fits e =
     let whole = subst (λ (g : Header). Takes bytes (counts_text g ++ shapes_code one shapes.0.0 ++ flat_map (to_be_bytes w32) words.0.0 ++ flat_map region_text regions.0.0 ++ flat_map function_text functions.0.0) functions.0.1.1) same lists in
     let k : HeaderKeeps counted = subst HeaderKeeps same h.1 in
     let in_turn : each (function_keeps (code_start + 4 * length words.0.0)) (Exactly code_start, 0) functions.0.0 ≡ Ok functions.0.1.0 = subst (λ (n : ℕ). each (function_keeps (code_start + 4 * n)) (Exactly code_start, 0) functions.0.0 ≡ Ok functions.0.1.0) (sym w.1) f.2 in
+    let lengths = subst (λ (t : List ℕ). Takes bytes (counts_text counted ++ t ++ flat_map (to_be_bytes w32) words.0.0 ++ flat_map region_text regions.0.0 ++ flat_map function_text functions.0.0) functions.0.1.1) r.spelled whole in
+    let named = subst (λ (t : List ℕ). Takes bytes (to_be_bytes w32 0x53425838 ++ to_be_bytes w16 header.0.0.version ++ to_be_bytes w16 header.0.0.services.0 ++ to_be_bytes w32 (length words.0.0) ++ t ++ to_be_bytes w16 header.0.0.stack_pages ++ to_be_bytes w16 (length functions.0.0)
+    ++ (if one then [] else flat_map shape_text regions.0.0) ++ flat_map (to_be_bytes w32) words.0.0 ++ flat_map region_text regions.0.0 ++ flat_map function_text functions.0.0) functions.0.1.1) (data_of one regions.0.0) lengths in
     let made : Parts × List ℕ = (record { version = header.0.0.version; services = header.0.0.services; words = words.0.0; regions = regions.0.0; stack_pages = header.0.0.stack_pages; functions = functions.0.0 }, functions.0.1.1) in
     subst (λ (y : Parts × List ℕ). Takes bytes (spelling y.0) y.1 × (parts_keep y.0 ≡ Ok tt)) (ok_is made x functions.2)
-    (subst (λ (t : List ℕ). Takes bytes (counts_text counted ++ t ++ flat_map (to_be_bytes w32) words.0.0 ++ flat_map region_text regions.0.0 ++ flat_map function_text functions.0.0) functions.0.1.1) r.spelled whole, rw (k.version, k.services, k.words, r.kept, k.stack_pages, k.functions, r.lengths, in_turn) refl)
+    (named, rw (k.version, k.services, k.words, r.kept, k.stack_pages, k.functions, r.lengths, in_turn) refl)
 
 pub reading_takes : (bytes : List ℕ) (p : Parts) → IsBytes bytes → reading bytes ≡ Ok p → (bytes ≡ spelling p) × (parts_keep p ≡ Ok tt)
 unfolding reading

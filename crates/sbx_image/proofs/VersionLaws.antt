@@ -1,15 +1,12 @@
 -- The regions of either version: what is read of their lengths and bytes keeps the rules.
-use Rattle.std.proofs.Common.{◌≡◌, ℕ, zero, suc, ◌+◌, ◌≤◌, Bool, true, false, ltb, leb, ◌&&◌, List, [], ◌∷◌, ◌++◌, length, Result, Ok, refl, sym, ap, subst, ◌∙◌, arith}
-use Rattle.std.specs.Prelude.{◌==◌, if◌then◌else◌}
-use Rattle.std.specs.Int.{w16, w32, to_be_bytes}
+use Rattle.std.proofs.Common.{◌≡◌, ℕ, suc, ◌+◌, ◌≤◌, Bool, true, false, ltb, leb, List, [], ◌∷◌, length, Ok, refl, sym, ap, subst, ◌∙◌, arith}
+use Rattle.std.specs.Prelude.{if◌then◌else◌}
 use Rattle.std.specs.List.{flat_map}
 use Rattle.std.proofs.lemmas.Bool.{leb-true, le-leb}
-use Rattle.sbx_parts.specs.declared.fault.ImageFault.{ImageFault}
-use Rattle.sbx_parts.specs.declared.fault.ImageFault.TheVariants as fault
 use Rattle.sbx_parts.specs.declared.parts.Region.{Region}
 use Rattle.sbx_image.specs.declared.heads.Shape.{Shape}
 use Rattle.sbx_parts.specs.Regions.{byte_count, pages_for}
-use Rattle.sbx_parts.specs.Rules.{◌>>=◌, wants, between, each, is_data_length, is_one_region, is_length_behind, region_keeps}
+use Rattle.sbx_parts.specs.Rules.{between, each, is_data_length, is_one_region, region_keeps}
 use Rattle.sbx_parts.proofs.Steps.{both_true, is_between}
 use Rattle.sbx_image.specs.Reading.{shape_of}
 use Rattle.sbx_image.specs.Spelling.{shape_text}
@@ -56,7 +53,7 @@ regions_read false n shapes rs read same keeps =
     record {
       kept = le-leb _ _ (omega (arith, count, (is_between 0 8 n keeps).1));
       count = sym count;
-      pages = read.1.0;
-      lengths = regions_keep rs 0 read.1.0 (subst (λ (ts : List Shape). each shape_keeps 0 ts ≡ Ok read.1.0) (sym same) read.1.1);
+      pages = read.1;
+      lengths = regions_keep rs 0 read.1 (subst (λ (ts : List Shape). each shape_keeps 0 ts ≡ Ok read.1) (sym same) read.2);
       spelled = ap (flat_map shape_code) (sym same) ∙ shapes_spelled rs;
     }

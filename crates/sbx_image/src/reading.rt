@@ -393,7 +393,8 @@ fn services_in(bytes: &[u8]) -> Result<((u16, Services), &[u8]), ImageFault>
 
 #[tactic(auto, unfolding(crate::specs::Reading::data_length_at))]
 fn data_length_of(bytes: &[u8]) -> Result<(u32, &[u8]), ImageFault>
-    ensures { Gives (λ x. (x.0, x.1.now)) result (data_length_at bytes.now) }
+    ensures reads { Gives (λ x. (x.0, x.1.now)) result (data_length_at bytes.now) }
+    ensures bound { IfOk result (λ x. x.0 ≤ 262144) }
 {
     let (data_bytes, rest) = u32_at(bytes)?;
     if !(data_bytes <= 262144 && data_bytes % 8 == 0) {
@@ -405,7 +406,8 @@ fn data_length_of(bytes: &[u8]) -> Result<(u32, &[u8]), ImageFault>
 /// How many bytes of data version 1 has, or how many regions version 2 has.
 #[tactic(auto, unfolding(crate::specs::Reading::data_count_at))]
 fn data_count_of(version: u16, bytes: &[u8]) -> Result<(u32, &[u8]), ImageFault>
-    ensures { Gives (λ x. (x.0, x.1.now)) result (data_count_at version bytes.now) }
+    ensures reads { Gives (λ x. (x.0, x.1.now)) result (data_count_at version bytes.now) }
+    ensures bound { IfOk result (λ x. x.0 ≤ 262144) }
 {
     if version == 1 {
         return data_length_of(bytes);
