@@ -262,7 +262,7 @@ header_typed bytes x fits e =
     subst (λ (y : Header × List ℕ). IsTypedStart (y.0.version, y.0.services) × IsBytes y.1) (ok_is made x functions.2) (t0.0, t4.0.rest_fits)
 
 shape_left : (c : ℕ × List ℕ) (x : Shape × (ℕ × List ℕ)) → IsBytes c.1 → shape_at c ≡ Ok x → any Shape x.0 × IsBytes x.1.1
-unfolding shape_at
+unfolding shape_at any
 shape_left c x fits e =
     let size = bind_ok _ _ _ e in
     let within = wanted (is_length_behind c.0 size.0.0) fault.Limit _ _ size.2 in
