@@ -6,20 +6,20 @@ use Rattle.v8_board.proofs.board.Board.new.Goals as goal
 pub invariant_of-result : goal.invariant_of-result
 invariant_of-result g c = search rules
 
-pub returns-in-Ok-clause-made : goal.returns-in-Ok-clause-made
-returns-in-Ok-clause-made g c =
+pub returns-clause-made : goal.returns-clause-made
+returns-clause-made g c =
     record {
-      cpu = c.new-in-Ok.ensures.cpu;
-      ram = rw c.new-in-Ok.ensures.bus c.in-Ok.ensures.ram;
+      cpu = c.new-2.ensures.cpu;
+      ram = rw c.new-2.ensures.bus c.in_ok-new.ensures.ram;
       device = search rules;
-      mmu = rw c.new-in-Ok.ensures.mmu refl;
+      mmu = rw c.new-2.ensures.mmu refl;
       counts = refl;
     }
 
-pub returns-in-Ok-clause-state : goal.returns-in-Ok-clause-state
-returns-in-Ok-clause-state g c =
-    let blank = c.in-Ok.ensures.ram in
-    let size : length c.new-in-Ok.result.bus.ram ≡ 0x100000 = rw c.new-in-Ok.ensures.bus blank.size in
-    let bytes : AreBytes c.new-in-Ok.result.bus.ram = rw c.new-in-Ok.ensures.bus (blank_bytes c.in-Ok.memory.ram blank) in
-    boots_state g.row.N _ c.new-in-Ok.result.cpu c.new-in-Ok.result.bus.ram c.new-in-Ok.result.mmu _ c.new-in-Ok.ensures.cpu (lit< tt) c.new-in-Ok.ensures.file
-    size bytes (rw c.new-in-Ok.ensures.mmu refl)
+pub returns-clause-state : goal.returns-clause-state
+returns-clause-state g c =
+    let blank = c.in_ok-new.ensures.ram in
+    let size : length c.new-2.result.bus.ram ≡ 0x100000 = rw c.new-2.ensures.bus blank.size in
+    let bytes : AreBytes c.new-2.result.bus.ram = rw c.new-2.ensures.bus (blank_bytes c.in_ok-new.field-0.ram blank) in
+    boots_state g.row.N _ c.new-2.result.cpu c.new-2.result.bus.ram c.new-2.result.mmu _ c.new-2.ensures.cpu (lit< tt) c.new-2.ensures.file
+    size bytes (rw c.new-2.ensures.mmu refl)
