@@ -1,6 +1,6 @@
 -- The parts that are read from bytes are an image's: each number that is read is one that its field can hold.
 use Rattle.std.proofs.Common.{◌≡◌, ℕ, zero, suc, ◌+◌, ◌-◌, ◌*◌, ◌^◌, ◌<◌, ℤ, ltb, eqb, true, List, [], ◌∷◌, ◌++◌, length, Result, Ok, subst, arith}
-use Rattle.std.specs.Prelude.{pos, negsuc, ◌≤ℤ◌, FitsSigned, unsigned_abs}
+use Rattle.std.specs.Prelude.{◌==◌, pos, negsuc, ◌≤ℤ◌, FitsSigned, unsigned_abs}
 use Rattle.std.specs.Int.{cast_signed, w8, w16, w32, w64}
 use Rattle.std.specs.List.{AllByRecursion}
 use Rattle.std.proofs.lemmas.Int.{fits_signed_from_abs, ints}
@@ -11,6 +11,7 @@ use Rattle.sbx_image.specs.declared.heads.BlockHead.{BlockHead}
 use Rattle.sbx_image.specs.declared.heads.Counts.{Counts}
 use Rattle.sbx_image.specs.declared.heads.FunctionHead.{FunctionHead}
 use Rattle.sbx_image.specs.declared.heads.Header.{Header}
+use Rattle.sbx_image.specs.declared.heads.Shape.{Shape}
 use Rattle.sbx_image.specs.Next.{Next}
 use Rattle.sbx_image.specs.Next.TheVariants.{Above, Exactly}
 use Rattle.sbx_image.specs.Block.{Block}
@@ -18,13 +19,14 @@ use Rattle.sbx_image.specs.Cell.{Cell}
 use Rattle.sbx_image.specs.Function.{Function}
 use Rattle.sbx_image.specs.Parts.{Parts}
 use Rattle.sbx_image.specs.Range.{Range}
+use Rattle.sbx_image.specs.Region.{Region}
 use Rattle.sbx_image.specs.Term.{Term}
 use Rattle.sbx_image.specs.Services.{Services}
-use Rattle.sbx_image.specs.Reading.{block_at, block_head_at, bounds_at, cell_at, counts_at, data_length_at, function_at, function_head_at, header_at, items_at, kind_at, location_at, number_at, parts_at, range_at, reading, regions_of, services_at, signed_at, term_at}
-use Rattle.sbx_image.specs.Rules.{Place, admits, code_start, in_order, is_coefficient, is_fuel, is_known, is_version, is_data_length}
+use Rattle.sbx_image.specs.Reading.{block_at, block_head_at, bounds_at, cell_at, counts_at, data_count_at, function_at, function_head_at, header_at, items_at, kind_at, location_at, number_at, number_in, parts_at, range_at, reading, regions_at, services_at, shapes_at, signed_at, term_at}
+use Rattle.sbx_image.specs.Rules.{Place, admits, code_start, in_order, is_coefficient, is_fuel, is_known, is_version}
 use Rattle.sbx_image.specs.Spelling.{IsBytes, IsTyped, IsTypedBlock, IsTypedCell, IsTypedFunction, IsTypedRange, IsTypedRegion, IsTypedTerm}
 use Rattle.sbx_image.proofs.Fields.{bind_ok, bytes_take, number_in_takes, number_takes, ok_is, wanted, wide16, wide32, wide64, wide8}
-use Rattle.sbx_image.proofs.TakesLaws.{reading_takes}
+use Rattle.sbx_image.proofs.TakesLaws.{header_takes, reading_takes, shapes_take}
 use Rattle.sbx_range.proofs.Words.{signed-high, signed-low}
 use Rattle.sbx_flat.specs.Runs.{AreBytes}
 use Rattle.sbx_sound.specs.Law.{WhatIsReadIsFormed}
@@ -219,7 +221,7 @@ record IsTypedStart (x : ℕ × Services) : Type 0 where
   version : x.0 < 2 ^ 16
   services : x.1.0 < 2 ^ 16
 
-services_typed : (bytes : List ℕ) (x : (ℕ × Services) × List ℕ) → IsBytes bytes → services_at bytes ≡ Ok x → IsTypedStart x.0 × IsBytes x.1
+services_typed : (bytes : List ℕ) (x : (ℕ × Services) × List ℕ) → IsBytes bytes → services_at bytes ≡ Ok x → IsTypedStart x.0
 unfolding services_at
 services_typed bytes x fits e =
     let magic = bind_ok _ _ _ e in
@@ -231,25 +233,18 @@ services_typed bytes x fits e =
     let t1 = number_takes w16 (2 ^ 16) wide16 magic.0.1 version.0 t0.0.rest_fits version.1 in
     let t2 = number_takes w16 (2 ^ 16) wide16 version.0.1 services.0 t1.0.rest_fits services.1 in
     let made : (ℕ × Services) × List ℕ = ((version.0.0, record { 0 = services.0.0 }), services.0.1) in
-    subst (λ (y : (ℕ × Services) × List ℕ). IsTypedStart y.0 × IsBytes y.1) (ok_is made x known.1) (record { version = t1.1; services = t2.1 }, t2.0.rest_fits)
+    subst (λ (y : (ℕ × Services) × List ℕ). IsTypedStart y.0) (ok_is made x known.1) (record { version = t1.1; services = t2.1 })
 
-header_typed : (bytes : List ℕ) (x : Header × List ℕ) → IsBytes bytes → header_at bytes ≡ Ok x → IsTypedStart (x.0.version, x.0.services) × IsBytes x.1
-unfolding header_at data_length_at
+header_typed : (bytes : List ℕ) (x : Header × List ℕ) → IsBytes bytes → header_at bytes ≡ Ok x → IsTypedStart (x.0.version, x.0.services)
+unfolding header_at
 header_typed bytes x fits e =
-    let services = bind_ok _ _ _ e in
-    let words = bind_ok _ _ _ services.2 in
-    let data_bytes = bind_ok _ _ _ words.2 in
-    let stack_pages = bind_ok _ _ _ data_bytes.2 in
-    let functions = bind_ok _ _ _ stack_pages.2 in
-    let t0 = services_typed bytes services.0 fits services.1 in
-    let t1 = number_in_takes w32 (2 ^ 32) wide32 1 65536 fault.Limit services.0.1 words.0 t0.1 words.1 in
-    let count = bind_ok _ _ _ data_bytes.1 in
-    let whole_slots = wanted (is_data_length count.0.0) fault.Limit _ _ count.2 in
-    let t2 = number_takes w32 (2 ^ 32) wide32 words.0.1 count.0 t1.0.rest_fits count.1 in
-    let t3 = number_in_takes w16 (2 ^ 16) wide16 1 16 fault.Limit data_bytes.0.1 stack_pages.0 (subst (λ y. IsBytes y.1) (ok_is count.0 data_bytes.0 whole_slots.1) t2.0.rest_fits) stack_pages.1 in
-    let t4 = number_in_takes w16 (2 ^ 16) wide16 1 256 fault.Limit stack_pages.0.1 functions.0 t3.0.rest_fits functions.1 in
-    let made : Header × List ℕ = (record { version = services.0.0.0; services = services.0.0.1; words = words.0.0; bytes = data_bytes.0.0; stack_pages = stack_pages.0.0; functions = functions.0.0 }, functions.0.1) in
-    subst (λ (y : Header × List ℕ). IsTypedStart (y.0.version, y.0.services) × IsBytes y.1) (ok_is made x functions.2) (t0.0, t4.0.rest_fits)
+    let services = bind_ok (services_at bytes) _ x e in
+    let words = bind_ok (number_in w32 1 65536 fault.Limit services.0.1) _ x services.2 in
+    let data_count = bind_ok (data_count_at services.0.0.0 words.0.1) _ x words.2 in
+    let stack_pages = bind_ok (number_in w16 1 16 fault.Limit data_count.0.1) _ x data_count.2 in
+    let functions = bind_ok (number_in w16 1 256 fault.Limit stack_pages.0.1) _ x stack_pages.2 in
+    let made : Header × List ℕ = (record { version = services.0.0.0; services = services.0.0.1; words = words.0.0; data_count = data_count.0.0; stack_pages = stack_pages.0.0; functions = functions.0.0 }, functions.0.1) in
+    subst (λ (y : Header × List ℕ). IsTypedStart (y.0.version, y.0.services)) (ok_is made x functions.2) (services_typed bytes services.0 fits services.1)
 
 -- the bytes in front are bytes
 front_bytes : (xs ys : List ℕ) → IsBytes (xs ++ ys) → AreBytes xs
@@ -257,26 +252,35 @@ front_bytes [] ys fits i = omega arith
 front_bytes (x ∷ xs) ys fits zero = fits 0
 front_bytes (x ∷ xs) ys fits (suc i) = front_bytes xs ys (λ j. fits (suc j)) i
 
-regions_typed : (bytes : List ℕ) → AreBytes bytes → AllByRecursion IsTypedRegion (regions_of bytes)
-regions_typed [] fits = tt
-regions_typed (b ∷ bytes) fits = (fits, tt)
+regions_typed : (shapes : List Shape) (bytes : List ℕ) (x : List Region × List ℕ) → IsBytes bytes → regions_at shapes bytes ≡ Ok x → AllByRecursion IsTypedRegion x.0 × IsBytes x.1
+unfolding regions_at
+regions_typed [] bytes x fits e = subst (λ (y : List Region × List ℕ). AllByRecursion IsTypedRegion y.0 × IsBytes y.1) (ok_is ([], bytes) x e) (tt, fits)
+regions_typed (s ∷ shapes) bytes x fits e =
+    let own = bind_ok _ _ _ e in
+    let others = bind_ok _ _ _ own.2 in
+    let first = (bytes_take s.bytes bytes own.0 fits own.1).0 in
+    let behind = regions_typed shapes own.0.1 others.0 first.rest_fits others.1 in
+    let made : List Region × List ℕ = (record { bytes = own.0.0; writable = s.writable } ∷ others.0.0, others.0.1) in
+    subst (λ (y : List Region × List ℕ). AllByRecursion IsTypedRegion y.0 × IsBytes y.1) (ok_is made x others.2) ((front_bytes own.0.0 own.0.1 (subst IsBytes first.parts fits), behind.0), behind.1)
 
 parts_typed : (bytes : List ℕ) (x : Parts × List ℕ) → IsBytes bytes → parts_at bytes ≡ Ok x → IsTyped x.0
-unfolding parts_at
+unfolding parts_at shapes_at
 parts_typed bytes x fits e =
     let header = bind_ok _ _ _ e in
-    let words = bind_ok _ _ _ header.2 in
-    let data_bytes = bind_ok _ _ _ words.2 in
-    let functions = bind_ok _ _ _ data_bytes.2 in
+    let shapes = bind_ok _ _ _ header.2 in
+    let words = bind_ok _ _ _ shapes.2 in
+    let regions = bind_ok _ _ _ words.2 in
+    let functions = bind_ok _ _ _ regions.2 in
     let end = code_start + 4 * header.0.0.words in
     let h = header_typed bytes header.0 fits header.1 in
-    let w = items_typed (number_at w32) (λ y. y) (λ n. n < 2 ^ 32) word_typed header.0.0.words header.0.1 words.0 h.1 words.1 in
-    let d = (bytes_take header.0.0.bytes words.0.1 data_bytes.0 w.1 data_bytes.1).0 in
-    let f = items_typed (function_at end) (λ y. y.1) IsTypedFunction (function_typed end) header.0.0.functions ((Exactly code_start, 0), data_bytes.0.1) functions.0 d.rest_fits functions.1 in
-    let made : Parts × List ℕ = (record { version = header.0.0.version; services = header.0.0.services; words = words.0.0; regions = regions_of data_bytes.0.0; stack_pages = header.0.0.stack_pages; functions = functions.0.0 }, functions.0.1.1) in
-    let region_bytes = regions_typed data_bytes.0.0 (front_bytes data_bytes.0.0 data_bytes.0.1 (subst IsBytes d.parts w.1)) in
+    let start = (header_takes bytes header.0 fits header.1).0 in
+    let s = (shapes_take (header.0.0.version == 1) header.0.0.data_count header.0.1 shapes.0 start.rest_fits shapes.1).0 in
+    let w = items_typed (number_at w32) (λ y. y) (λ n. n < 2 ^ 32) word_typed header.0.0.words shapes.0.1 words.0 s.rest_fits words.1 in
+    let d = regions_typed shapes.0.0 words.0.1 regions.0 w.1 regions.1 in
+    let f = items_typed (function_at end) (λ y. y.1) IsTypedFunction (function_typed end) header.0.0.functions ((Exactly code_start, 0), regions.0.1) functions.0 d.1 functions.1 in
+    let made : Parts × List ℕ = (record { version = header.0.0.version; services = header.0.0.services; words = words.0.0; regions = regions.0.0; stack_pages = header.0.0.stack_pages; functions = functions.0.0 }, functions.0.1.1) in
     subst (λ (y : Parts × List ℕ). IsTyped y.0) (ok_is made x functions.2)
-    (record { version = h.0.version; services = h.0.services; words = w.0; regions = region_bytes; functions = f.0 })
+    (record { version = h.version; services = h.services; words = w.0; regions = d.0; functions = f.0 })
   where
     word_typed : (c : List ℕ) (x : ℕ × List ℕ) → IsBytes c → number_at w32 c ≡ Ok x → (x.0 < 2 ^ 32) × IsBytes x.1
     word_typed c x fits e = (let t = number_reads c x fits e in (t.typed, t.left))
