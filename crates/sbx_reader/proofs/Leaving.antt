@@ -1,5 +1,6 @@
 -- What is read stands in front of what it leaves: of an item that is read, the rest of the bytes is their end.
-use Rattle.std.proofs.Common.{◌≡◌, ℕ, zero, suc, ◌+◌, ◌-◌, ◌≤◌, Bool, true, false, List, [], ◌++◌, length, take, drop, Result, Ok, Err, refl, sym, ap, subst, ◌∙◌, arith, inl, inr}
+use Rattle.std.proofs.Common.{◌≡◌, ℕ, zero, suc, ◌+◌, ◌-◌, ◌≤◌, Bool, true, false, List, [], ◌∷◌, ◌++◌, length, take, drop, Result, Ok, Err, refl, sym, ap, subst, ◌∙◌, arith, inl, inr}
+use Rattle.std.specs.Prelude.{◌==◌, if◌then◌else◌}
 use Rattle.std.specs.Int.{Width, w8, w16, w32, w64, byte_len}
 use Rattle.std.proofs.lemmas.Bool.{cases_lt, lt-ltb, le-ltb}
 use Rattle.std.proofs.lemmas.List.{append_assoc, length-append, length-take, take-append-drop}
@@ -7,8 +8,10 @@ use Rattle.std.proofs.Math.Seq.{drop-append_seam}
 use Rattle.sbx_image.specs.ImageFault.{ImageFault}
 use Rattle.sbx_image.specs.ImageFault.TheVariants as fault
 use Rattle.sbx_image.specs.Next.{Next}
-use Rattle.sbx_image.specs.Rules.{◌>>=◌, wants, between, admits, in_order, is_fuel, is_coefficient, is_known, is_version, is_data_length, Place}
-use Rattle.sbx_image.specs.Reading.{number_at, number_in, signed_at, bytes_at, items_at, range_at, location_at, cell_at, term_at, block_head_at, block_at, kind_at, counts_at, bounds_at, function_head_at, services_at, data_length_at, header_at}
+use Rattle.sbx_image.specs.Rules.{◌>>=◌, wants, between, admits, in_order, is_fuel, is_coefficient, is_known, is_version, is_data_length, is_length_behind, Place}
+use Rattle.sbx_image.specs.Reading.{number_at, number_in, signed_at, bytes_at, items_at, range_at, location_at, cell_at, term_at, block_head_at, block_at, kind_at, counts_at, bounds_at, function_head_at, services_at, data_length_at, data_count_at, header_at, shape_at, shape_of, shapes_at, regions_at}
+use Rattle.sbx_image.specs.declared.heads.Header.{Header}
+use Rattle.sbx_image.specs.declared.heads.Shape.{Shape}
 
 -- So many bytes or more stand in front of the rest.
 pub record Behind (least : ℕ) (bytes rest : List ℕ) : Type 0 where
@@ -73,7 +76,7 @@ number_leaves least w small bytes =
       | inr le ↦ rw (le-ltb _ _ le) (λ y p. subst (λ z. Behind least bytes z.1) (done_is _ y p) (taken least (byte_len w) bytes small le))
     ]
 
-pub bytes_leave : (count : ℕ) (bytes : List ℕ) → Leaves 0 after bytes (bytes_at count bytes)
+bytes_leave : (count : ℕ) (bytes : List ℕ) → Leaves 0 after bytes (bytes_at count bytes)
 bytes_leave count bytes =
     elim (cases_lt (length bytes) count) [
       | inl lt ↦ rw (lt-ltb _ _ lt) (failed_leaves 0 after bytes fault.Short)
@@ -199,14 +202,42 @@ unfolding data_length_at
 data_length_leaves bytes =
     then_leaves 0 after after bytes _ _ (number_leaves 0 w32 (omega arith) bytes) (λ count. test_leaves 0 after count.1 (is_data_length count.0) fault.Limit _ (done_leaves after count))
 
+data_count_leaves : (one : Bool) (bytes : List ℕ) → Leaves 0 after bytes (if one then data_length_at bytes else number_in w16 0 8 fault.Limit bytes)
+data_count_leaves true bytes = data_length_leaves bytes
+data_count_leaves false bytes = number_in_leaves 0 w16 (omega arith) 0 8 fault.Limit bytes
+
 pub header_leaves : (bytes : List ℕ) → Leaves 1 after bytes (header_at bytes)
-unfolding header_at
+unfolding header_at data_count_at
 header_leaves bytes =
     then_leaves 1 after after bytes _ _ (services_leave bytes) (λ services.
     then_leaves 0 after after services.1 _ _ (number_in_leaves 0 w32 (omega arith) 1 65536 fault.Limit services.1) (λ words.
-    then_leaves 0 after after words.1 _ _ (data_length_leaves words.1) (λ data_bytes.
-    then_leaves 0 after after data_bytes.1 _ _ (number_in_leaves 0 w16 (omega arith) 1 16 fault.Limit data_bytes.1) (λ stack_pages.
+    then_leaves 0 after after words.1 _ _ (data_count_leaves (services.0.0 == 1) words.1) (λ data_count.
+    then_leaves 0 after after data_count.1 _ _ (number_in_leaves 0 w16 (omega arith) 1 16 fault.Limit data_count.1) (λ stack_pages.
     then_leaves 0 after after stack_pages.1 _ _ (number_in_leaves 0 w16 (omega arith) 1 256 fault.Limit stack_pages.1) (λ functions. done_leaves after _)))))
+
+-- ---- regions
+
+shape_leaves : (cursor : ℕ × List ℕ) → Leaves 0 after_cursor cursor.1 (shape_at cursor)
+unfolding shape_at
+shape_leaves cursor =
+    then_leaves 0 after after_cursor cursor.1 _ _ (number_leaves 0 w32 (omega arith) cursor.1) (λ size.
+    test_leaves 0 after_cursor size.1 (is_length_behind cursor.0 size.0) fault.Limit _
+    (then_leaves 0 after after_cursor size.1 _ _ (number_in_leaves 0 w16 (omega arith) 0 1 fault.Limit size.1) (λ kind. done_leaves after_cursor _)))
+
+lengths_leave : (one : Bool) (n : ℕ) (bytes : List ℕ) → Leaves 0 after bytes (if one then Ok (shape_of n, bytes) else (items_at shape_at n (0, bytes) >>= λ shapes. Ok (shapes.0, shapes.1.1)))
+lengths_leave true n bytes = done_leaves after _
+lengths_leave false n bytes = then_leaves 0 after_cursor after bytes _ _ (items_leave behind_cursor shape_at shape_leaves n (0, bytes)) (λ shapes. done_leaves after _)
+
+pub shapes_leave : (h : Header) (bytes : List ℕ) → Leaves 0 after bytes (shapes_at h bytes)
+unfolding shapes_at
+shapes_leave h bytes = lengths_leave (h.version == 1) h.data_count bytes
+
+pub regions_leave : (shapes : List Shape) (bytes : List ℕ) → Leaves 0 after bytes (regions_at shapes bytes)
+unfolding regions_at
+regions_leave [] bytes = done_leaves after _
+regions_leave (s ∷ shapes) bytes =
+    then_leaves 0 after after bytes _ _ (bytes_leave s.bytes bytes) (λ own.
+    then_leaves 0 after after own.1 _ _ (regions_leave shapes own.1) (λ others. done_leaves after _))
 
 -- ---- what that says of lengths
 

@@ -12,17 +12,19 @@ use Rattle.sbx_image.specs.Block.{Block}
 use Rattle.sbx_image.specs.Function.{Function}
 use Rattle.sbx_image.specs.Range.{Range}
 use Rattle.sbx_image.specs.Parts.{Parts}
+use Rattle.sbx_image.specs.Region.{Region}
 use Rattle.sbx_image.specs.declared.heads.Header.{Header}
+use Rattle.sbx_image.specs.declared.heads.Shape.{Shape}
 use Rattle.sbx_image.specs.declared.heads.FunctionHead.{FunctionHead}
 use Rattle.sbx_image.specs.Rules.{◌>>=◌, wants, Place, code_start}
-use Rattle.sbx_image.specs.Reading.{number_at, bytes_at, items_at, range_at, block_at, function_head_at, function_at, header_at, regions_of, parts_at, reading}
+use Rattle.sbx_image.specs.Reading.{number_at, items_at, range_at, block_at, function_head_at, function_at, header_at, shapes_at, shape_bytes, regions_at, parts_at, reading}
 use Rattle.want.specs.Wants.{refused}
 use Rattle.sbx_reader.specs.declared.stages.Stage.{Stage}
 use Rattle.sbx_reader.specs.declared.stages.Stage.TheVariants.{Front, Functions, Blocks}
 use Rattle.sbx_reader.specs.Fronts.{lasting, told, front}
 use Rattle.sbx_reader.specs.Stages.{functions_end, rest_of, lasting_of, IsWhole, IsItem, GoesOn, IsResumed}
-use Rattle.sbx_reader.proofs.Lasting.{Lasts, longer, done_lasts, then_lasts, items_last, number_lasts, bytes_last, ranges_last, block_lasts, function_head_lasts, header_lasts}
-use Rattle.sbx_reader.proofs.Leaving.{Leaves, done_leaves, then_leaves, bytes_leave, words_leave, ranges_leave, block_leaves, function_head_leaves, header_leaves, behind_drop}
+use Rattle.sbx_reader.proofs.Lasting.{Lasts, longer, done_lasts, then_lasts, items_last, number_lasts, ranges_last, block_lasts, function_head_lasts, header_lasts, shapes_last, regions_last}
+use Rattle.sbx_reader.proofs.Leaving.{Leaves, done_leaves, then_leaves, words_leave, ranges_leave, block_leaves, function_head_leaves, header_leaves, shapes_leave, regions_leave, behind_drop}
 
 pub then_then : {A B C : Type 0} (r : Result A ImageFault) (f : A → Result B ImageFault) (g : B → Result C ImageFault) → ((r >>= f) >>= g) ≡ (r >>= λ x. f x >>= g)
 then_then (Ok x) f g = refl
@@ -139,6 +141,11 @@ then_4 : {H P R B F Z : Type 0} (h : Result H ImageFault) (p : H → Result P Im
 then_4 (Ok x) p r b made k = then_3 (p x) (r x) (b x) (made x) k
 then_4 (Err e) p r b made k = refl
 
+then_5 : {G H P R B F Z : Type 0} (g : Result G ImageFault) (h : G → Result H ImageFault) (p : G → H → Result P ImageFault) (r : G → H → P → Result R ImageFault) (b : G → H → P → R → Result B ImageFault) (made : G → H → P → R → B → F) (k : F → Result Z ImageFault)
+    → ((g >>= λ v. h v >>= λ x. p v x >>= λ y. r v x y >>= λ z. b v x y z >>= λ w. Ok (made v x y z w)) >>= k) ≡ (g >>= λ v. h v >>= λ x. p v x >>= λ y. r v x y >>= λ z. b v x y z >>= λ w. k (made v x y z w))
+then_5 (Ok v) h p r b made k = then_4 (h v) (p v) (r v) (b v) (made v) k
+then_5 (Err e) h p r b made k = refl
+
 functions_then : (end left : ℕ) (place : Place) (bytes : List ℕ)
     → functions_end end (suc left) place bytes ≡ (function_at end (place, bytes) >>= λ f. functions_end end left f.1.0 f.1.1)
 unfolding functions_end items_at
@@ -215,7 +222,7 @@ unfolding rest_of functions_end items_at
 more_behind end left total next bytes none some kept =
     (λ short. absurd cc, λ ne more. rw (none, ne_eqb (length (bytes ++ more)) 0 (λ e. eqb-false (length bytes) 0 some (omega (arith, e, length-append bytes more)))) refl)
 
--- ---- header, words and data
+-- ---- header, lengths and kinds, words and data
 
 tested : (b : Bool) (parts : Parts) → ((wants b fault.Trailing >>= λ _. Ok parts) >>= λ _. Ok tt) ≡ wants b fault.Trailing
 tested true parts = refl
@@ -228,37 +235,40 @@ closed (Err e) = refl
 
 front_then : (bytes : List ℕ)
     → rest_of Front bytes
-    ≡ (header_at bytes >>= λ h. items_at (number_at w32) h.0.words h.1 >>= λ w. bytes_at h.0.bytes w.1 >>= λ d. rest_of (Functions (code_start + 4 * h.0.words) h.0.functions (Exactly code_start) 0) d.1)
+    ≡ (header_at bytes >>= λ h. shapes_at h.0 h.1 >>= λ s. items_at (number_at w32) h.0.words s.1 >>= λ w. regions_at s.0 w.1 >>= λ d. rest_of (Functions (code_start + 4 * h.0.words) h.0.functions (Exactly code_start) 0) d.1)
 unfolding rest_of reading parts_at functions_end
 front_then bytes = closed (parts_at bytes) ∙
-    then_4 {H = Header × List ℕ} {P = List ℕ × List ℕ} {R = List ℕ × List ℕ} {B = List Function × (Place × List ℕ)} {F = Parts × List ℕ}
-    (header_at bytes) (λ x. items_at (number_at w32) x.0.words x.1) (λ x y. bytes_at x.0.bytes y.1) (λ x y z. items_at (function_at (code_start + 4 * x.0.words)) x.0.functions ((Exactly code_start, 0), z.1))
-    (λ x y z w. (record { version = x.0.version; services = x.0.services; words = y.0; regions = regions_of z.0; stack_pages = x.0.stack_pages; functions = w.0 }, w.1.1))
+    then_5 {G = Header × List ℕ} {H = List Shape × List ℕ} {P = List ℕ × List ℕ} {R = List Region × List ℕ} {B = List Function × (Place × List ℕ)} {F = Parts × List ℕ}
+    (header_at bytes) (λ v. shapes_at v.0 v.1) (λ v x. items_at (number_at w32) v.0.words x.1) (λ v x y. regions_at x.0 y.1) (λ v x y z. items_at (function_at (code_start + 4 * v.0.words)) v.0.functions ((Exactly code_start, 0), z.1))
+    (λ v x y z w. (record { version = v.0.version; services = v.0.services; words = y.0; regions = z.0; stack_pages = v.0.stack_pages; functions = w.0 }, w.1.1))
     (λ x. wants (length x.1 == 0) fault.Trailing)
 
 -- all before the functions, as the header
 unfoldable pub front_item : List ℕ → Result (Header × List ℕ) ImageFault
 front_item bytes = do
   header ← header_at bytes
-  words ← items_at (number_at w32) header.0.words header.1
-  data_bytes ← bytes_at header.0.bytes words.1
-  Ok (header.0, data_bytes.1)
+  shapes ← shapes_at header.0 header.1
+  words ← items_at (number_at w32) header.0.words shapes.1
+  regions ← regions_at shapes.0 words.1
+  Ok (header.0, regions.1)
 
 pub front_reads : Reads Front (λ h. Functions (code_start + 4 * h.words) h.functions (Exactly code_start) 0) front_item
 unfolding front_item
 front_reads = record {
   same = λ bytes. front_then bytes ∙ sym
-      (then_3 {P = Header × List ℕ} {R = List ℕ × List ℕ} {B = List ℕ × List ℕ} {F = Header × List ℕ}
-      (header_at bytes) (λ x. items_at (number_at w32) x.0.words x.1) (λ x y. bytes_at x.0.bytes y.1) (λ x y z. (x.0, z.1))
+      (then_4 {H = Header × List ℕ} {P = List Shape × List ℕ} {R = List ℕ × List ℕ} {B = List Region × List ℕ} {F = Header × List ℕ}
+      (header_at bytes) (λ x. shapes_at x.0 x.1) (λ x y. items_at (number_at w32) x.0.words y.1) (λ x y z. regions_at y.0 z.1) (λ x y z w. (x.0, w.1))
       (λ x. rest_of (Functions (code_start + 4 * x.0.words) x.0.functions (Exactly code_start) 0) x.1));
   lasts = λ more bytes.
       then_lasts _ _ _ _ _ (header_lasts more bytes) (λ header.
-      then_lasts _ _ _ _ _ (items_last (longer more) (number_at w32) (number_lasts more w32) header.0.words header.1) (λ words.
-      then_lasts _ _ _ _ _ (bytes_last more header.0.bytes words.1) (λ data_bytes. done_lasts _ _)));
+      then_lasts _ _ _ _ _ (shapes_last more header.0 header.1) (λ shapes.
+      then_lasts _ _ _ _ _ (items_last (longer more) (number_at w32) (number_lasts more w32) header.0.words shapes.1) (λ words.
+      then_lasts _ _ _ _ _ (regions_last more shapes.0 words.1) (λ regions. done_lasts _ _))));
   leaves = λ bytes.
       then_leaves 1 rest_at rest_at bytes _ _ (header_leaves bytes) (λ header.
-      then_leaves 0 rest_at rest_at header.1 _ _ (words_leave header.0.words header.1) (λ words.
-      then_leaves 0 rest_at rest_at words.1 _ _ (bytes_leave header.0.bytes words.1) (λ data_bytes. done_leaves rest_at _)));
+      then_leaves 0 rest_at rest_at header.1 _ _ (shapes_leave header.0 header.1) (λ shapes.
+      then_leaves 0 rest_at rest_at shapes.1 _ _ (words_leave header.0.words shapes.1) (λ words.
+      then_leaves 0 rest_at rest_at words.1 _ _ (regions_leave shapes.0 words.1) (λ regions. done_leaves rest_at _))));
 }
 
 -- Words have no faults of their own.
@@ -283,35 +293,58 @@ words_lack (suc n) bytes lt =
           rw (le-ltb _ _ le, words_lack n (drop 4 bytes) rest) refl
     ]
 
-pub front_ok : (bytes : List ℕ) (h : Header) (rest : List ℕ) → header_at bytes ≡ Ok (h, rest) → 4 * h.words + h.bytes ≤ length rest
-    → front_item bytes ≡ Ok (h, drop h.bytes (drop (4 * h.words) rest))
-unfolding front_item
-front_ok bytes h rest e le =
-    let words = words_skip h.words rest (omega (arith, le)) in
-    let within : h.bytes ≤ length (drop (4 * h.words) rest) = omega (arith, le, length-drop (4 * h.words) rest) in
-    rw (e, words.1, le-ltb _ _ within) refl
+-- Nor do a region's bytes.
+regions_skip : (shapes : List Shape) (bytes : List ℕ) → shape_bytes shapes ≤ length bytes → (regions : List Region) × (regions_at shapes bytes ≡ Ok (regions, drop (shape_bytes shapes) bytes))
+unfolding regions_at
+regions_skip [] bytes le = ([], refl)
+regions_skip (s ∷ shapes) bytes le =
+    let first : s.bytes ≤ length bytes = omega (arith, le) in
+    let others = regions_skip shapes (drop s.bytes bytes) (omega (arith, le, length-drop s.bytes bytes)) in
+    (record { bytes = take s.bytes bytes; writable = s.writable } ∷ others.0, rw (le-ltb _ _ first, others.1, drop-drop (shape_bytes shapes) s.bytes bytes) refl)
 
-pub front_lacks : (bytes : List ℕ) (h : Header) (rest : List ℕ) → header_at bytes ≡ Ok (h, rest) → length rest < 4 * h.words + h.bytes → front_item bytes ≡ Err fault.Short
+regions_lack : (shapes : List Shape) (bytes : List ℕ) → length bytes < shape_bytes shapes → regions_at shapes bytes ≡ Err fault.Short
+unfolding regions_at
+regions_lack [] bytes lt = absurd (omega (arith, lt))
+regions_lack (s ∷ shapes) bytes lt =
+    elim (cases_lt (length bytes) s.bytes) [
+      | inl short ↦ rw (lt-ltb _ _ short) refl
+      | inr le ↦ rw (le-ltb _ _ le, regions_lack shapes (drop s.bytes bytes) (omega (arith, lt, le, length-drop s.bytes bytes))) refl
+    ]
+
+pub front_ok : (bytes : List ℕ) (h : Header) (behind : List ℕ) (shapes : List Shape) (rest : List ℕ) → header_at bytes ≡ Ok (h, behind) → shapes_at h behind ≡ Ok (shapes, rest) → 4 * h.words + shape_bytes shapes ≤ length rest
+    → front_item bytes ≡ Ok (h, drop (shape_bytes shapes) (drop (4 * h.words) rest))
 unfolding front_item
-front_lacks bytes h rest e lt =
+front_ok bytes h behind shapes rest e s le =
+    let words = words_skip h.words rest (omega (arith, le)) in
+    let regions = regions_skip shapes (drop (4 * h.words) rest) (omega (arith, le, length-drop (4 * h.words) rest)) in
+    rw (e, s, words.1, regions.1) refl
+
+pub front_lacks : (bytes : List ℕ) (h : Header) (behind : List ℕ) (shapes : List Shape) (rest : List ℕ) → header_at bytes ≡ Ok (h, behind) → shapes_at h behind ≡ Ok (shapes, rest) → length rest < 4 * h.words + shape_bytes shapes → front_item bytes ≡ Err fault.Short
+unfolding front_item
+front_lacks bytes h behind shapes rest e s lt =
     elim (cases_lt (length rest) (4 * h.words)) [
-      | inl few ↦ rw (e, words_lack h.words rest few) refl
+      | inl few ↦ rw (e, s, words_lack h.words rest few) refl
       | inr le ↦
           let words = words_skip h.words rest le in
-          let within : length (drop (4 * h.words) rest) < h.bytes = omega (arith, lt, le, length-drop (4 * h.words) rest) in
-          rw (e, words.1, lt-ltb _ _ within) refl
+          let lack : length (drop (4 * h.words) rest) < shape_bytes shapes = omega (arith, lt, le, length-drop (4 * h.words) rest) in
+          rw (e, s, words.1, regions_lack shapes (drop (4 * h.words) rest) lack) refl
     ]
 
 pub front_err : (bytes : List ℕ) (e : ImageFault) → header_at bytes ≡ Err e → front_item bytes ≡ Err e
 unfolding front_item
 front_err bytes e p = rw p refl
 
--- Of the rest behind the header, words and data are so many bytes.
-pub front_count : (bytes rest : List ℕ) (h : Header) → header_at bytes ≡ Ok (h, rest) → (a b : ℕ) → a + b ≤ length rest
+pub shapes_err : (bytes : List ℕ) (h : Header) (behind : List ℕ) (e : ImageFault) → header_at bytes ≡ Ok (h, behind) → shapes_at h behind ≡ Err e → front_item bytes ≡ Err e
+unfolding front_item
+shapes_err bytes h behind e eh p = rw (eh, p) refl
+
+-- Of the rest behind the lengths and kinds, words and data are so many bytes.
+pub front_count : (bytes : List ℕ) (h : Header) (behind : List ℕ) (shapes : List Shape) (rest : List ℕ) → header_at bytes ≡ Ok (h, behind) → shapes_at h behind ≡ Ok (shapes, rest) → (a b : ℕ) → a + b ≤ length rest
     → (length bytes - length rest) + (a + b) ≡ length bytes - length (drop b (drop a rest))
-front_count bytes rest h e a b le =
-    let left = behind_drop 1 bytes rest (header_leaves bytes (h, rest) e) in
-    omega (arith, left.0, le, length-drop a rest, length-drop b (drop a rest))
+front_count bytes h behind shapes rest e s a b le =
+    let left = behind_drop 1 bytes behind (header_leaves bytes (h, behind) e) in
+    let right = behind_drop 0 behind rest (shapes_leave h behind (shapes, rest) s) in
+    omega (arith, left.0, right.0, le, length-drop a rest, length-drop b (drop a rest))
 
 -- ---- from a stage on
 

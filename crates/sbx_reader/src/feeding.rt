@@ -78,7 +78,8 @@ impl ImageReader {
     /// Joins the next piece, which may have any length. A fault is told by the piece that brings the last byte of the first
     /// bad field: it is the fault of the pieces joined, which further bytes can't mend, so never `Short`; or it is `Memory`
     /// where memory was refused. After a fault this call and `finish` tell that fault again. A piece costs time by its own
-    /// length and at most one item more, which is read again: a header, a function's head with its ranges, or a block.
+    /// length and at most one item more, which is read again: a header with the regions' lengths and kinds, a function's head
+    /// with its ranges, or a block.
     pub fn feed(&mut self, piece: &[u8]) -> Result<(), ImageFault>
         ensures { IsFed self.old piece.now result self.new }
     {

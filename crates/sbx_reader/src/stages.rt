@@ -13,7 +13,7 @@ use v8_map::CODE_START;
 /// `total` how many blocks the functions have up to that one.
 #[derive(Clone, Copy)]
 pub enum Stage {
-    /// Header, words and data.
+    /// Header, the regions' lengths and kinds, words and data.
     Front,
     /// A function, its head and ranges first; behind the last one the end.
     Functions(u32, u16, Next, u16),
@@ -28,7 +28,8 @@ fn read_of(bytes: &[u8], rest: &[u8]) -> usize
     bytes.len().saturating_sub(rest.len())
 }
 
-/// Header, the regions' lengths and kinds, words and data. A word or a byte of data has no fault of its own, so both are skipped at once.
+/// Header, the regions' lengths and kinds, words and data. A word or a byte of data has no fault of its own, so both are
+/// skipped at once.
 fn front_item(alloc: Global, bytes: &[u8]) -> Result<(Stage, usize), ImageFault>
     ensures { IsWhole Front bytes.now result }
 {
