@@ -1,4 +1,4 @@
-//! A worked image in pieces, cut off, and broken.
+//! Worked images of either version in pieces, cut off, and broken.
 use sbx_image::{Image, ImageFault, write};
 use sbx_reader::ImageReader;
 use std::alloc::{AllocError, Global};
@@ -10,6 +10,22 @@ const HELLO: [u8; 86] = [
     0, 0, 0, 0, 0, 0, 0, 0, 0, 0, 0, 0, 0, 0, 0, 16, 0, 1, 0, 4, 0, 0, 0, 0, 0, 0, 0, 0, 0, 0, 0,
     0, 0, 16,
 ];
+
+/// The image of version 2 that writes `H`: exit and put, seven words, two regions of 8 bytes, of which the first may be read alone,
+/// one leaf with one block.
+const REGIONS: [u8; 116] = [
+    0x53, 0x42, 0x58, 0x38, 0, 2, 0, 5, 0, 0, 0, 7, 0, 2, 0, 1, 0, 1, // header
+    0, 0, 0, 8, 0, 0, 0, 0, 0, 8, 0, 1, // lengths and kinds
+    0x03, 0x00, 0x02, 0x00, 0xD0, 0x08, 0x40, 0x00, 0x91, 0xD0, 0x20, 0x02, // words
+    0x05, 0x00, 0x02, 0x04, 0xD0, 0x28, 0xA0, 0x07, 0x90, 0x10, 0x20, 0x00, //
+    0x91, 0xD0, 0x20, 0x00, //
+    72, 105, 0, 0, 0, 0, 0, 0, 0, 0, 0, 0, 0, 0, 0, 0, // the regions' bytes
+    0, 0, 0, 0, 0, 4, 0, 0, 0, 0, 0, 0, 0, 0, 0, 0, 0, 0, 0, 0, 0, 0, 0, 13, 0, 1, // a function
+    0, 4, 0, 0, 0, 0, 0, 0, 0, 0, 0, 0, 0, 0, 0, 13, // its block
+];
+
+/// An image of each version.
+const IMAGES: [&'static [u8]; 2] = [&HELLO, &REGIONS];
 
 /// What a reader answers that is fed bytes in pieces of a size.
 fn in_pieces(alloc: Global, bytes: &[u8], size: usize) -> Result<Image, ImageFault> {
@@ -24,11 +40,11 @@ fn in_pieces(alloc: Global, bytes: &[u8], size: usize) -> Result<Image, ImageFau
     reader.finish()
 }
 
-/// Whether an image is the worked one; where a growth was refused, the answer says so.
-fn is_hello(alloc: Global, read: &Result<Image, ImageFault>) -> bool {
+/// Whether an image is the one that bytes spell; where a growth was refused, the answer says so.
+fn is_image_of(alloc: Global, bytes: &[u8], read: &Result<Image, ImageFault>) -> bool {
     match read {
         Ok(image) => match write(image, alloc) {
-            Ok(text) => text.as_slice() == &HELLO[..],
+            Ok(text) => text.as_slice() == bytes,
             Err(AllocError) => true,
         },
         Err(fault) => matches!(fault, ImageFault::Memory(_)),
@@ -49,43 +65,8 @@ fn is_refused(reader: ImageReader, fed: Result<(), ImageFault>, wanted: ImageFau
     (fed == Err(wanted) || matches!(&fed, Err(ImageFault::Memory(_)))) && fed == Err(end)
 }
 
-/// The byte at which a fault is told where bytes are fed one by one, and the fault, if the next piece gets it too.
-fn told_of(alloc: Global, bytes: &[u8]) -> Option<(usize, ImageFault)> {
-    let mut reader = ImageReader::new(alloc);
-    for i in 0..bytes.len() {
-        if let Err(fault) = reader.feed(&[bytes[i]]) {
-            if reader.feed(&[]) == Err(fault) {
-                return Some((i, fault));
-            }
-            return None;
-        }
-    }
-    None
-}
-
-/// Whether a fault is told at a byte. Where a growth was refused, the bytes are fed once more.
-fn is_told_at(alloc: Global, bytes: &[u8], at: usize, wanted: ImageFault) -> bool {
-    let told = match told_of(alloc, bytes) {
-        Some((_, ImageFault::Memory(_))) => told_of(alloc, bytes),
-        first => first,
-    };
-    match told {
-        Some((i, fault)) => i == at && fault == wanted,
-        None => false,
-    }
-}
-
-/// The worked image with one byte changed.
-fn with_byte(at: usize, byte: u8) -> [u8; 86] {
-    let mut bytes = HELLO;
-    if at < 86 {
-        bytes[at] = byte;
-    }
-    bytes
-}
-
-/// A byte of the worked image, what stands there in its place, the fault, and the byte at which it is told.
-#[derive(Clone, Copy)]
+/// A byte of a worked image, what stands there in its place, the fault, and the byte at which it is told.
+#[derive(Clone, Copy, Debug)]
 struct Row {
     at: usize,
     byte: u8,
@@ -102,7 +83,34 @@ fn broken(at: usize, byte: u8, fault: ImageFault, told: usize) -> Row {
     }
 }
 
-/// A fault of most fields. The worked image has no ranges.
+/// The byte at which a fault is told where bytes are fed one by one, one of them changed, and the fault, if the next piece gets it too.
+fn told_of(alloc: Global, bytes: &[u8], row: &Row) -> Option<(usize, ImageFault)> {
+    let mut reader = ImageReader::new(alloc);
+    for i in 0..bytes.len() {
+        let byte = if i == row.at { row.byte } else { bytes[i] };
+        if let Err(fault) = reader.feed(&[byte]) {
+            if reader.feed(&[]) == Err(fault) {
+                return Some((i, fault));
+            }
+            return None;
+        }
+    }
+    None
+}
+
+/// Whether the fault of a row is told at its byte. Where a growth was refused, the bytes are fed once more.
+fn is_told(alloc: Global, bytes: &[u8], row: &Row) -> bool {
+    let told = match told_of(alloc, bytes, row) {
+        Some((_, ImageFault::Memory(_))) => told_of(alloc, bytes, row),
+        first => first,
+    };
+    match told {
+        Some((i, fault)) => i == row.told && fault == row.fault,
+        None => false,
+    }
+}
+
+/// A fault of most fields. The worked image of version 1 has no ranges.
 fn rows() -> [Row; 15] {
     [
         broken(0, 0, ImageFault::Magic, 3),
@@ -123,79 +131,122 @@ fn rows() -> [Row; 15] {
     ]
 }
 
+/// Faults of the worked image of version 2: of the number of regions, of their lengths and kinds, and behind them.
+fn rows_of_regions() -> [Row; 10] {
+    [
+        broken(5, 3, ImageFault::Version, 5),
+        broken(13, 9, ImageFault::Limit, 13),
+        broken(15, 0, ImageFault::Limit, 15),
+        broken(21, 0, ImageFault::Limit, 21),
+        broken(21, 4, ImageFault::Limit, 21),
+        broken(19, 4, ImageFault::Limit, 21),
+        broken(23, 2, ImageFault::Limit, 23),
+        broken(27, 4, ImageFault::Limit, 27),
+        broken(29, 2, ImageFault::Limit, 29),
+        broken(81, 4, ImageFault::Order, 81),
+    ]
+}
+
 #[test]
 fn pieces_of_any_size_are_the_image(rt: HostRuntime) {
-    for size in 1..90usize {
-        let read = in_pieces(rt.alloc(), &HELLO, size);
-        assert!(rt; is_hello(rt.alloc(), &read));
+    for bytes in IMAGES {
+        for size in 1..120usize {
+            let read = in_pieces(rt.alloc(), bytes, size);
+            assert!(rt; is_image_of(rt.alloc(), bytes, &read));
+        }
     }
+}
+
+/// What a reader answers that is fed bytes as two pieces, with empty ones before, between and behind.
+fn in_two(alloc: Global, bytes: &[u8], cut: usize) -> Result<Image, ImageFault> {
+    let count = if cut < bytes.len() { cut } else { bytes.len() };
+    let (front, rest) = bytes.split_at(count);
+    let none = &bytes[..0];
+    let mut reader = ImageReader::new(alloc);
+    for piece in [none, front, none, rest, none] {
+        reader.feed(piece)?;
+    }
+    reader.finish()
 }
 
 #[test]
 fn empty_pieces_change_nothing(rt: HostRuntime) {
-    let mut reader = ImageReader::new(rt.alloc());
-    assert!(rt; is_taken(reader.feed(&[])));
-    assert!(rt; is_taken(reader.feed(&HELLO[..85])));
-    assert!(rt; is_taken(reader.feed(&[])));
-    assert!(rt; is_taken(reader.feed(&HELLO[85..])));
-    assert!(rt; is_taken(reader.feed(&[])));
-    let read = reader.finish();
-    assert!(rt; is_hello(rt.alloc(), &read));
+    for bytes in IMAGES {
+        for cut in [1, bytes.len() / 2, bytes.len().saturating_sub(1)] {
+            let read = in_two(rt.alloc(), bytes, cut);
+            assert!(rt; is_image_of(rt.alloc(), bytes, &read));
+        }
+    }
 }
 
 #[test]
 fn each_cut_is_short_at_the_end_alone(rt: HostRuntime) {
-    for count in 0..86usize {
-        let mut reader = ImageReader::new(rt.alloc());
-        assert!(rt; is_taken(reader.feed(&HELLO[..count])));
-        let end = reader.finish();
-        assert!(rt; matches!(&end, Err(ImageFault::Short | ImageFault::Memory(_))));
+    for bytes in IMAGES {
+        for count in 0..bytes.len() {
+            let mut reader = ImageReader::new(rt.alloc());
+            assert!(rt; is_taken(reader.feed(&bytes[..count])));
+            let end = reader.finish();
+            assert!(rt; matches!(&end, Err(ImageFault::Short | ImageFault::Memory(_))));
+        }
     }
 }
 
 #[test]
 fn a_further_byte_is_told_by_both_calls(rt: HostRuntime) {
-    let mut reader = ImageReader::new(rt.alloc());
-    let _ = reader.feed(&HELLO);
-    let fed = reader.feed(&[0]);
-    assert!(rt; is_refused(reader, fed, ImageFault::Trailing));
+    for bytes in IMAGES {
+        let mut reader = ImageReader::new(rt.alloc());
+        let _ = reader.feed(bytes);
+        let fed = reader.feed(&[0]);
+        assert!(rt; is_refused(reader, fed, ImageFault::Trailing));
+    }
 }
 
 #[test]
 fn each_fault_is_told_at_the_end_of_its_field(rt: HostRuntime) {
     for row in &rows() {
-        let bytes = with_byte(row.at, row.byte);
-        assert!(rt; is_told_at(rt.alloc(), &bytes, row.told, row.fault));
+        assert!(rt; is_told(rt.alloc(), &HELLO, row), "{row:?}");
     }
+    for row in &rows_of_regions() {
+        assert!(rt; is_told(rt.alloc(), &REGIONS, row), "{row:?}");
+    }
+    let ninth_page = broken(27, 8, ImageFault::Limit, 63); // the last region passes 64 pages
+    assert!(rt; is_told(rt.alloc(), &EIGHT, &ninth_page));
 }
 
-/// The greatest front that an image has: 65,536 words and 262,144 bytes of data, all of them zeros, before the worked image's function.
-fn greatest(alloc: Global) -> Result<Vec<u8>, AllocError> {
-    let mut bytes = Vec::from_slice(alloc, &HELLO[..8])?;
-    bytes.extend_from_slice(&[0, 1, 0, 0, 0, 4, 0, 0, 0, 1, 0, 1])?;
-    bytes.resize(20 + 2 * 262_144, 0)?;
+/// The header of the greatest front of version 1: 65,536 words and 262,144 bytes of data.
+const ONE: [u8; 20] = [
+    83, 66, 88, 56, 0, 1, 0, 5, 0, 1, 0, 0, 0, 4, 0, 0, 0, 1, 0, 1,
+];
+
+/// That of version 2: as many words, and as many bytes in eight regions, of eight pages each.
+const EIGHT: [u8; 66] = [
+    83, 66, 88, 56, 0, 2, 0, 5, 0, 1, 0, 0, 0, 8, 0, 1, 0, 1, // header
+    0, 0, 128, 0, 0, 0, 0, 0, 128, 0, 0, 1, 0, 0, 128, 0, 0, 0, 0, 0, 128, 0, 0, 1, // lengths and kinds
+    0, 0, 128, 0, 0, 0, 0, 0, 128, 0, 0, 1, 0, 0, 128, 0, 0, 0, 0, 0, 128, 0, 0, 1,
+];
+
+/// A greatest front, whose words and data are all zeros, before the function of the worked image of version 1.
+fn greatest(alloc: Global, header: &[u8]) -> Result<Vec<u8>, AllocError> {
+    let mut bytes = Vec::from_slice(alloc, header)?;
+    bytes.resize(header.len() + 2 * 262_144, 0)?;
     bytes.extend_from_slice(&HELLO[44..])?;
     Ok(bytes)
 }
 
-/// Whether the greatest front is read by pieces of a size, and spells its bytes again; where a growth was refused, the answer says so.
-fn is_greatest_read(alloc: Global, size: usize) -> bool {
-    let Ok(bytes) = greatest(alloc) else {
+/// Whether a greatest front is read by pieces of a size, and spells its bytes again; where a growth was refused, the answer says so.
+fn is_greatest_read(alloc: Global, header: &[u8], size: usize) -> bool {
+    let Ok(bytes) = greatest(alloc, header) else {
         return true;
     };
-    match in_pieces(alloc, bytes.as_slice(), size) {
-        Ok(image) => match write(&image, alloc) {
-            Ok(text) => text.as_slice() == bytes.as_slice(),
-            Err(AllocError) => true,
-        },
-        Err(fault) => matches!(fault, ImageFault::Memory(_)),
-    }
+    let read = in_pieces(alloc, bytes.as_slice(), size);
+    is_image_of(alloc, bytes.as_slice(), &read)
 }
 
 /// Pieces of one byte cost no more time than their number, since what was read isn't read again.
 #[test]
-fn the_greatest_front_is_read_by_small_pieces(rt: HostRuntime) {
+fn the_greatest_fronts_are_read_by_small_pieces(rt: HostRuntime) {
     for size in [1, 4096] {
-        assert!(rt; is_greatest_read(rt.alloc(), size));
+        assert!(rt; is_greatest_read(rt.alloc(), &ONE, size));
+        assert!(rt; is_greatest_read(rt.alloc(), &EIGHT, size));
     }
 }
