@@ -343,7 +343,7 @@ shapes_code one shapes = if one then [] else flat_map shape_code shapes
 abbrev pub lengths_at : Bool → ℕ → List ℕ → Result (List Shape × List ℕ) ImageFault
 lengths_at one n bytes = if one then Ok (shape_of n, bytes) else (items_at shape_at n (0, bytes) >>= λ shapes. Ok (shapes.0, shapes.1.1))
 
-pub shapes_take : (one : Bool) (n : ℕ) (bytes : List ℕ) (x : List Shape × List ℕ) → IsBytes bytes → lengths_at one n bytes ≡ Ok x → Takes bytes (shapes_code one x.0) x.1 × LengthsRead one n x.0
+shapes_take : (one : Bool) (n : ℕ) (bytes : List ℕ) (x : List Shape × List ℕ) → IsBytes bytes → lengths_at one n bytes ≡ Ok x → Takes bytes (shapes_code one x.0) x.1 × LengthsRead one n x.0
 shapes_take true n bytes x fits e =
     subst (λ (y : List Shape × List ℕ). Takes bytes [] y.1 × (y.0 ≡ shape_of n)) (ok_is (shape_of n, bytes) x e) (record { parts = refl; rest_fits = fits }, refl)
 shapes_take false n bytes x fits e =
