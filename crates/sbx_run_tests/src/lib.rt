@@ -8,6 +8,8 @@ mod bits;
 #[cfg(test)]
 mod boards;
 #[cfg(test)]
+mod regions;
+#[cfg(test)]
 mod runs;
 #[cfg(test)]
 mod sources;
