@@ -8,7 +8,6 @@ use Rattle.sbx_text.specs.declared.Token.{Token}
 use Rattle.sbx_text.specs.declared.fault.TextFault.{TextFault}
 use Rattle.sbx_text.specs.Tokens.{tokens_of}
 use Rattle.sbx_image.specs.Parts.{Parts}
-use Rattle.sbx_image.specs.Reading.{regions_of}
 use Rattle.sbx_asm.specs.declared.fault.AsmFault.{AsmFault}
 use Rattle.sbx_asm.specs.declared.draft.Draft.{Draft}
 use Rattle.sbx_asm.specs.Faults.{is_earlier, told}
@@ -16,9 +15,9 @@ use Rattle.sbx_asm.specs.Lines.{lines_of}
 use Rattle.sbx_asm.specs.Items.{Item, read_line, item_of, numbered, each, all_lines, items_of}
 use Rattle.sbx_asm.specs.Addresses.{all_labels, values_of}
 use Rattle.sbx_asm.specs.Rules.{Values, duplicates, faults_at, faults_of, least_of}
-use Rattle.sbx_asm.specs.Images.{filled, image_of}
+use Rattle.sbx_asm.specs.Images.{version_with, image_of}
 use Rattle.sbx_asm.specs.Meaning.{judged, meaning_of, source_image}
-use Rattle.sbx_asm.specs.Stages.Drafts.{draft_line, draft_tokens, behind_labels, numbered_line, empty_draft, close_function}
+use Rattle.sbx_asm.specs.Stages.Drafts.{draft_line, draft_tokens, behind_labels, numbered_line, empty_draft, closed}
 use Rattle.sbx_asm.specs.Stages.Whole.{labels_in, draft_in, parts_in, image_made}
 use Rattle.sbx_asm.proofs.Labelling.{labels_are, labels_told, fold_append}
 use Rattle.sbx_asm.proofs.Following.{Follows}
@@ -66,10 +65,10 @@ module _ (items : List Item) where
   start_draft = empty_draft (least_of (duplicates [] (all_labels items)))
 
   unfoldable pub made : Draft
-  made = close_function (fold (item_does (values_of items)) start_draft items)
+  made = closed (fold (item_does (values_of items)) start_draft items)
 
   at_start : Follows (values_of items) [] start_draft
-  at_start = (refl, refl, refl, λ _. refl, λ _. refl, λ _. (refl, refl, refl, refl, refl), λ _. (refl, refl), λ _. (refl, refl, refl, refl), refl, refl, refl)
+  at_start = (refl, refl, refl, λ _. refl, λ _. refl, λ _. (refl, refl, refl, refl, refl), λ _. (refl, refl), λ _. (refl, refl, refl, refl), refl, refl, refl, refl, refl, refl)
 
   pub fault_is : made.fault ≡ least_of (faults_of items)
   unfolding made
@@ -82,7 +81,7 @@ module _ (items : List Item) where
   parts_are none =
       let clean : each (faults_at (values_of items)) [] items ≡ [] = nil_right (duplicates [] (all_labels items)) _ (none_told (faults_of items) none) in
       let m = all_made (values_of items) [] items start_draft refl at_start clean in
-      λ j. record { version = 1; services = m.2 j; words = m.0 j; regions = regions_of (filled (m.1 j)); stack_pages = m.3 j; functions = m.4 j }
+      λ j. record { version = version_with (m.5 j); services = m.2 j; words = m.0 j; regions = m.1 j; stack_pages = m.3 j; functions = m.4 j }
 
   judged_same : (n : ℕ) (o : Option AsmFault) → least_of (faults_of items) ≡ o → judged n o (parts_in made) ≡ judged n o (image_of items)
   judged_same n (Some f) h = refl
@@ -92,10 +91,10 @@ module _ (source : List ℕ) where
   abbrev items : List Item
   items = items_of source
 
-  is_made : close_function (draft_in (labels_in source) source) ≡ made items
+  is_made : closed (draft_in (labels_in source) source) ≡ made items
   unfolding draft_in made
   is_made =
-      ap close_function
+      ap closed
       (ap (λ (vs : Values). fold (draft_line vs) (empty_draft (labels_in source).fault) (all_lines source)) (labels_are source)
       ∙ ap (λ (o : Option AsmFault). fold (draft_line (values_of items)) (empty_draft o) (all_lines source)) (labels_told source)
       ∙ lines_do (values_of items) (all_lines source) (start_draft items))

@@ -22,7 +22,7 @@ use Rattle.sbx_image.specs.Block.{Block}
 use Rattle.sbx_image.specs.Function.{Function}
 use Rattle.sbx_image.specs.Parts.{Parts}
 use Rattle.sbx_image.specs.Services.{Services}
-use Rattle.sbx_image.specs.Reading.{regions_of}
+use Rattle.sbx_image.specs.Region.{Region}
 use Rattle.sbx_image.specs.Regions.{AreBytes}
 use Rattle.sbx_image.specs.Rules.{parts_keep}
 use Rattle.sbx_image.specs.Spelling.{IsTyped, IsTypedRange, IsTypedCell, IsTypedTerm, IsTypedBlock, IsTypedFunction, IsTypedRegion, IsBytes}
@@ -45,13 +45,14 @@ use Rattle.sbx_asm.specs.declared.place.Place.{Place}
 use Rattle.sbx_asm.specs.declared.opening.Head.{Head}
 use Rattle.sbx_asm.specs.declared.opening.OpenBlock.{OpenBlock}
 use Rattle.sbx_asm.specs.declared.draft.Draft.{Draft}
-use Rattle.sbx_asm.specs.Stages.Places.{code_end, data_end, has_room, moved_on, padding, directed, place_after}
+use Rattle.sbx_asm.specs.Stages.Places.{code_end, has_room, moved_on, directed, place_after}
 use Rattle.sbx_asm.specs.Rules.{Values, is_code}
 use Rattle.sbx_asm.specs.Stages.Labels.{Labels}
-use Rattle.sbx_asm.specs.Stages.Drafts.{block_of, function_of, noted_where, told_empty, with_block, close_block, with_function, close_headed, close_function, counted, fresh_block, open_block, headed, begin_function, begin_block_of, begin_block, malformed, takes_ranges, takes_annotations, param_if, add_param, result_if, add_result, cell_if, add_cell, term_if, add_term, fuel_if, fuel_by, add_fuel, services_by, add_services, stack_by, add_stack, data_checked, with_data, with_zeros, add_values, add_zeros, instruction_checked, with_words, directive_does, instruction_does, statement_does, behind_labels, draft_tokens, numbered_line, draft_line, empty_draft}
+use Rattle.sbx_asm.specs.Stages.Drafts.{block_of, function_of, noted_where, told_empty, with_block, close_block, with_function, close_headed, close_function, counted, fresh_block, open_block, headed, begin_function, begin_block_of, begin_block, malformed, takes_ranges, takes_annotations, param_if, add_param, result_if, add_result, cell_if, add_cell, term_if, add_term, fuel_if, fuel_by, add_fuel, services_by, add_services, stack_by, add_stack, leave_region, close_region, choose_data, begin_region, with_bytes, closed, data_checked, with_data, with_zeros, add_values, add_zeros, instruction_checked, with_words, directive_does, instruction_does, statement_does, behind_labels, draft_tokens, numbered_line, draft_line, empty_draft}
 use Rattle.sbx_asm.specs.Lines.{lines_of}
 use Rattle.sbx_asm.specs.Items.{all_lines}
-use Rattle.sbx_asm.specs.Images.{filled}
+use Rattle.sbx_asm.specs.Images.{filled, region_with, version_with}
+use Rattle.sbx_asm.specs.Addresses.{padding_of, section_room}
 use Rattle.sbx_asm.specs.Meaning.{kept, judged, source_image}
 use Rattle.sbx_asm.specs.Stages.Whole.{labels_in, draft_in, parts_in, image_made}
 use Rattle.sbx_asm.specs.Laws.{MeantImagesFitTheirFields}
@@ -70,10 +71,11 @@ abbrev HasBits : Services → Type 0
 HasBits x = x.0 < 2 ^ 16
 
 -- the image so far, and the place of its next word
-record MadeFits (n : ℕ) (ws bs : List ℕ) (x : Option Services) (fs : List Function) : Type 0 where
+record MadeFits (n : ℕ) (ws bs : List ℕ) (rs : List Region) (x : Option Services) (fs : List Function) : Type 0 where
   next : n ≤ code_end
   words : AllByRecursion (λ w. w < 2 ^ 32) ws
   bytes : Bytes bs
+  regions : AllByRecursion IsTypedRegion rs
   services : IfSome x HasBits
   functions : AllByRecursion IsTypedFunction fs
 
@@ -93,7 +95,7 @@ record BlockFits (a : ℕ) (z : Option ℤ) (cs : List Cell) (ts : List Term) : 
 
 abbrev DraftFits : Draft → Type 0
 DraftFits d =
-    MadeFits d.place.next_word d.words d.bytes d.services d.functions
+    MadeFits d.place.next_word d.words d.region.bytes d.region.regions d.services d.functions
     × FunctionFits d.function.head d.function.params d.function.results d.function.blocks
     × BlockFits d.block.address d.block.fuel d.block.cells d.block.terms
 
@@ -149,6 +151,7 @@ with_function_fits x d entry h =
         next = h.0.next;
         words = h.0.words;
         bytes = h.0.bytes;
+        regions = h.0.regions;
         services = h.0.services;
         functions = append_all IsTypedFunction d.functions (function_of x d.function ∷ []) h.0.functions (function, tt);
       },
@@ -252,7 +255,7 @@ add_services_fits x d fits h = by d.services
   where
     by : (o : Option Services) → DraftFits (services_by o x d)
     by (Some y) = h
-    by None = (record { next = h.0.next; words = h.0.words; bytes = h.0.bytes; services = fits; functions = h.0.functions }, h.1, h.2)
+    by None = (record { next = h.0.next; words = h.0.words; bytes = h.0.bytes; regions = h.0.regions; services = fits; functions = h.0.functions }, h.1, h.2)
 
 add_stack_fits : (n : ℕ) (d : Draft) → DraftFits d → DraftFits (add_stack n d)
 unfolding add_stack
@@ -262,13 +265,54 @@ add_stack_fits n d h = by d.stack
     by (Some y) = h
     by None = h
 
+-- ---- regions
+
+filled_fits : (bs : List ℕ) → Bytes bs → Bytes (filled bs)
+filled_fits bs fits = append_all (λ b. b < 256) bs _ fits (copies_all (λ b. b < 256) 0 (omega arith) _)
+
+region_fits : (writable : Bool) (bs : List ℕ) → AreBytes bs → AllByRecursion IsTypedRegion (region_with writable bs)
+region_fits writable [] fits = tt
+region_fits writable (b ∷ bs) fits = (fits, tt)
+
+close_region_fits : (d : Draft) → DraftFits d → DraftFits (close_region d)
+unfolding close_region leave_region
+close_region_fits d h = (
+  record {
+    next = h.0.next;
+    words = h.0.words;
+    bytes = tt;
+    regions = append_all IsTypedRegion d.region.regions _ h.0.regions (region_fits d.region.writable (filled d.region.bytes) (numbered_bytes (filled d.region.bytes) (filled_fits d.region.bytes h.0.bytes)));
+    services = h.0.services;
+    functions = h.0.functions;
+  },
+  h.1,
+  h.2,
+)
+
+begin_region_fits : (writable : Bool) (d : Draft) → DraftFits d → DraftFits (begin_region writable d)
+unfolding begin_region
+begin_region_fits writable d h = close_region_fits d h
+
+leave_region_fits : (d : Draft) → DraftFits d → DraftFits (leave_region d)
+unfolding leave_region
+leave_region_fits d h = h
+
+choose_data_fits : (d : Draft) → DraftFits d → DraftFits (choose_data d)
+unfolding choose_data
+choose_data_fits d h = h
+
+with_bytes_fits : (some : Bool) (d : Draft) → DraftFits d → DraftFits (with_bytes some d)
+with_bytes_fits some d h = h
+
+-- ---- data
+
 data_checked_fits : (n : ℕ) (d : Draft) → DraftFits d → DraftFits (data_checked n d)
 data_checked_fits n d h =
-    where_fits (not (has_room data_end d.place.next_byte n)) causes.Limit (noted_where (is_code d.place.section) causes.Directive d) (where_fits (is_code d.place.section) causes.Directive d h)
+    where_fits (not (has_room section_room d.place.region_bytes n)) causes.Limit (noted_where (is_code d.place.section) causes.Directive d) (where_fits (is_code d.place.section) causes.Directive d h)
 
-more_bytes_fit : (bs : List ℕ) (d : Draft) → Bytes bs → DraftFits d → DraftFits (record d { bytes = d.bytes ++ bs })
+more_bytes_fit : (bs : List ℕ) (d : Draft) → Bytes bs → DraftFits d → DraftFits (record d { region = record d.region { bytes = d.region.bytes ++ bs } })
 more_bytes_fit bs d fits h =
-    (record { next = h.0.next; words = h.0.words; bytes = append_all (λ b. b < 256) d.bytes bs h.0.bytes fits; services = h.0.services; functions = h.0.functions }, h.1, h.2)
+    (record { next = h.0.next; words = h.0.words; bytes = append_all (λ b. b < 256) d.region.bytes bs h.0.bytes fits; regions = h.0.regions; services = h.0.services; functions = h.0.functions }, h.1, h.2)
 
 with_data_fits : (r : Result (List ℕ) DataFault) (d : Draft) → IfOk r Bytes → DraftFits d → DraftFits (with_data r d)
 with_data_fits (Ok bs) d fits h = more_bytes_fit bs d fits h
@@ -283,7 +327,7 @@ add_values_fits width n r d fits h =
 
 add_zeros_fits : (n : ℕ) (d : Draft) → DraftFits d → DraftFits (add_zeros n d)
 unfolding add_zeros
-add_zeros_fits n d h = by (has_room data_end d.place.next_byte n)
+add_zeros_fits n d h = by (has_room section_room d.place.region_bytes n)
   where
     by : (t : Bool) → DraftFits (with_zeros t n (data_checked n d))
     by true = more_bytes_fit (replicate n 0) (data_checked n d) (copies_all (λ b. b < 256) 0 (omega arith) n) (data_checked_fits n d h)
@@ -291,7 +335,7 @@ add_zeros_fits n d h = by (has_room data_end d.place.next_byte n)
 
 with_words_fits : (r : Result (List Instr) SyntaxFault) (d : Draft) → IfOk r AreSpelled → DraftFits d → DraftFits (with_words r d)
 with_words_fits (Ok is) d fits h =
-    (record { next = h.0.next; words = append_all (λ w. w < 2 ^ 32) d.words (map spelling is) h.0.words fits; bytes = h.0.bytes; services = h.0.services; functions = h.0.functions }, h.1, h.2)
+    (record { next = h.0.next; words = append_all (λ w. w < 2 ^ 32) d.words (map spelling is) h.0.words fits; bytes = h.0.bytes; regions = h.0.regions; services = h.0.services; functions = h.0.functions }, h.1, h.2)
 with_words_fits (Err f) d fits h = h
 
 instruction_checked_fits : (line : List ℕ) (ts : List Token) (d : Draft) → DraftFits d → DraftFits (instruction_checked line ts d)
@@ -301,8 +345,9 @@ instruction_checked_fits line ts d h =
 
 module _ (values : Values) (line : List ℕ) (ts : List Token) where
   directive_fits : (x : Directive) (d : Draft) → Fits x → DraftFits d → DraftFits (directive_does values line ts x d)
-  directive_fits directives.Text d fits h = h
-  directive_fits directives.Data d fits h = h
+  directive_fits directives.Text d fits h = leave_region_fits d h
+  directive_fits directives.Data d fits h = choose_data_fits d h
+  directive_fits (directives.Region writable) d fits h = begin_region_fits writable d h
   directive_fits (directives.Services x) d fits h = add_services_fits x d fits h
   directive_fits (directives.Stack n) d fits h = add_stack_fits n d h
   directive_fits (directives.Function name kind frame room budget) d fits h = begin_function_fits kind frame room budget d h
@@ -312,9 +357,9 @@ module _ (values : Values) (line : List ℕ) (ts : List Token) where
   directive_fits (directives.Cell c) d fits h = add_cell_fits c d fits h
   directive_fits (directives.Fuel z) d fits h = add_fuel_fits z d fits h
   directive_fits (directives.Term t) d fits h = add_term_fits t d fits h
-  directive_fits (directives.Values w n) d fits h = add_values_fits w n (data_of values line w ts) d (data_bytes values line w ts) h
-  directive_fits (directives.Skip n) d fits h = add_zeros_fits n d h
-  directive_fits (directives.Align n) d fits h = add_zeros_fits (padding n d.place.next_byte) d h
+  directive_fits (directives.Values w n) d fits h = with_bytes_fits true (add_values w n (data_of values line w ts) d) (add_values_fits w n (data_of values line w ts) d (data_bytes values line w ts) h)
+  directive_fits (directives.Skip n) d fits h = with_bytes_fits (ltb 0 n) (add_zeros n d) (add_zeros_fits n d h)
+  directive_fits (directives.Align n) d fits h = add_zeros_fits (padding_of n d.place.region_bytes) d h
 
   instruction_fits : (d : Draft) → DraftFits d → DraftFits (instruction_does values line ts d)
   unfolding instruction_does
@@ -334,11 +379,11 @@ module _ (values : Values) (line : List ℕ) (ts : List Token) where
   unfolding behind_labels
   behind_fits d h =
       let made = does_fit (statement_of line ts) d (statement_fits line ts) h in
-      (record { next = place_within line ts (statement_of line ts) d.place h.0.next; words = made.0.words; bytes = made.0.bytes; services = made.0.services; functions = made.0.functions }, made.1, made.2)
+      (record { next = place_within line ts (statement_of line ts) d.place h.0.next; words = made.0.words; bytes = made.0.bytes; regions = made.0.regions; services = made.0.services; functions = made.0.functions }, made.1, made.2)
 
 tokens_fit : (values : Values) (line : List ℕ) (d : Draft) (r : Result (List Token) TextFault) → DraftFits d → DraftFits (draft_tokens values line d r)
 tokens_fit values line d (Err f) h =
-    (record { next = moved_within code_end d.place.next_word 4 h.0.next; words = h.0.words; bytes = h.0.bytes; services = h.0.services; functions = h.0.functions }, h.1, h.2)
+    (record { next = moved_within code_end d.place.next_word 4 h.0.next; words = h.0.words; bytes = h.0.bytes; regions = h.0.regions; services = h.0.services; functions = h.0.functions }, h.1, h.2)
 tokens_fit values line d (Ok ts) h = behind_fits values line (drop (2 * label_count line ts) ts) d h
 
 numbered_fits : (number : ℕ) (d : Draft) → DraftFits d → DraftFits (numbered_line number d)
@@ -351,7 +396,7 @@ line_fits values d x h = tokens_fit values x.1 (numbered_line x.0 d) (tokens_of 
 
 empty_fits : (fault : Option AsmFault) → DraftFits (empty_draft fault)
 empty_fits fault = (
-  record { next = omega arith; words = tt; bytes = tt; services = tt; functions = tt },
+  record { next = omega arith; words = tt; bytes = tt; regions = tt; services = tt; functions = tt },
   record { head = tt; params = tt; results = tt; blocks = tt },
   record { address = omega arith; fuel = no_fuel; cells = tt; terms = tt },
 )
@@ -365,19 +410,20 @@ draft_fits labels source = fold_all DraftFits (draft_line labels.values) (λ d x
 abbrev PartsFit : Parts → Type 0
 PartsFit p = IsTyped p
 
-regions_fit : (bytes : List ℕ) → AreBytes bytes → AllByRecursion IsTypedRegion (regions_of bytes)
-regions_fit [] fits = tt
-regions_fit (b ∷ bytes) fits = (fits, tt)
-
 some_services : (o : Option Services) → IfSome o HasBits → HasBits (unwrap_or o (record { 0 = 0 }))
 some_services (Some x) h = h
 some_services None h = omega arith
 
+version_fits : (regions : Bool) → version_with regions < 2 ^ 16
+version_fits true = omega arith
+version_fits false = omega arith
+
 parts_fit : (d : Draft) → DraftFits d → PartsFit (parts_in d)
 unfolding parts_in
-parts_fit d h =
-    let bytes = numbered_bytes (filled d.bytes) (append_all (λ b. b < 256) d.bytes _ h.0.bytes (copies_all (λ b. b < 256) 0 (omega arith) _)) in
-    record { version = omega arith; services = some_services d.services h.0.services; words = h.0.words; regions = regions_fit (filled d.bytes) bytes; functions = h.0.functions }
+parts_fit d h = record { version = version_fits d.region.has_region; services = some_services d.services h.0.services; words = h.0.words; regions = h.0.regions; functions = h.0.functions }
+
+closed_fits : (d : Draft) → DraftFits d → DraftFits (closed d)
+closed_fits d h = close_function_fits (close_region d) (close_region_fits d h)
 
 same_parts : (p parts : Parts) → (let r : Result Parts AsmFault = Ok p in r) ≡ Ok parts → p ≡ parts
 same_parts p parts e = cc
@@ -393,8 +439,8 @@ judged_fits after None p parts h e = kept_fits after p parts (parts_keep p) h e
 made_images_fit : (source : List ℕ) (parts : Parts) → image_made source ≡ Ok parts → PartsFit parts
 unfolding image_made
 made_images_fit source parts told =
-    let d : Draft = close_function (draft_in (labels_in source) source) in
-    judged_fits (length (lines_of source) + 1) d.fault (parts_in d) parts (parts_fit d (close_function_fits (draft_in (labels_in source) source) (draft_fits (labels_in source) source))) told
+    let d : Draft = closed (draft_in (labels_in source) source) in
+    judged_fits (length (lines_of source) + 1) d.fault (parts_in d) parts (parts_fit d (closed_fits (draft_in (labels_in source) source) (draft_fits (labels_in source) source))) told
 
 pub meant_images_fit : MeantImagesFitTheirFields
 meant_images_fit source parts told = made_images_fit source parts (stages_agree source ∙ told)

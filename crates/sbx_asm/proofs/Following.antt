@@ -3,7 +3,7 @@ use Rattle.std.proofs.Common.{◌≡◌, ℕ, ◌+◌, ◌*◌, Bool, true, fals
 use Rattle.std.specs.Prelude.{not, ◌&&◌, ◌||◌, ◌==◌, nat_lt, nat_le, if◌then◌else◌}
 use Rattle.std.specs.Option.{is_some}
 use Rattle.std.specs.List.{fold, list_any, flat_map}
-use Rattle.std.proofs.lemmas.Bool.{leb-true, leb-false, ltb-true, ltb-false, eqb-true, false≢true, true≢false}
+use Rattle.std.proofs.lemmas.Bool.{leb-true, leb-false, le-ltb, ltb-true, ltb-false, eqb-true, false≢true, true≢false}
 use Rattle.std.proofs.lemmas.List.{length-append}
 use Rattle.sbx_text.specs.declared.Token.{Token}
 use Rattle.v8_formats.specs.declared.instr.Instr.{Instr}
@@ -27,11 +27,12 @@ use Rattle.sbx_asm.specs.declared.fault.Cause.TheVariants as causes
 use Rattle.sbx_asm.specs.declared.opening.Head.{Head}
 use Rattle.sbx_asm.specs.declared.draft.Draft.{Draft}
 use Rattle.sbx_asm.specs.Faults.{told, at}
-use Rattle.sbx_asm.specs.Items.{Item, Said, up_to, count, starts_function, ends_function, is_block, ends_block, in_function, block_count, params, results, cells, terms}
+use Rattle.sbx_asm.specs.Items.{Item, Said, up_to, count, starts_function, ends_function, is_data, is_region, is_block, ends_block, in_function, block_count, params, results, cells, terms}
 use Rattle.sbx_asm.specs.Rules.{Values, acts, is_unknown, takes_annotations, takes_ranges, has_fuel, last_cell, last_term, is_services, is_stack}
-use Rattle.sbx_asm.specs.Stages.Places.{padding, has_room, data_end}
+use Rattle.sbx_asm.specs.Addresses.{padding_of, section_room}
+use Rattle.sbx_asm.specs.Stages.Places.{has_room}
 use Rattle.sbx_asm.specs.Stages.Drafts as stages
-use Rattle.sbx_asm.specs.Stages.Drafts.{close_block, close_headed, close_function, headed, open_block, begin_function, begin_block_of, begin_block, param_if, add_param, result_if, add_result, cell_if, add_cell, term_if, add_term, fuel_if, fuel_by, add_fuel, services_by, add_services, stack_by, add_stack, noted, noted_where, begun, data_checked, with_data, with_zeros, add_values, add_zeros, instruction_checked, with_words, instruction_does, statement_does, numbered_line}
+use Rattle.sbx_asm.specs.Stages.Drafts.{close_block, close_headed, close_function, headed, open_block, begin_function, begin_block_of, begin_block, param_if, add_param, result_if, add_result, cell_if, add_cell, term_if, add_term, fuel_if, fuel_by, add_fuel, services_by, add_services, stack_by, add_stack, noted, noted_where, begun, leave_region, close_region, choose_data, begin_region, with_bytes, data_checked, with_data, with_zeros, add_values, add_zeros, instruction_checked, with_words, instruction_does, statement_does, numbered_line}
 use Rattle.sbx_asm.proofs.Standing.{item, passed}
 
 -- ---- a line as an item
@@ -46,8 +47,9 @@ abbrev pub bit : Bool → ℕ
 bit true = 1
 bit false = 0
 
-abbrev pub capped : ℕ → ℕ
-capped n = if leb n 4096 then n else 4096
+-- up to the most
+abbrev pub capped : ℕ → ℕ → ℕ
+capped most n = if leb n most then n else most
 
 abbrev pub IsClosed : Draft → Type 0
 IsClosed d = (d.function.params ≡ []) × (d.function.results ≡ []) × (d.function.blocks ≡ []) × (d.block.cells ≡ []) × (d.block.terms ≡ [])
@@ -57,7 +59,7 @@ abbrev pub Behind : Values → List Item → Bool → Draft → Type 0
 Behind values before u d =
     (is_some d.function.head ≡ in_function before)
     × (length d.functions + bit (is_some d.function.head) ≡ count starts_function before)
-    × (d.block_count ≡ capped (block_count before))
+    × (d.block_count ≡ capped 4096 (block_count before))
     × (in_function before ≡ true → d.block.begun ≡ (u || list_any (acts values) (up_to ends_block before)))
     × (in_function before ≡ true → (length d.function.blocks == 0) ≡ not (list_any is_block (up_to ends_function before)))
     × (in_function before ≡ false → IsClosed d)
@@ -69,6 +71,9 @@ Behind values before u d =
     × (is_some d.block.fuel ≡ has_fuel values before)
     × (is_some d.services ≡ list_any is_services before)
     × (is_some d.stack ≡ list_any is_stack before)
+    × (d.region.count ≡ capped 8 (count is_region before))
+    × (d.region.has_data ≡ list_any is_data before)
+    × (d.region.has_region ≡ list_any is_region before)
 
 abbrev pub Follows : Values → List Item → Draft → Type 0
 Follows values before d = Behind values before false d
@@ -137,31 +142,46 @@ not_none xs x = by (length (xs ++ x ∷ []) == 0) refl
     by true e = let k = eqb-true (length (xs ++ x ∷ [])) 0 e in let l = length-append xs (x ∷ []) in absurd (omega arith)
     by false e = refl
 
-capped_more : (n : ℕ) → cond (ltb (capped n) 4096) (capped n + 1) (capped n) ≡ capped (n + 1)
-capped_more n = by (leb n 4096) (ltb (capped n) 4096) (leb (n + 1) 4096) refl refl refl
+capped_more : (most n : ℕ) → cond (ltb (capped most n) most) (capped most n + 1) (capped most n) ≡ capped most (n + 1)
+capped_more most n = by (leb n most) (ltb (capped most n) most) (leb (n + 1) most) refl refl refl
   where
-    by : (s t u : Bool) → leb n 4096 ≡ s → ltb (cond s n 4096) 4096 ≡ t → leb (n + 1) 4096 ≡ u → cond t (cond s n 4096 + 1) (cond s n 4096) ≡ cond u (n + 1) 4096
+    by : (s t u : Bool) → leb n most ≡ s → ltb (cond s n most) most ≡ t → leb (n + 1) most ≡ u → cond t (cond s n most + 1) (cond s n most) ≡ cond u (n + 1) most
     by true true true p q r = refl
-    by true true false p q r = let k = ltb-true n 4096 q in let l = leb-false (n + 1) 4096 r in absurd (omega arith)
-    by true false true p q r = let k = ltb-false n 4096 q in let l = leb-true (n + 1) 4096 r in absurd (omega arith)
-    by true false false p q r = let k = leb-true n 4096 p in let l = ltb-false n 4096 q in omega arith
-    by false true u p q r = absurd (false≢true q)
-    by false false true p q r = let k = leb-false n 4096 p in let l = leb-true (n + 1) 4096 r in absurd (omega arith)
+    by true true false p q r = let k = ltb-true n most q in let l = leb-false (n + 1) most r in absurd (omega arith)
+    by true false true p q r = let k = ltb-false n most q in let l = leb-true (n + 1) most r in absurd (omega arith)
+    by true false false p q r = let k = leb-true n most p in let l = ltb-false n most q in omega arith
+    by false true u p q r = let k = ltb-true most most q in absurd (omega arith)
+    by false false true p q r = let k = leb-false n most p in let l = leb-true (n + 1) most r in absurd (omega arith)
     by false false false p q r = refl
 
-pub capped_room : (n : ℕ) → ltb (capped n) 4096 ≡ ltb n 4096
-capped_room n = by (leb n 4096) refl
+pub capped_room : (most n : ℕ) → ltb (capped most n) most ≡ ltb n most
+capped_room most n = by (leb n most) refl
   where
-    big : (t : Bool) → ltb n 4096 ≡ t → leb n 4096 ≡ false → false ≡ t
-    big true q p = let k = ltb-true n 4096 q in let l = leb-false n 4096 p in absurd (omega arith)
+    big : (t : Bool) → ltb n most ≡ t → leb n most ≡ false → false ≡ t
+    big true q p = let k = ltb-true n most q in let l = leb-false n most p in absurd (omega arith)
     big false q p = refl
 
-    by : (s : Bool) → leb n 4096 ≡ s → ltb (cond s n 4096) 4096 ≡ ltb n 4096
+    by : (s : Bool) → leb n most ≡ s → ltb (cond s n most) most ≡ ltb n most
     by true p = refl
-    by false p = big (ltb n 4096) refl p
+    by false p = le-ltb most most (omega arith) ∙ big (ltb n most) refl p
 
-another : (c n : ℕ) → c ≡ capped n → cond (ltb c 4096) (c + 1) c ≡ capped (n + 1)
-another c n h = ap (λ (k : ℕ). cond (ltb k 4096) (k + 1) k) h ∙ capped_more n
+pub capped_least : (most n : ℕ) → leb most (capped most n) ≡ leb most n
+capped_least most n = by (leb n most) refl
+  where
+    big : (t : Bool) → leb most n ≡ t → leb n most ≡ false → true ≡ t
+    big true q p = refl
+    big false q p = let k = leb-false most n q in let l = leb-false n most p in absurd (omega arith)
+
+    same : (t : Bool) → leb most most ≡ t → true ≡ t
+    same true q = refl
+    same false q = let k = leb-false most most q in absurd (omega arith)
+
+    by : (s : Bool) → leb n most ≡ s → leb most (cond s n most) ≡ leb most n
+    by true p = refl
+    by false p = sym (same (leb most most) refl) ∙ big (leb most n) refl p
+
+another : (most c n : ℕ) → c ≡ capped most n → cond (ltb c most) (c + 1) c ≡ capped most (n + 1)
+another most c n h = ap (λ (k : ℕ). cond (ltb k most) (k + 1) k) h ∙ capped_more most n
 
 -- ---- where annotations may stand
 
@@ -186,7 +206,7 @@ module _ (values : Values) (before : List Item) (number : ℕ) (labels : List (L
 
   -- a line that acts
   acted : (d : Draft) → Follows values before d → Behind values before true (begun d)
-  acted d h = (h.0, h.1, h.2, λ _. refl, h.4, h.5, λ t. absurd (no_ranges (in_function before) _ t), λ t. absurd (no_lists (in_function before) t), h.8, h.9, h.10)
+  acted d h = (h.0, h.1, h.2, λ _. refl, h.4, h.5, λ t. absurd (no_ranges (in_function before) _ t), λ t. absurd (no_lists (in_function before) t), h.8, h.9, h.10, h.11, h.12, h.13)
 
   begins : (kind : Kind) (frame room budget : ℕ) (name : Name) (d : Draft) → Follows values before d
       → (o : Option Head) → is_some o ≡ in_function before → length d.functions + bit (is_some o) ≡ count starts_function before
@@ -196,7 +216,7 @@ module _ (values : Values) (before : List Item) (number : ℕ) (labels : List (L
   begins kind frame room budget name d h (Some x) p q = (
     refl,
     ap (λ (n : ℕ). n + 1) (one_longer d.functions _ (count starts_function before) q),
-    another d.block_count (block_count before) h.2,
+    another 4096 d.block_count (block_count before) h.2,
     λ _. refl,
     λ _. refl,
     λ t. absurd (true≢false t),
@@ -205,12 +225,15 @@ module _ (values : Values) (before : List Item) (number : ℕ) (labels : List (L
     refl,
     h.9,
     h.10,
+    h.11,
+    h.12,
+    h.13,
   )
   begins kind frame room budget name d h None p q =
       let c : IsClosed d = h.5 (sym p) in (
         refl,
         (let e : length d.functions + 1 ≡ count starts_function before + 1 = omega arith in e),
-        another d.block_count (block_count before) h.2,
+        another 4096 d.block_count (block_count before) h.2,
         λ _. refl,
         λ _. ap (λ (bs : List Block). length bs == 0) c.2,
         λ t. absurd (true≢false t),
@@ -219,6 +242,9 @@ module _ (values : Values) (before : List Item) (number : ℕ) (labels : List (L
         refl,
         h.9,
         h.10,
+        h.11,
+        h.12,
+        h.13,
       )
 
   ends : (name : Option Name) (d : Draft) → Follows values before d
@@ -237,15 +263,18 @@ module _ (values : Values) (before : List Item) (number : ℕ) (labels : List (L
     h.8,
     h.9,
     h.10,
+    h.11,
+    h.12,
+    h.13,
   )
-  ends name d h None s p q = (s, ap (λ (b : Bool). length d.functions + bit b) s ∙ q, h.2, λ t. absurd (false≢true t), λ t. absurd (false≢true t), λ _. h.5 (sym p), λ t. absurd (false≢true t), λ t. absurd (false≢true t), h.8, h.9, h.10)
+  ends name d h None s p q = (s, ap (λ (b : Bool). length d.functions + bit b) s ∙ q, h.2, λ t. absurd (false≢true t), λ t. absurd (false≢true t), λ _. h.5 (sym p), λ t. absurd (false≢true t), λ t. absurd (false≢true t), h.8, h.9, h.10, h.11, h.12, h.13)
 
   -- what is common behind a `.block`
   abbrev Divided : Draft → Type 0
   Divided d =
       (is_some d.function.head ≡ in_function before)
       × (length d.functions + bit (is_some d.function.head) ≡ count starts_function before)
-      × (d.block_count ≡ capped (if in_function before then block_count before + 1 else block_count before))
+      × (d.block_count ≡ capped 4096 (if in_function before then block_count before + 1 else block_count before))
       × (in_function before ≡ true → d.block.begun ≡ false)
       × (in_function before ≡ true → (length d.function.blocks == 0) ≡ false)
       × (in_function before ≡ false → IsClosed d)
@@ -255,13 +284,16 @@ module _ (values : Values) (before : List Item) (number : ℕ) (labels : List (L
       × (is_some d.block.fuel ≡ (has_fuel values before && not (in_function before)))
       × (is_some d.services ≡ list_any is_services before)
       × (is_some d.stack ≡ list_any is_stack before)
+      × (d.region.count ≡ capped 8 (count is_region before))
+      × (d.region.has_data ≡ list_any is_data before)
+      × (d.region.has_region ≡ list_any is_region before)
 
   divides : (d : Draft) → Follows values before d → (o : Option Head) → is_some o ≡ in_function before → Divided (begin_block_of o d)
   unfolding open_block close_block
   divides d h (Some x) p = (
     h.0,
     h.1,
-    another d.block_count (block_count before) h.2 ∙ ap (λ (b : Bool). capped (cond b (block_count before + 1) (block_count before))) p,
+    another 4096 d.block_count (block_count before) h.2 ∙ ap (λ (b : Bool). capped 4096 (cond b (block_count before + 1) (block_count before))) p,
     λ _. refl,
     λ _. not_none d.function.blocks _,
     λ t. absurd (true≢false (p ∙ t)),
@@ -270,11 +302,14 @@ module _ (values : Values) (before : List Item) (number : ℕ) (labels : List (L
     sym (ap (λ (b : Bool). has_fuel values before && not b) (sym p) ∙ and_false (has_fuel values before)),
     h.9,
     h.10,
+    h.11,
+    h.12,
+    h.13,
   )
   divides d h None p = (
     h.0,
     h.1,
-    h.2 ∙ ap (λ (b : Bool). capped (cond b (block_count before + 1) (block_count before))) p,
+    h.2 ∙ ap (λ (b : Bool). capped 4096 (cond b (block_count before + 1) (block_count before))) p,
     λ t. absurd (false≢true (p ∙ t)),
     λ t. absurd (false≢true (p ∙ t)),
     h.5,
@@ -283,6 +318,9 @@ module _ (values : Values) (before : List Item) (number : ℕ) (labels : List (L
     h.8 ∙ sym (ap (λ (b : Bool). has_fuel values before && not b) (sym p) ∙ and_true (has_fuel values before)),
     h.9,
     h.10,
+    h.11,
+    h.12,
+    h.13,
   )
 
   -- annotations
@@ -299,8 +337,11 @@ module _ (values : Values) (before : List Item) (number : ℕ) (labels : List (L
     h.8,
     h.9,
     h.10,
+    h.11,
+    h.12,
+    h.13,
   )
-  param_follows r d h false e = (h.0, h.1, h.2, h.3, h.4, h.5, λ t. absurd (false≢true (sym e ∙ same_ranges values before d h ∙ t)), h.7, h.8, h.9, h.10)
+  param_follows r d h false e = (h.0, h.1, h.2, h.3, h.4, h.5, λ t. absurd (false≢true (sym e ∙ same_ranges values before d h ∙ t)), h.7, h.8, h.9, h.10, h.11, h.12, h.13)
 
   result_follows : (r : Range) (d : Draft) → Follows values before d → (t : Bool) → stages.takes_ranges d.function d.block ≡ t → Follows values (it (Ok (statements.Directive (directives.Result r))) ∷ before) (result_if t r d)
   result_follows r d h true e = (
@@ -315,8 +356,11 @@ module _ (values : Values) (before : List Item) (number : ℕ) (labels : List (L
     h.8,
     h.9,
     h.10,
+    h.11,
+    h.12,
+    h.13,
   )
-  result_follows r d h false e = (h.0, h.1, h.2, h.3, h.4, h.5, λ t. absurd (false≢true (sym e ∙ same_ranges values before d h ∙ t)), h.7, h.8, h.9, h.10)
+  result_follows r d h false e = (h.0, h.1, h.2, h.3, h.4, h.5, λ t. absurd (false≢true (sym e ∙ same_ranges values before d h ∙ t)), h.7, h.8, h.9, h.10, h.11, h.12, h.13)
 
   cell_follows : (c : Cell) (d : Draft) → Follows values before d → (t : Bool) → stages.takes_annotations d.function d.block ≡ t → Follows values (it (Ok (statements.Directive (directives.Cell c))) ∷ before) (cell_if t c d)
   cell_follows c d h true e = (
@@ -331,8 +375,11 @@ module _ (values : Values) (before : List Item) (number : ℕ) (labels : List (L
     h.8,
     h.9,
     h.10,
+    h.11,
+    h.12,
+    h.13,
   )
-  cell_follows c d h false e = (h.0, h.1, h.2, h.3, h.4, h.5, h.6, λ t. absurd (false≢true (sym e ∙ same_annotations values before d h ∙ t)), h.8, h.9, h.10)
+  cell_follows c d h false e = (h.0, h.1, h.2, h.3, h.4, h.5, h.6, λ t. absurd (false≢true (sym e ∙ same_annotations values before d h ∙ t)), h.8, h.9, h.10, h.11, h.12, h.13)
 
   term_follows : (x : Term) (d : Draft) → Follows values before d → (t : Bool) → stages.takes_annotations d.function d.block ≡ t → Follows values (it (Ok (statements.Directive (directives.Term x))) ∷ before) (term_if t x d)
   term_follows x d h true e = (
@@ -347,29 +394,32 @@ module _ (values : Values) (before : List Item) (number : ℕ) (labels : List (L
     h.8,
     h.9,
     h.10,
+    h.11,
+    h.12,
+    h.13,
   )
-  term_follows x d h false e = (h.0, h.1, h.2, h.3, h.4, h.5, h.6, λ t. absurd (false≢true (sym e ∙ same_annotations values before d h ∙ t)), h.8, h.9, h.10)
+  term_follows x d h false e = (h.0, h.1, h.2, h.3, h.4, h.5, h.6, λ t. absurd (false≢true (sym e ∙ same_annotations values before d h ∙ t)), h.8, h.9, h.10, h.11, h.12, h.13)
 
   fuel_follows : (z : ℤ) (d : Draft) → Follows values before d → (o : Option ℤ) → is_some o ≡ has_fuel values before
       → Follows values (it (Ok (statements.Directive (directives.Fuel z))) ∷ before) (fuel_by o z d)
-  fuel_follows z d h (Some y) p = (h.0, h.1, h.2, h.3, h.4, h.5, h.6, h.7, h.8 ∙ or_known (has_fuel values before) (takes_annotations values before) p, h.9, h.10)
+  fuel_follows z d h (Some y) p = (h.0, h.1, h.2, h.3, h.4, h.5, h.6, h.7, h.8 ∙ or_known (has_fuel values before) (takes_annotations values before) p, h.9, h.10, h.11, h.12, h.13)
   fuel_follows z d h None p = by (stages.takes_annotations d.function d.block) refl
     where
       by : (t : Bool) → stages.takes_annotations d.function d.block ≡ t → Follows values (it (Ok (statements.Directive (directives.Fuel z))) ∷ before) (fuel_if t z d)
-      by true e = (h.0, h.1, h.2, h.3, h.4, h.5, h.6, h.7, or_second (has_fuel values before) (takes_annotations values before) p (sym (same_annotations values before d h) ∙ e), h.9, h.10)
-      by false e = (h.0, h.1, h.2, h.3, h.4, h.5, h.6, h.7, h.8 ∙ or_neither (has_fuel values before) (takes_annotations values before) (sym (same_annotations values before d h) ∙ e), h.9, h.10)
+      by true e = (h.0, h.1, h.2, h.3, h.4, h.5, h.6, h.7, or_second (has_fuel values before) (takes_annotations values before) p (sym (same_annotations values before d h) ∙ e), h.9, h.10, h.11, h.12, h.13)
+      by false e = (h.0, h.1, h.2, h.3, h.4, h.5, h.6, h.7, h.8 ∙ or_neither (has_fuel values before) (takes_annotations values before) (sym (same_annotations values before d h) ∙ e), h.9, h.10, h.11, h.12, h.13)
 
   services_follow : (x : Services) (d : Draft) → Follows values before d → (o : Option Services) → is_some d.services ≡ is_some o
       → Follows values (it (Ok (statements.Directive (directives.Services x))) ∷ before) (services_by o x d)
-  services_follow x d h (Some y) p = (h.0, h.1, h.2, h.3, h.4, h.5, h.6, h.7, h.8, p, h.10)
-  services_follow x d h None p = (h.0, h.1, h.2, h.3, h.4, h.5, h.6, h.7, h.8, refl, h.10)
+  services_follow x d h (Some y) p = (h.0, h.1, h.2, h.3, h.4, h.5, h.6, h.7, h.8, p, h.10, h.11, h.12, h.13)
+  services_follow x d h None p = (h.0, h.1, h.2, h.3, h.4, h.5, h.6, h.7, h.8, refl, h.10, h.11, h.12, h.13)
 
   stack_follows : (n : ℕ) (d : Draft) → Follows values before d → (o : Option ℕ) → is_some d.stack ≡ is_some o
       → Follows values (it (Ok (statements.Directive (directives.Stack n))) ∷ before) (stack_by o n d)
-  stack_follows n d h (Some y) p = (h.0, h.1, h.2, h.3, h.4, h.5, h.6, h.7, h.8, h.9, p)
-  stack_follows n d h None p = (h.0, h.1, h.2, h.3, h.4, h.5, h.6, h.7, h.8, h.9, refl)
+  stack_follows n d h (Some y) p = (h.0, h.1, h.2, h.3, h.4, h.5, h.6, h.7, h.8, h.9, p, h.11, h.12, h.13)
+  stack_follows n d h None p = (h.0, h.1, h.2, h.3, h.4, h.5, h.6, h.7, h.8, h.9, refl, h.11, h.12, h.13)
 
-  values_follow : (n : ℕ) (d : Draft) → Follows values before d → (r : Result (List ℕ) DataFault) → Behind values before (is_unknown r) (with_data r (data_checked n d))
+  values_follow : (n : ℕ) (d : Draft) → Follows values before d → (r : Result (List ℕ) DataFault) → Behind values before (is_unknown r) (with_bytes true (with_data r (data_checked n d)))
   values_follow n d h (Ok bs) = h
   values_follow n d h (Err data_faults.UnknownSymbol) = acted d h
   values_follow n d h (Err data_faults.Malformed) = h
@@ -379,12 +429,20 @@ module _ (values : Values) (before : List Item) (number : ℕ) (labels : List (L
   zeros_follow n d h true = h
   zeros_follow n d h false = h
 
+  skip_follows : (n : ℕ) (d : Draft) → Follows values before d → (t b : Bool) → Follows values before (with_bytes b (with_zeros t n (data_checked n d)))
+  skip_follows n d h true b = h
+  skip_follows n d h false b = h
+
+  region_follows : (writable : Bool) (d : Draft) → Follows values before d → Follows values (it (Ok (statements.Directive (directives.Region writable))) ∷ before) (begin_region writable d)
+  unfolding leave_region close_region begin_region
+  region_follows writable d h = (h.0, h.1, h.2, h.3, h.4, h.5, h.6, h.7, h.8, h.9, h.10, another 8 d.region.count (count is_region before) h.11, h.12, refl)
+
   words_follow : (d : Draft) → Follows values before d → (r : Result (List Instr) SyntaxFault) → Behind values before true (begun (with_words r (instruction_checked bytes tokens d)))
   words_follow d h (Ok is) = acted d h
   words_follow d h (Err f) = acted d h
 
   pub follows : (s : Said) (d : Draft) → Follows values before d → Follows values (it s ∷ before) (said_does values (it s) s d)
-  unfolding statement_does instruction_does add_param add_result add_cell add_term add_fuel add_services add_stack add_values add_zeros begin_function begin_block close_function
+  unfolding leave_region choose_data statement_does instruction_does add_param add_result add_cell add_term add_fuel add_services add_stack add_values add_zeros begin_function begin_block close_function
   follows (Err f) d h = acted d h
   follows (Ok statements.Nothing) d h = h
   follows (Ok statements.Instruction) d h = words_follow d h (source_meaning values d.place.next_word bytes tokens)
@@ -392,7 +450,8 @@ module _ (values : Values) (before : List Item) (number : ℕ) (labels : List (L
   follows (Ok (statements.Malformed keywords.Block name)) d h = divides d h d.function.head h.0
   follows (Ok (statements.Malformed _ name)) d h = h
   follows (Ok (statements.Directive directives.Text)) d h = h
-  follows (Ok (statements.Directive directives.Data)) d h = h
+  follows (Ok (statements.Directive directives.Data)) d h = (h.0, h.1, h.2, h.3, h.4, h.5, h.6, h.7, h.8, h.9, h.10, h.11, refl, h.13)
+  follows (Ok (statements.Directive (directives.Region writable))) d h = region_follows writable d h
   follows (Ok (statements.Directive (directives.Services x))) d h = services_follow x d h d.services refl
   follows (Ok (statements.Directive (directives.Stack n))) d h = stack_follows n d h d.stack refl
   follows (Ok (statements.Directive (directives.Function name kind frame room budget))) d h = begins kind frame room budget name d h d.function.head h.0 h.1
@@ -403,5 +462,5 @@ module _ (values : Values) (before : List Item) (number : ℕ) (labels : List (L
   follows (Ok (statements.Directive (directives.Fuel z))) d h = fuel_follows z d h d.block.fuel h.8
   follows (Ok (statements.Directive (directives.Term x))) d h = term_follows x d h (stages.takes_annotations d.function d.block) refl
   follows (Ok (statements.Directive (directives.Values w n))) d h = values_follow (bytes_of_width w * n) d h (data_of values bytes w tokens)
-  follows (Ok (statements.Directive (directives.Skip n))) d h = zeros_follow n d h (has_room data_end d.place.next_byte n)
-  follows (Ok (statements.Directive (directives.Align n))) d h = zeros_follow (padding n d.place.next_byte) d h (has_room data_end d.place.next_byte (padding n d.place.next_byte))
+  follows (Ok (statements.Directive (directives.Skip n))) d h = skip_follows n d h (has_room section_room d.place.region_bytes n) (nat_lt 0 n)
+  follows (Ok (statements.Directive (directives.Align n))) d h = zeros_follow (padding_of n d.place.region_bytes) d h (has_room section_room d.place.region_bytes (padding_of n d.place.region_bytes))

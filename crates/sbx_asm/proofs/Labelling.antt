@@ -24,13 +24,11 @@ use Rattle.sbx_asm.specs.Lines.{lines_of}
 use Rattle.sbx_asm.specs.Items.{Item, Said, label_names, read_line, item_of, each, all_lines, items_of}
 use Rattle.sbx_asm.specs.Addresses.{Label, code_address, address_in_section, section_after, name_or_none, names_said, labelled, labels_at, all_labels, worth_in, values_of}
 use Rattle.sbx_asm.specs.Rules.{Values, is_called, told_again, duplicates, least_of}
-use Rattle.sbx_asm.specs.declared.place.Section.{Section}
-use Rattle.sbx_asm.specs.declared.place.Section.TheVariants.{Code, Data}
-use Rattle.sbx_asm.specs.Stages.Places.{address, address_in, with_code, place_after}
+use Rattle.sbx_asm.specs.Stages.Places.{address, with_code, place_after}
 use Rattle.sbx_asm.specs.Stages.Labels.{Labels, with_label, added_to, add, add_here, names_of, survey_statement, survey_tokens, survey_line, no_lines}
 use Rattle.sbx_asm.specs.Stages.Whole.{labels_in}
 use Rattle.sbx_asm.proofs.Tables.{same_values}
-use Rattle.sbx_asm.proofs.Standing.{place_of, stands}
+use Rattle.sbx_asm.proofs.Standing.{place_of, stands, in_section}
 
 pub fold_append : {A B : Type 0} (f : B → A → B) (a : B) (xs ys : List A) → fold f a (xs ++ ys) ≡ fold f (fold f a xs) ys
 fold_append f a [] ys = refl
@@ -140,10 +138,6 @@ more_labels front (l ∷ before) after =
 -- ---- line by line
 
 module _ (before after : List Item) (f : Option AsmFault) (ls : List Label) where
-  in_section : (x : Section) → address_in x (place_of before) ≡ address_in_section before x
-  in_section Code = refl
-  in_section Data = refl
-
   abbrev with_line : Item → Labels
   with_line i = knowing (place_of (i ∷ before)) (fold told f (duplicates ls (labels_at before i after))) (ls ++ labels_at before i after)
 
@@ -160,7 +154,7 @@ module _ (before after : List Item) (f : Option AsmFault) (ls : List Label) wher
       let here : List Label = map (labelled number (address p)) names in
       let there : List Label = map (labelled number (address_in_section before (section_after before))) names in
       let own : List Label = map (labelled number (code_address before)) (names_said line (Ok s)) in
-      let same : here ≡ there = ap (λ (a : ℕ). map (labelled number a) names) (in_section (section_after before)) in
+      let same : here ≡ there = ap (λ (a : ℕ). map (labelled number a) names) (in_section before (section_after before)) in
       let q : Place = place_of (read_line number line (Ok ts) ∷ before) in
       ap (survey_statement number line rest) (here_of p number f ls names)
       ∙ ap (λ (x : Labels). let y : Labels = record x { place = place_after line rest s p } in y) (the_name p number line (fold told f (duplicates ls here)) (ls ++ here) s)

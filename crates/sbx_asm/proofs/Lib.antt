@@ -11,6 +11,7 @@ mod Standing
 mod Labelling
 mod Following
 mod Orders
+mod Pages
 mod Telling
 mod Turning
 mod Making

@@ -1,6 +1,6 @@
 -- What the stages make of lines without faults is the image of the lines.
 use Rattle.std.proofs.Common.{◌≡◌, ℕ, ◌+◌, ◌*◌, Bool, true, false, cond, ltb, leb, ℤ, pos, List, [], ◌∷◌, ◌++◌, length, map, Option, None, Some, Result, Ok, Err, refl, sym, ap, ◌∙◌, append_assoc, arith}
-use Rattle.std.specs.Prelude.{not, ◌&&◌, nat_lt, nat_le, replicate, if◌then◌else◌}
+use Rattle.std.specs.Prelude.{not, ◌&&◌, ◌||◌, nat_lt, nat_le, replicate, if◌then◌else◌}
 use Rattle.std.specs.Option.{is_some, unwrap_or}
 use Rattle.std.specs.List.{fold, list_any, flat_map}
 use Rattle.std.proofs.lemmas.List.{append-nil, map-append}
@@ -15,6 +15,7 @@ use Rattle.sbx_image.specs.Term.{Term}
 use Rattle.sbx_image.specs.Kind.{Kind}
 use Rattle.sbx_image.specs.Block.{Block}
 use Rattle.sbx_image.specs.Function.{Function}
+use Rattle.sbx_image.specs.Region.{Region}
 use Rattle.sbx_image.specs.Services.{Services}
 use Rattle.sbx_directives.specs.declared.directive.Name.{Name}
 use Rattle.sbx_directives.specs.declared.directive.Width.{Width}
@@ -30,14 +31,14 @@ use Rattle.sbx_asm.specs.declared.fault.Cause.TheVariants as causes
 use Rattle.sbx_asm.specs.declared.opening.Head.{Head}
 use Rattle.sbx_asm.specs.declared.draft.Draft.{Draft}
 use Rattle.sbx_asm.specs.Faults.{told, at}
-use Rattle.sbx_asm.specs.Items.{Item, Said, each, up_to, ends_function, is_block, ends_block, in_function, begins_block, params, results, cells, terms}
-use Rattle.sbx_asm.specs.Addresses.{code_address, data_offset, padding_of, fits_behind, section_after}
-use Rattle.sbx_asm.specs.Rules.{Values, when, is_code, in_place, range_rules, cell_rules, term_rules, data_rules, value_rules, block_rules, another_block, takes_annotations, takes_ranges, has_fuel, line_rules, own_faults, empty_block, faults_at}
-use Rattle.sbx_asm.specs.Images.{first_or, fuels, block_with, block_at, function_at, words_meant, bytes_meant, words_at, bytes_at, services, stacks}
-use Rattle.sbx_asm.specs.Stages.Places.{padding, has_room, data_end}
+use Rattle.sbx_asm.specs.Items.{Item, Said, each, up_to, ends_function, is_region, is_block, ends_block, in_function, begins_block, params, results, cells, terms}
+use Rattle.sbx_asm.specs.Addresses.{code_address, data_offset, padding_of, fits_behind, section_after, section_room}
+use Rattle.sbx_asm.specs.Rules.{Values, when, is_code, in_place, range_rules, cell_rules, term_rules, data_rules, value_rules, block_rules, another_block, takes_annotations, takes_ranges, has_fuel, line_rules, own_faults, empty_block, empty_region, faults_at}
+use Rattle.sbx_asm.specs.Images.{first_or, fuels, block_with, block_at, function_at, words_meant, bytes_meant, filled, region_with, words_at, bytes_at, region_at, services, stacks}
+use Rattle.sbx_asm.specs.Stages.Places.{has_room}
 use Rattle.sbx_asm.specs.Stages.Drafts as stages
-use Rattle.sbx_asm.specs.Stages.Drafts.{close_block, close_headed, close_function, headed, open_block, begin_function, begin_block_of, begin_block, param_if, add_param, result_if, add_result, cell_if, add_cell, term_if, add_term, fuel_if, fuel_by, add_fuel, services_by, add_services, stack_by, add_stack, noted, noted_where, begun, data_checked, with_data, with_zeros, add_values, add_zeros, instruction_checked, with_words, instruction_does, statement_does, numbered_line}
-use Rattle.sbx_asm.proofs.Standing.{item, place_of, padded}
+use Rattle.sbx_asm.specs.Stages.Drafts.{close_block, close_headed, close_function, headed, open_block, begin_function, begin_block_of, begin_block, param_if, add_param, result_if, add_result, cell_if, add_cell, term_if, add_term, fuel_if, fuel_by, add_fuel, services_by, add_services, stack_by, add_stack, noted, noted_where, begun, leave_region, close_region, choose_data, begin_region, with_bytes, closed, data_checked, with_data, with_zeros, add_values, add_zeros, instruction_checked, with_words, instruction_does, statement_does, numbered_line}
+use Rattle.sbx_asm.proofs.Standing.{item, place_of}
 use Rattle.sbx_asm.proofs.Following.{said_does, Follows, IsClosed, same_annotations, same_ranges}
 use Rattle.sbx_asm.proofs.Telling.{data_room}
 use Rattle.sbx_asm.proofs.Turning.{item_does, item_stands, item_follows}
@@ -67,6 +68,14 @@ none_default : {A : Type 0} (o : Option A) (a : A) → is_some o ≡ false → a
 none_default (Some x) a h = absurd (cc)
 none_default None a h = refl
 
+or_true : (b : Bool) → true ≡ (b || true)
+or_true true = refl
+or_true false = refl
+
+or_false : (b : Bool) → b ≡ (b || false)
+or_false true = refl
+or_false false = refl
+
 -- ---- the image, from an open draft on
 
 -- the open function with some more lines, if there is one
@@ -90,6 +99,10 @@ ahead before after d o =
     opened o (d.function.params ++ flat_map params (up_to ends_function after)) (d.function.results ++ flat_map results (up_to ends_function after))
     (d.function.blocks ++ going_on d (up_to ends_function after) ∷ each block_at before (up_to ends_function after))
 
+-- the newest region with the bytes of some more lines
+abbrev going_in : Values → Bool → List ℕ → List Item → List Item → List Region
+going_in values writable bs before after = region_with writable (filled (bs ++ each (bytes_at values) before (up_to is_region after)))
+
 abbrev no_services : Services
 no_services = record { 0 = 0 }
 
@@ -97,10 +110,11 @@ no_services = record { 0 = 0 }
 abbrev MadeBy : Values → Draft → Draft → List Item → List Item → Option Head → Type 0
 MadeBy values e d before after o =
     (e.words ≡ d.words ++ each (words_at values) before after)
-    × (e.bytes ≡ d.bytes ++ each (bytes_at values) before after)
+    × (e.region.regions ≡ d.region.regions ++ (going_in values d.region.writable d.region.bytes before after ++ each (region_at values) before after))
     × (unwrap_or e.services no_services ≡ unwrap_or d.services (first_or no_services (flat_map services after)))
     × (unwrap_or e.stack 1 ≡ unwrap_or d.stack (first_or 1 (flat_map stacks after)))
     × (e.functions ≡ d.functions ++ (ahead before after d o ++ each function_at before after))
+    × (e.region.has_region ≡ (d.region.has_region || list_any is_region after))
 
 abbrev pub Made : Values → Draft → Draft → List Item → List Item → Type 0
 Made values e d before after = MadeBy values e d before after d.function.head
@@ -126,56 +140,75 @@ module _ (values : Values) (before : List Item) (number : ℕ) (labels : List (L
   words_go (Ok is) q m =
       let i : Item = it (Ok statements.Instruction) in
       let rest : List ℕ = each (words_at values) (i ∷ before) after in
-      (m.0 ∙ append_assoc d.words (map spelling is) rest ∙ (λ j. d.words ++ (words_meant (q j) ++ rest)), m.1, m.2, m.3, m.4)
+      (m.0 ∙ append_assoc d.words (map spelling is) rest ∙ (λ j. d.words ++ (words_meant (q j) ++ rest)), m.1, m.2, m.3, m.4, m.5)
   words_go (Err f) q m =
       let i : Item = it (Ok statements.Instruction) in
-      (m.0 ∙ (λ j. d.words ++ (words_meant (q j) ++ each (words_at values) (i ∷ before) after)), m.1, m.2, m.3, m.4)
+      (m.0 ∙ (λ j. d.words ++ (words_meant (q j) ++ each (words_at values) (i ∷ before) after)), m.1, m.2, m.3, m.4, m.5)
 
-  values_go : (w : Width) (n k : ℕ) (r : Result (List ℕ) DataFault) → r ≡ data_of values bytes w tokens → Goes (Ok (statements.Directive (directives.Values w n))) (with_data r (data_checked k d))
+  -- the regions, where the newest one has other bytes
+  abbrev with_in : Item → List ℕ → List Region
+  with_in i bs = d.region.regions ++ (region_with d.region.writable (filled bs) ++ each (region_at values) (i ∷ before) after)
+
+  values_go : (w : Width) (n k : ℕ) (r : Result (List ℕ) DataFault) → r ≡ data_of values bytes w tokens → Goes (Ok (statements.Directive (directives.Values w n))) (with_bytes true (with_data r (data_checked k d)))
   values_go w n k (Ok bs) q m =
       let i : Item = it (Ok (statements.Directive (directives.Values w n))) in
-      let rest : List ℕ = each (bytes_at values) (i ∷ before) after in
-      (m.0, m.1 ∙ append_assoc d.bytes bs rest ∙ (λ j. d.bytes ++ (bytes_meant (q j) ++ rest)), m.2, m.3, m.4)
+      let rest : List ℕ = each (bytes_at values) (i ∷ before) (up_to is_region after) in
+      (m.0, m.1 ∙ ap (with_in i) (append_assoc d.region.bytes bs rest ∙ (λ j. d.region.bytes ++ (bytes_meant (q j) ++ rest))), m.2, m.3, m.4, m.5)
   values_go w n k (Err data_faults.UnknownSymbol) q m =
       let i : Item = it (Ok (statements.Directive (directives.Values w n))) in
-      (m.0, m.1 ∙ (λ j. d.bytes ++ (bytes_meant (q j) ++ each (bytes_at values) (i ∷ before) after)), m.2, m.3, m.4)
+      (m.0, m.1 ∙ ap (with_in i) (λ j. d.region.bytes ++ (bytes_meant (q j) ++ each (bytes_at values) (i ∷ before) (up_to is_region after))), m.2, m.3, m.4, m.5)
   values_go w n k (Err data_faults.Malformed) q m =
       let i : Item = it (Ok (statements.Directive (directives.Values w n))) in
-      (m.0, m.1 ∙ (λ j. d.bytes ++ (bytes_meant (q j) ++ each (bytes_at values) (i ∷ before) after)), m.2, m.3, m.4)
+      (m.0, m.1 ∙ ap (with_in i) (λ j. d.region.bytes ++ (bytes_meant (q j) ++ each (bytes_at values) (i ∷ before) (up_to is_region after))), m.2, m.3, m.4, m.5)
   values_go w n k (Err (data_faults.Memory want)) q m =
       let i : Item = it (Ok (statements.Directive (directives.Values w n))) in
-      (m.0, m.1 ∙ (λ j. d.bytes ++ (bytes_meant (q j) ++ each (bytes_at values) (i ∷ before) after)), m.2, m.3, m.4)
+      (m.0, m.1 ∙ ap (with_in i) (λ j. d.region.bytes ++ (bytes_meant (q j) ++ each (bytes_at values) (i ∷ before) (up_to is_region after))), m.2, m.3, m.4, m.5)
 
   -- data that have room
-  no_room : (n : ℕ) → data_rules before n ≡ [] → false ≡ has_room data_end d.place.next_byte n → ⊥
+  no_room : (n : ℕ) → data_rules before n ≡ [] → false ≡ has_room section_room d.place.region_bytes n → ⊥
   no_room n c q =
       let full : causes.Limit ∷ [] ≡ when (not (fits_behind (data_offset before) n)) causes.Limit
       = (λ j. when (not ((q ∙ data_room values before number labels bytes tokens d p h n) j)) causes.Limit) in
       cons_nil (full ∙ nil_right (when (is_code (section_after before)) causes.Directive) (when (not (fits_behind (data_offset before) n)) causes.Limit) c)
 
-  skip_goes : (n : ℕ) (t : Bool) → t ≡ has_room data_end d.place.next_byte n → data_rules before n ≡ [] → Goes (Ok (statements.Directive (directives.Skip n))) (with_zeros t n (data_checked n d))
-  skip_goes n true q c m =
+  skip_goes : (n : ℕ) (t b : Bool) → t ≡ has_room section_room d.place.region_bytes n → data_rules before n ≡ [] → Goes (Ok (statements.Directive (directives.Skip n))) (with_bytes b (with_zeros t n (data_checked n d)))
+  skip_goes n true b q c m =
       let i : Item = it (Ok (statements.Directive (directives.Skip n))) in
-      (m.0, m.1 ∙ append_assoc d.bytes (replicate n 0) (each (bytes_at values) (i ∷ before) after), m.2, m.3, m.4)
-  skip_goes n false q c m = absurd (no_room n c q)
+      (m.0, m.1 ∙ ap (with_in i) (append_assoc d.region.bytes (replicate n 0) (each (bytes_at values) (i ∷ before) (up_to is_region after))), m.2, m.3, m.4, m.5)
+  skip_goes n false b q c m = absurd (no_room n c q)
 
-  align_goes : (n k : ℕ) (t : Bool) → k ≡ padding_of n (data_offset before) → t ≡ has_room data_end d.place.next_byte k → data_rules before (padding_of n (data_offset before)) ≡ []
+  align_goes : (n k : ℕ) (t : Bool) → k ≡ padding_of n (data_offset before) → t ≡ has_room section_room d.place.region_bytes k → data_rules before (padding_of n (data_offset before)) ≡ []
       → Goes (Ok (statements.Directive (directives.Align n))) (with_zeros t k (data_checked k d))
   align_goes n k true f q c m =
       let i : Item = it (Ok (statements.Directive (directives.Align n))) in
-      let rest : List ℕ = each (bytes_at values) (i ∷ before) after in
-      (m.0, m.1 ∙ append_assoc d.bytes (replicate k 0) rest ∙ (λ j. d.bytes ++ (replicate (f j) 0 ++ rest)), m.2, m.3, m.4)
+      let rest : List ℕ = each (bytes_at values) (i ∷ before) (up_to is_region after) in
+      (m.0, m.1 ∙ ap (with_in i) (append_assoc d.region.bytes (replicate k 0) rest ∙ (λ j. d.region.bytes ++ (replicate (f j) 0 ++ rest))), m.2, m.3, m.4, m.5)
   align_goes n k false f q c m = absurd (no_room k (ap (data_rules before) f ∙ c) q)
+
+  -- ---- regions
+
+  region_goes : (writable : Bool) → Goes (Ok (statements.Directive (directives.Region writable))) (begin_region writable d)
+  unfolding leave_region close_region begin_region
+  region_goes writable m =
+      let i : Item = it (Ok (statements.Directive (directives.Region writable))) in
+      let rest : List Region = each (region_at values) before (i ∷ after) in (
+        m.0,
+        m.1 ∙ append_assoc d.region.regions (region_with d.region.writable (filled d.region.bytes)) rest ∙ ap (λ (bs : List ℕ). d.region.regions ++ (region_with d.region.writable (filled bs) ++ rest)) (sym (append-nil d.region.bytes)),
+        m.2,
+        m.3,
+        m.4,
+        m.5 ∙ or_true d.region.has_region,
+      )
 
   -- ---- what stands once
 
   services_go : (x : Services) (o : Option Services) → is_some d.services ≡ is_some o → Goes (Ok (statements.Directive (directives.Services x))) (services_by o x d)
-  services_go x (Some y) q m = (m.0, m.1, m.2 ∙ some_default d.services _ _ q, m.3, m.4)
-  services_go x None q m = (m.0, m.1, m.2 ∙ none_default d.services x q, m.3, m.4)
+  services_go x (Some y) q m = (m.0, m.1, m.2 ∙ some_default d.services _ _ q, m.3, m.4, m.5)
+  services_go x None q m = (m.0, m.1, m.2 ∙ none_default d.services x q, m.3, m.4, m.5)
 
   stack_goes : (n : ℕ) (o : Option ℕ) → is_some d.stack ≡ is_some o → Goes (Ok (statements.Directive (directives.Stack n))) (stack_by o n d)
-  stack_goes n (Some y) q m = (m.0, m.1, m.2, m.3 ∙ some_default d.stack _ _ q, m.4)
-  stack_goes n None q m = (m.0, m.1, m.2, m.3 ∙ none_default d.stack n q, m.4)
+  stack_goes n (Some y) q m = (m.0, m.1, m.2, m.3 ∙ some_default d.stack _ _ q, m.4, m.5)
+  stack_goes n None q m = (m.0, m.1, m.2, m.3 ∙ none_default d.stack n q, m.4, m.5)
 
   -- ---- annotations
 
@@ -194,28 +227,28 @@ module _ (values : Values) (before : List Item) (number : ℕ) (labels : List (L
       → Goes (Ok (statements.Directive (directives.Param r))) (param_if t r d)
   param_goes r true q c m =
       let s : Said = Ok (statements.Directive (directives.Param r)) in
-      (m.0, m.1, m.2, m.3, m.4 ∙ ap (λ (ps : List Range). with_open s ps (d.function.results ++ Q) (d.function.blocks ++ going_on d own ∷ each block_at (it s ∷ before) own)) (append_assoc d.function.params (r ∷ []) P))
+      (m.0, m.1, m.2, m.3, m.4 ∙ ap (λ (ps : List Range). with_open s ps (d.function.results ++ Q) (d.function.blocks ++ going_on d own ∷ each block_at (it s ∷ before) own)) (append_assoc d.function.params (r ∷ []) P), m.5)
   param_goes r false q c m = absurd (out_of_place _ _ q c)
 
   result_goes : (r : Range) (t : Bool) → t ≡ takes_ranges values before → line_rules values before (it (Ok (statements.Directive (directives.Result r)))) (Ok (statements.Directive (directives.Result r))) ≡ []
       → Goes (Ok (statements.Directive (directives.Result r))) (result_if t r d)
   result_goes r true q c m =
       let s : Said = Ok (statements.Directive (directives.Result r)) in
-      (m.0, m.1, m.2, m.3, m.4 ∙ ap (λ (rs : List Range). with_open s (d.function.params ++ P) rs (d.function.blocks ++ going_on d own ∷ each block_at (it s ∷ before) own)) (append_assoc d.function.results (r ∷ []) Q))
+      (m.0, m.1, m.2, m.3, m.4 ∙ ap (λ (rs : List Range). with_open s (d.function.params ++ P) rs (d.function.blocks ++ going_on d own ∷ each block_at (it s ∷ before) own)) (append_assoc d.function.results (r ∷ []) Q), m.5)
   result_goes r false q c m = absurd (out_of_place _ _ q c)
 
   cell_goes : (x : Cell) (t : Bool) → t ≡ takes_annotations values before → line_rules values before (it (Ok (statements.Directive (directives.Cell x)))) (Ok (statements.Directive (directives.Cell x))) ≡ []
       → Goes (Ok (statements.Directive (directives.Cell x))) (cell_if t x d)
   cell_goes x true q c m =
       let s : Said = Ok (statements.Directive (directives.Cell x)) in
-      (m.0, m.1, m.2, m.3, m.4 ∙ ap (λ (cs : List Cell). with_open s (d.function.params ++ P) (d.function.results ++ Q) (blocks_with s (going_on d own).fuel cs (going_on d own).terms)) (append_assoc d.block.cells (x ∷ []) (flat_map cells (up_to ends_block own))))
+      (m.0, m.1, m.2, m.3, m.4 ∙ ap (λ (cs : List Cell). with_open s (d.function.params ++ P) (d.function.results ++ Q) (blocks_with s (going_on d own).fuel cs (going_on d own).terms)) (append_assoc d.block.cells (x ∷ []) (flat_map cells (up_to ends_block own))), m.5)
   cell_goes x false q c m = absurd (out_of_place _ _ q c)
 
   term_goes : (x : Term) (t : Bool) → t ≡ takes_annotations values before → line_rules values before (it (Ok (statements.Directive (directives.Term x)))) (Ok (statements.Directive (directives.Term x))) ≡ []
       → Goes (Ok (statements.Directive (directives.Term x))) (term_if t x d)
   term_goes x true q c m =
       let s : Said = Ok (statements.Directive (directives.Term x)) in
-      (m.0, m.1, m.2, m.3, m.4 ∙ ap (λ (ts : List Term). with_open s (d.function.params ++ P) (d.function.results ++ Q) (blocks_with s (going_on d own).fuel (going_on d own).cells ts)) (append_assoc d.block.terms (x ∷ []) (flat_map terms (up_to ends_block own))))
+      (m.0, m.1, m.2, m.3, m.4 ∙ ap (λ (ts : List Term). with_open s (d.function.params ++ P) (d.function.results ++ Q) (blocks_with s (going_on d own).fuel (going_on d own).cells ts)) (append_assoc d.block.terms (x ∷ []) (flat_map terms (up_to ends_block own))), m.5)
   term_goes x false q c m = absurd (out_of_place _ _ q c)
 
   second_fuel : (b : Bool) (cs : List Cause) → true ≡ b → cond b (causes.Directive ∷ []) cs ≡ [] → ⊥
@@ -234,7 +267,7 @@ module _ (values : Values) (before : List Item) (number : ℕ) (labels : List (L
       by : (t : Bool) → t ≡ takes_annotations values before → Goes (Ok (statements.Directive (directives.Fuel z))) (fuel_if t z d)
       by true r n =
           let s : Said = Ok (statements.Directive (directives.Fuel z)) in
-          (n.0, n.1, n.2, n.3, n.4 ∙ ap (λ (f : ℤ). with_open s (d.function.params ++ P) (d.function.results ++ Q) (blocks_with s f (going_on d own).cells (going_on d own).terms)) (none_default d.block.fuel z k))
+          (n.0, n.1, n.2, n.3, n.4 ∙ ap (λ (f : ℤ). with_open s (d.function.params ++ P) (d.function.results ++ Q) (blocks_with s f (going_on d own).cells (going_on d own).terms)) (none_default d.block.fuel z k), n.5)
       by false r n = absurd (out_of_place _ _ r (first_fuel _ _ q c))
 
   -- ---- functions and blocks
@@ -259,6 +292,7 @@ module _ (values : Values) (before : List Item) (number : ℕ) (labels : List (L
             ∙ (λ j. d.function.blocks ++ record { address = d.block.address; fuel = fuel; cells = d.block.cells; terms = d.block.terms } ∷ block_with (p j).next_word (up_to ends_block own) ∷ more)
             ∙ ap (λ (cs : List Cell). d.function.blocks ++ record { address = d.block.address; fuel = fuel; cells = cs; terms = d.block.terms } ∷ block_with (code_address before) (up_to ends_block own) ∷ more) (sym (append-nil d.block.cells))
             ∙ ap (λ (ts : List Term). d.function.blocks ++ record { address = d.block.address; fuel = fuel; cells = d.block.cells ++ []; terms = ts } ∷ block_with (code_address before) (up_to ends_block own) ∷ more) (sym (append-nil d.block.terms))),
+        m.5,
       )
   block_goes name None q c m = absurd (no_function _ _ q c)
 
@@ -303,6 +337,7 @@ module _ (values : Values) (before : List Item) (number : ℕ) (labels : List (L
             ∙ ap (λ (rs : List Range). d.functions ++ (old (d.function.params ++ []) rs d.block.cells d.block.terms ++ new (code_address before) ∷ R)) (sym (append-nil d.function.results))
             ∙ ap (λ (cs : List Cell). d.functions ++ (old (d.function.params ++ []) (d.function.results ++ []) cs d.block.terms ++ new (code_address before) ∷ R)) (sym (append-nil d.block.cells))
             ∙ ap (λ (ts : List Term). d.functions ++ (old (d.function.params ++ []) (d.function.results ++ []) (d.block.cells ++ []) ts ++ new (code_address before) ∷ R)) (sym (append-nil d.block.terms)),
+        m.5,
       )
   function_goes name kind frame room budget None q k m =
       let s : Said = Ok (statements.Directive (directives.Function name kind frame room budget)) in
@@ -315,10 +350,11 @@ module _ (values : Values) (before : List Item) (number : ℕ) (labels : List (L
         m.2,
         m.3,
         m.4 ∙ (λ j. d.functions ++ function_there s kind frame room budget (p j).next_word (c.0 j ++ P) (c.1 j ++ Q) (c.2 j) (c.3 j ++ D) (c.4 j ++ T) ∷ R),
+        m.5,
       )
 
   pub line_goes : (s : Said) → line_rules values before (it s) s ≡ [] → Goes s (said_does values (it s) s d)
-  unfolding statement_does instruction_does add_param add_result add_cell add_term add_fuel add_services add_stack add_values add_zeros begin_function begin_block close_function
+  unfolding leave_region choose_data statement_does instruction_does add_param add_result add_cell add_term add_fuel add_services add_stack add_values add_zeros begin_function begin_block close_function
   line_goes (Err f) c m = cons_nil c
   line_goes (Ok statements.Nothing) c m = m
   line_goes (Ok statements.Instruction) c m = words_go (source_meaning values d.place.next_word bytes tokens) (λ j. source_meaning values (p j).next_word bytes tokens) m
@@ -326,6 +362,7 @@ module _ (values : Values) (before : List Item) (number : ℕ) (labels : List (L
   line_goes (Ok (statements.Malformed _ name)) c m = cons_nil c
   line_goes (Ok (statements.Directive directives.Text)) c m = m
   line_goes (Ok (statements.Directive directives.Data)) c m = m
+  line_goes (Ok (statements.Directive (directives.Region writable))) c m = region_goes writable m
   line_goes (Ok (statements.Directive (directives.Services x))) c m = services_go x d.services refl m
   line_goes (Ok (statements.Directive (directives.Stack n))) c m = stack_goes n d.stack refl m
   line_goes (Ok (statements.Directive (directives.Function name kind frame room budget))) c m = function_goes name kind frame room budget d.function.head refl (sym h.0) m
@@ -336,34 +373,42 @@ module _ (values : Values) (before : List Item) (number : ℕ) (labels : List (L
   line_goes (Ok (statements.Directive (directives.Fuel z))) c m = fuel_goes z d.block.fuel h.8 refl c m
   line_goes (Ok (statements.Directive (directives.Term x))) c m = term_goes x (stages.takes_annotations d.function d.block) (same_annotations values before d h) c m
   line_goes (Ok (statements.Directive (directives.Values w n))) c m = values_go w n (bytes_of_width w * n) (data_of values bytes w tokens) refl m
-  line_goes (Ok (statements.Directive (directives.Skip n))) c m = skip_goes n (has_room data_end d.place.next_byte n) refl c m
+  line_goes (Ok (statements.Directive (directives.Skip n))) c m = skip_goes n (has_room section_room d.place.region_bytes n) (nat_lt 0 n) refl c m
   line_goes (Ok (statements.Directive (directives.Align n))) c m =
-      align_goes n (padding n d.place.next_byte) (has_room data_end d.place.next_byte (padding n d.place.next_byte)) ((λ j. padding n (p j).next_byte) ∙ padded n (data_offset before)) refl c m
+      align_goes n (padding_of n d.place.region_bytes) (has_room section_room d.place.region_bytes (padding_of n d.place.region_bytes)) (λ j. padding_of n (p j).region_bytes) refl c m
 
 -- ---- all lines
 
 module _ (values : Values) where
-  at_end : (before : List Item) (d : Draft) (o : Option Head) → MadeBy values (close_headed o d) d before [] o
-  unfolding close_block
+  at_end : (before : List Item) (d : Draft) (o : Option Head) → MadeBy values (close_headed o (close_region d)) d before [] o
+  unfolding close_region leave_region close_block
   at_end before d (Some x) = (
     sym (append-nil d.words),
-    sym (append-nil d.bytes),
+    ap (λ (bs : List ℕ). d.region.regions ++ region_with d.region.writable (filled bs)) (sym (append-nil d.region.bytes)) ∙ ap (λ (rs : List Region). d.region.regions ++ rs) (sym (append-nil (region_with d.region.writable (filled (d.region.bytes ++ []))))),
     refl,
     refl,
     ap (λ (ps : List Range). d.functions ++ opened (Some x) ps d.function.results (d.function.blocks ++ stages.block_of d.block ∷ [])) (sym (append-nil d.function.params))
         ∙ ap (λ (rs : List Range). d.functions ++ opened (Some x) (d.function.params ++ []) rs (d.function.blocks ++ stages.block_of d.block ∷ [])) (sym (append-nil d.function.results))
         ∙ ap (λ (cs : List Cell). d.functions ++ opened (Some x) (d.function.params ++ []) (d.function.results ++ []) (d.function.blocks ++ record { address = d.block.address; fuel = unwrap_or d.block.fuel (pos 0); cells = cs; terms = d.block.terms } ∷ [])) (sym (append-nil d.block.cells))
         ∙ ap (λ (ts : List Term). d.functions ++ opened (Some x) (d.function.params ++ []) (d.function.results ++ []) (d.function.blocks ++ record { address = d.block.address; fuel = unwrap_or d.block.fuel (pos 0); cells = d.block.cells ++ []; terms = ts } ∷ [])) (sym (append-nil d.block.terms)),
+    or_false d.region.has_region,
   )
-  at_end before d None = (sym (append-nil d.words), sym (append-nil d.bytes), refl, refl, sym (append-nil d.functions))
+  at_end before d None = (
+    sym (append-nil d.words),
+    ap (λ (bs : List ℕ). d.region.regions ++ region_with d.region.writable (filled bs)) (sym (append-nil d.region.bytes)) ∙ ap (λ (rs : List Region). d.region.regions ++ rs) (sym (append-nil (region_with d.region.writable (filled (d.region.bytes ++ []))))),
+    refl,
+    refl,
+    sym (append-nil d.functions),
+    or_false d.region.has_region,
+  )
 
   pub all_made : (before after : List Item) (d : Draft) → d.place ≡ place_of before → Follows values before d → each (faults_at values) before after ≡ []
-      → Made values (close_function (fold (item_does values) d after)) d before after
-  unfolding numbered_line close_function
+      → Made values (closed (fold (item_does values) d after)) d before after
+  unfolding numbered_line close_function close_region leave_region
   all_made before [] d p h c = at_end before d d.function.head
   all_made before (i ∷ after) d p h c =
       let mine : faults_at values before i after ≡ [] = nil_left (faults_at values before i after) (each (faults_at values) (i ∷ before) after) c in
-      let noted : when (nat_lt 1000000 i.number) causes.Limit ++ line_rules values before i i.said ≡ [] = nil_map (at i.number) _ (nil_left (own_faults values before i) (empty_block values before i after) mine) in
-      line_goes values before i.number i.labels i.bytes i.tokens (numbered_line i.number d) p h after (close_function (fold (item_does values) (item_does values d i) after)) i.said
+      let noted : when (nat_lt 1000000 i.number) causes.Limit ++ line_rules values before i i.said ≡ [] = nil_map (at i.number) _ (nil_left (own_faults values before i) (empty_region i after) (nil_left (own_faults values before i ++ empty_region i after) (empty_block values before i after) mine)) in
+      line_goes values before i.number i.labels i.bytes i.tokens (numbered_line i.number d) p h after (closed (fold (item_does values) (item_does values d i) after)) i.said
       (nil_right (when (nat_lt 1000000 i.number) causes.Limit) (line_rules values before i i.said) noted)
       (all_made (i ∷ before) after (item_does values d i) (item_stands values before i d p) (item_follows values before i d h) (nil_right (faults_at values before i after) (each (faults_at values) (i ∷ before) after) c))

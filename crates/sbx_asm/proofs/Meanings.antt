@@ -26,15 +26,14 @@ use Rattle.sbx_asm.specs.Items.{Item, Said, label_names, read_line, item_of, ite
 use Rattle.sbx_asm.specs.Addresses.{Label, labels_at, all_labels, worth_in, values_of, code_address, address_in_section, section_after, labelled, names_said}
 use Rattle.sbx_asm.specs.Rules.{Values, when, is_called, told_again, duplicates, faults_of, least_of}
 use Rattle.sbx_asm.specs.Images.{words_at, image_of}
-use Rattle.sbx_asm.specs.Meaning.{kept, judged, source_image}
+use Rattle.sbx_asm.specs.Meaning.{whole_cause, kept, judged, source_image}
 use Rattle.sbx_asm.specs.Laws.{CodeIsItsStatements, WordsLookAheadByLabelsAlone, BlankLinesSayNothing, BlankLinesChangeNothing, renamed, LabelsMayBeRenamed, IsLeastOf, TheLeastFaultIsTold}
 use Rattle.sbx_asm.specs.declared.place.Section.{Section}
-use Rattle.sbx_asm.specs.declared.place.Section.TheVariants.{Code, Data}
 use Rattle.sbx_asm.specs.Stages.Places.{place_after, address_in}
-use Rattle.sbx_asm.specs.Stages.Drafts.{close_block, close_headed, close_function, numbered_line, statement_does, empty_draft}
+use Rattle.sbx_asm.specs.Stages.Drafts.{close_block, close_headed, close_function, close_region, leave_region, closed, numbered_line, statement_does, empty_draft}
 use Rattle.sbx_asm.specs.Stages.Whole.{parts_in}
 use Rattle.sbx_asm.proofs.Labelling.{fold_append}
-use Rattle.sbx_asm.proofs.Standing.{passed, place_of, stands}
+use Rattle.sbx_asm.proofs.Standing.{passed, place_of, stands, in_section}
 use Rattle.sbx_asm.proofs.Following.{said_does}
 use Rattle.sbx_asm.proofs.Orders.{key, earlier_by_key}
 use Rattle.sbx_asm.proofs.Turning.{item_does}
@@ -84,8 +83,7 @@ blank_says number line h = read_blank number line (tokens_of line) h
 
 -- where the lines before make the same place, the labels are the same
 at_place : (xs : List Item) (x : Section) → address_in_section xs x ≡ address_in x (place_of xs)
-at_place xs Code = refl
-at_place xs Data = refl
+at_place xs x = sym (in_section xs x)
 
 labels_same : (xs ys : List Item) (j : Item) → place_of xs ≡ place_of ys → labels_at xs j [] ≡ labels_at ys j []
 labels_same xs ys j p =
@@ -127,16 +125,16 @@ module _ (values : Values) (d : Draft) (n : ℕ) where
   abbrev moved : Draft
   moved = record d { line = n }
 
-  closed : (o : Option Head) → ((close_headed o moved).fault ≡ (close_headed o d).fault) × (parts_in (close_headed o moved) ≡ parts_in (close_headed o d))
-  unfolding close_block parts_in
-  closed (Some x) = (refl, refl)
-  closed None = (refl, refl)
+  all_closed : (o : Option Head) → ((close_headed o (close_region moved)).fault ≡ (close_headed o (close_region d)).fault) × (parts_in (close_headed o (close_region moved)) ≡ parts_in (close_headed o (close_region d)))
+  unfolding close_region leave_region close_block parts_in
+  all_closed (Some x) = (refl, refl)
+  all_closed None = (refl, refl)
 
   line_free : (js : List Item)
-      → ((close_function (fold (item_does values) moved js)).fault ≡ (close_function (fold (item_does values) d js)).fault)
-      × (parts_in (close_function (fold (item_does values) moved js)) ≡ parts_in (close_function (fold (item_does values) d js)))
-  unfolding close_function numbered_line
-  line_free [] = closed d.function.head
+      → ((closed (fold (item_does values) moved js)).fault ≡ (closed (fold (item_does values) d js)).fault)
+      × (parts_in (closed (fold (item_does values) moved js)) ≡ parts_in (closed (fold (item_does values) d js)))
+  unfolding close_function close_region leave_region numbered_line
+  line_free [] = all_closed d.function.head
   line_free (j ∷ js) = (refl, refl)
 
 pub blank_changes : BlankLinesChangeNothing
@@ -145,13 +143,13 @@ blank_changes front after i bare silent few =
     let xs : List Item = front ++ i ∷ after in
     let ys : List Item = front ++ after in
     let labels : all_labels xs ≡ all_labels ys = skipped i after bare silent front [] in
-    let whole = λ (ls : List Label) (zs : List Item). close_function (fold (item_does (worth_in ls)) (empty_draft (least_of (duplicates [] ls))) zs) in
+    let whole = λ (ls : List Label) (zs : List Item). closed (fold (item_does (worth_in ls)) (empty_draft (least_of (duplicates [] ls))) zs) in
     let values : Values = values_of ys in
     let d : Draft = fold (item_does values) (start_draft ys) front in
-    let same : made xs ≡ close_function (fold (item_does values) (record d { line = i.number }) after)
+    let same : made xs ≡ closed (fold (item_does values) (record d { line = i.number }) after)
     = ap (λ (ls : List Label). whole ls xs) labels
-    ∙ ap close_function (fold_append (item_does values) (start_draft ys) front (i ∷ after) ∙ ap (λ (e : Draft). fold (item_does values) e after) (step i after bare silent values d few)) in
-    let other : made ys ≡ close_function (fold (item_does values) d after) = ap close_function (fold_append (item_does values) (start_draft ys) front after) in
+    ∙ ap closed (fold_append (item_does values) (start_draft ys) front (i ∷ after) ∙ ap (λ (e : Draft). fold (item_does values) e after) (step i after bare silent values d few)) in
+    let other : made ys ≡ closed (fold (item_does values) d after) = ap closed (fold_append (item_does values) (start_draft ys) front after) in
     let free = line_free values d i.number after in
     let told_same : least_of (faults_of xs) ≡ least_of (faults_of ys)
     = sym (fault_is xs) ∙ ap (λ (e : Draft). e.fault) same ∙ free.0 ∙ sym (ap (λ (e : Draft). e.fault) other) ∙ fault_is ys in
@@ -261,11 +259,11 @@ least_of_all f (a ∷ fs) h =
     subst (λ (x : AsmFault). IsLeastOf x (a ∷ fs)) e
     (within_all a fs (is_within a fs), (not_earlier a (least_from a fs) (below a fs), none_earlier a fs))
 
-kept_fault : (n : ℕ) (p : Parts) (f : AsmFault) (r : Result (Unit {0}) ImageFault) → kept n p r ≡ Err f → f ≡ at n causes.Directive
+kept_fault : (n : ℕ) (p : Parts) (f : AsmFault) (r : Result (Unit {0}) ImageFault) → kept n p r ≡ Err f → f ≡ at n (whole_cause p)
 kept_fault n p f (Ok u) h = absurd (cc)
 kept_fault n p f (Err g) h = cc
 
-judged_fault : (n : ℕ) (o : Option AsmFault) (p : Parts) (f : AsmFault) → judged n o p ≡ Err f → (o ≡ Some f) ⊎ ((o ≡ None) × (f ≡ at n causes.Directive))
+judged_fault : (n : ℕ) (o : Option AsmFault) (p : Parts) (f : AsmFault) → judged n o p ≡ Err f → (o ≡ Some f) ⊎ ((o ≡ None) × (f ≡ at n (whole_cause p)))
 judged_fault n (Some g) p f h = inl (cc)
 judged_fault n None p f h = inr (refl, kept_fault n p f (parts_keep p) h)
 
@@ -273,7 +271,7 @@ pub least_told : TheLeastFaultIsTold
 unfolding source_image
 least_told source f h = by (judged_fault (length (items_of source) + 1) (least_of (faults_of (items_of source))) (image_of (items_of source)) f h)
   where
-    by : (least_of (faults_of (items_of source)) ≡ Some f) ⊎ ((least_of (faults_of (items_of source)) ≡ None) × (f ≡ at (length (items_of source) + 1) causes.Directive))
-        → IsLeastOf f (faults_of (items_of source)) ⊎ ((faults_of (items_of source) ≡ []) × (f ≡ at (length (items_of source) + 1) causes.Directive))
+    by : (least_of (faults_of (items_of source)) ≡ Some f) ⊎ ((least_of (faults_of (items_of source)) ≡ None) × (f ≡ at (length (items_of source) + 1) (whole_cause (image_of (items_of source)))))
+        → IsLeastOf f (faults_of (items_of source)) ⊎ ((faults_of (items_of source) ≡ []) × (f ≡ at (length (items_of source) + 1) (whole_cause (image_of (items_of source)))))
     by (inl e) = inl (least_of_all f (faults_of (items_of source)) e)
     by (inr k) = inr (none_told (faults_of (items_of source)) k.0, k.1)

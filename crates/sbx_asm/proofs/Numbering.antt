@@ -5,11 +5,11 @@ use Rattle.std.specs.List.{AllByRecursion, flat_map, list_any}
 use Rattle.std.specs.Str.{bytes_eq}
 use Rattle.std.proofs.lemmas.Bool.{le-ltb}
 use Rattle.std.proofs.lemmas.List.{map-append}
-use Rattle.v8_map.specs.declared.TheConstants.{CODE_START, DATA_START}
+use Rattle.v8_map.specs.declared.TheConstants.{CODE_START}
 use Rattle.v8_syntax.specs.Statements.{source_meaning, statement_length}
 use Rattle.sbx_image.specs.Block.{Block}
 use Rattle.sbx_image.specs.Function.{Function}
-use Rattle.sbx_image.specs.Reading.{regions_of}
+use Rattle.sbx_image.specs.Region.{Region}
 use Rattle.sbx_directives.specs.declared.directive.Keyword.TheVariants as keywords
 use Rattle.sbx_directives.specs.declared.directive.Directive.TheVariants as directives
 use Rattle.sbx_directives.specs.declared.directive.Statement.TheVariants as statements
@@ -20,11 +20,11 @@ use Rattle.sbx_asm.specs.declared.fault.Cause.TheVariants as causes
 use Rattle.sbx_asm.specs.declared.place.Section.{Section}
 use Rattle.sbx_asm.specs.declared.place.Section.TheVariants.{Code, Data}
 use Rattle.sbx_asm.specs.Faults.{at}
-use Rattle.sbx_asm.specs.Items.{Item, Said, each, up_to, count, starts, divides, starts_function, ends_function, is_block, ends_block, leaves_open, in_function, begins_block, block_count, params, results, cells, terms}
-use Rattle.sbx_asm.specs.Addresses.{Label, code_length, data_length, code_size, data_size, up_to_room, code_offset, data_offset, code_address, fits_behind, chosen, section_after, address_in_section, labelled, names_said, labels_at, all_labels, worth_in, values_of}
-use Rattle.sbx_asm.specs.Rules.{Values, when, is_called, told_again, duplicates, is_code, data_rules, another_block, block_rules, in_place, range_rules, cell_rules, term_rules, is_services, is_stack, value_rules, statement_rules, acts_as, acts, takes_annotations, takes_ranges, fuels, has_fuel, line_rules, own_faults, empty_block, faults_at, faults_of}
+use Rattle.sbx_asm.specs.Items.{Item, Said, each, up_to, count, starts, divides, starts_function, ends_function, is_data, is_region, leaves_region, has_bytes, is_block, ends_block, leaves_open, in_function, begins_block, block_count, params, results, cells, terms}
+use Rattle.sbx_asm.specs.Addresses.{Label, code_length, data_length, code_size, data_size, size_with, region_start, start_with, up_to_room, code_offset, data_offset, code_address, fits_behind, chosen, section_after, address_in_section, labelled, names_said, labels_at, all_labels, worth_in, values_of}
+use Rattle.sbx_asm.specs.Rules.{Values, when, is_called, told_again, duplicates, is_code, data_rules, another_block, block_rules, in_place, range_rules, cell_rules, term_rules, is_services, is_stack, value_rules, statement_rules, acts_as, acts, takes_annotations, takes_ranges, fuels, has_fuel, line_rules, own_faults, empty_region, empty_block, faults_at, faults_of}
 use Rattle.sbx_asm.specs.Images as images
-use Rattle.sbx_asm.specs.Images.{block_with, block_begun, block_at, blocks_of, function_at, words_meant, words_said, words_at, bytes_said, bytes_at, filled, first_or, services, image_of}
+use Rattle.sbx_asm.specs.Images.{block_with, block_begun, block_at, blocks_of, function_at, words_meant, words_said, words_at, bytes_said, bytes_at, filled, region_with, version_with, region_at, first_or, services, image_of}
 use Rattle.sbx_asm.specs.Laws.{renumbered, retold, NumbersShowInFaultsAlone}
 use Rattle.sbx_asm.proofs.Tables.{same_values}
 
@@ -83,7 +83,7 @@ module _ (f : ℕ → ℕ) where
 
   data_size_u : (is : List Item) → data_size (us is) ≡ data_size is
   data_size_u [] = refl
-  data_size_u (i ∷ is) = let more = data_size_u is in λ k. more k + data_length (up_to_room (more k)) i.said
+  data_size_u (i ∷ is) = ap (λ (n : ℕ). size_with n i.said) (data_size_u is)
 
   code_offset_u : (is : List Item) → code_offset (us is) ≡ code_offset is
   code_offset_u is = ap up_to_room (code_size_u is)
@@ -94,13 +94,17 @@ module _ (f : ℕ → ℕ) where
   code_address_u : (is : List Item) → code_address (us is) ≡ code_address is
   code_address_u is = ap (λ (n : ℕ). CODE_START + n) (code_offset_u is)
 
+  start_u : (is : List Item) → region_start (us is) ≡ region_start is
+  start_u [] = refl
+  start_u (i ∷ is) = let a = start_u is in let b = data_offset_u is in λ k. start_with (a k) (b k) i.said
+
   section_u : (is : List Item) → section_after (us is) ≡ section_after is
   section_u [] = refl
   section_u (i ∷ is) = ap (chosen i.said) (section_u is)
 
   address_u : (is : List Item) (x : Section) → address_in_section (us is) x ≡ address_in_section is x
   address_u is Code = code_address_u is
-  address_u is Data = ap (λ (n : ℕ). DATA_START + n) (data_offset_u is)
+  address_u is Data = let a = start_u is in let b = data_offset_u is in λ k. a k + b k
 
   -- ---- labels
 
@@ -221,6 +225,23 @@ module _ (f : ℕ → ℕ) where
     bytes_u before [] = refl
     bytes_u before (i ∷ is) = let a = bytes_said_u before i i.said in let b = bytes_u (i ∷ before) is in λ k. a k ++ b k
 
+    -- a region up to its end, at its place
+    region_begun_u : (behind after : List Item) (s : Said) → images.region_begun values (us behind) s (us after) ≡ images.region_begun values behind s after
+    region_begun_u behind after (Ok (statements.Directive (directives.Region writable))) =
+        ap (λ (bs : List ℕ). region_with writable (filled bs)) (ap (λ (is : List Item). each (bytes_at values) (us behind) is) (up_to_u is_region (λ _. refl) after) ∙ bytes_u behind (up_to is_region after))
+    region_begun_u behind after (Ok (statements.Directive _)) = refl
+    region_begun_u behind after (Ok _) = refl
+    region_begun_u behind after (Err e) = refl
+
+    regions_at_u : (before is : List Item) → each (region_at values) (us before) (us is) ≡ each (region_at values) before is
+    regions_at_u before [] = refl
+    regions_at_u before (i ∷ is) = let a = region_begun_u (i ∷ before) is i.said in let b = regions_at_u (i ∷ before) is in λ k. a k ++ b k
+
+    regions_u : (is : List Item) → images.regions_of values (us is) ≡ images.regions_of values is
+    regions_u is =
+        let first = ap (each (bytes_at values) []) (up_to_u is_region (λ _. refl) is) ∙ bytes_u [] (up_to is_region is) in let others = regions_at_u [] is in
+        λ k. region_with true (filled (first k)) ++ others k
+
     acts_as_u : (i : Item) (s : Said) → acts_as values (u i) s ≡ acts_as values i s
     acts_as_u i (Ok statements.Instruction) = refl
     acts_as_u i (Err e) = refl
@@ -269,7 +290,9 @@ module _ (f : ℕ → ℕ) where
     line_rules_u is i (Ok (statements.Malformed keywords.Block name)) = ap (λ (cs : List Cause). cs ++ causes.Directive ∷ []) (block_rules_u is)
     line_rules_u is i (Ok (statements.Malformed _ name)) = refl
     line_rules_u is i (Ok (statements.Directive directives.Text)) = refl
-    line_rules_u is i (Ok (statements.Directive directives.Data)) = refl
+    line_rules_u is i (Ok (statements.Directive directives.Data)) = ap (λ (b : Bool). when b causes.Directive) (any_u is_region (λ _. refl) is)
+    line_rules_u is i (Ok (statements.Directive (directives.Region writable))) =
+        let a = any_u is_data (λ _. refl) is in let b = count_u is_region (λ _. refl) is in λ k. when (a k) causes.Directive ++ when (leb 8 (b k)) causes.Limit
     line_rules_u is i (Ok (statements.Directive (directives.Services x))) = ap (λ (b : Bool). when b causes.Directive) (any_u is_services (λ _. refl) is)
     line_rules_u is i (Ok (statements.Directive (directives.Stack n))) = ap (λ (b : Bool). when b causes.Directive) (any_u is_stack (λ _. refl) is)
     line_rules_u is i (Ok (statements.Directive (directives.Function name kind frame room budget))) =
@@ -303,12 +326,18 @@ module _ (f : ℕ → ℕ) where
         let a = begins_u before i in let b = any_up_to (acts values) ends_block acts_u (λ _. refl) after in
         (λ k. map (at (f i.number)) (when (a k && not (b k)) causes.Directive)) ∙ map_at i.number (when (begins_block before i && not (list_any (acts values) (up_to ends_block after))) causes.Directive)
 
+    lacking_u : (i : Item) (after : List Item) → empty_region (u i) (us after) ≡ map r (empty_region i after)
+    lacking_u i after =
+        let b = any_up_to has_bytes leaves_region (λ _. refl) (λ _. refl) after in
+        (λ k. map (at (f i.number)) (when (is_region i && not (b k)) causes.Directive)) ∙ map_at i.number (when (is_region i && not (list_any has_bytes (up_to leaves_region after))) causes.Directive)
+
     faults_u : (before is : List Item) → AllByRecursion (λ i. (i.number ≤ 1000000) × (f i.number ≤ 1000000)) is → each (faults_at values) (us before) (us is) ≡ map r (each (faults_at values) before is)
     faults_u before [] h = refl
     faults_u before (i ∷ is) h =
-        let own = own_u before i h.0 in let empty = empty_u before i is in let more = faults_u (i ∷ before) is h.1 in
-        (λ k. (own k ++ empty k) ++ more k)
-        ∙ ap (λ (fs : List AsmFault). fs ++ map r (each (faults_at values) (i ∷ before) is)) (sym (map-append r (own_faults values before i) (empty_block values before i is)))
+        let own = own_u before i h.0 in let lacking = lacking_u i is in let empty = empty_u before i is in let more = faults_u (i ∷ before) is h.1 in
+        (λ k. ((own k ++ lacking k) ++ empty k) ++ more k)
+        ∙ ap (λ (fs : List AsmFault). (fs ++ map r (empty_block values before i is)) ++ map r (each (faults_at values) (i ∷ before) is)) (sym (map-append r (own_faults values before i) (empty_region i is)))
+        ∙ ap (λ (fs : List AsmFault). fs ++ map r (each (faults_at values) (i ∷ before) is)) (sym (map-append r (own_faults values before i ++ empty_region i is) (empty_block values before i is)))
         ∙ sym (map-append r (faults_at values before i is) (each (faults_at values) (i ∷ before) is))
 
   image_u : (is : List Item) → image_of (us is) ≡ image_of is
@@ -316,11 +345,12 @@ module _ (f : ℕ → ℕ) where
   image_u is =
       let vs = values_u is in
       let ws = ap (λ (v : Values). each (words_at v) [] (us is)) vs ∙ words_u (values_of is) [] is in
-      let bs = ap (λ (v : Values). each (bytes_at v) [] (us is)) vs ∙ bytes_u (values_of is) [] is in
+      let rs = ap (λ (v : Values). images.regions_of v (us is)) vs ∙ regions_u (values_of is) is in
+      let regional = any_u is_region (λ _. refl) is in
       let ss = flat_u services (λ _. refl) is in
       let ks = flat_u images.stacks (λ _. refl) is in
       let fs = functions_u [] is in
-      λ k. record { version = 1; services = first_or (record { 0 = 0 }) (ss k); words = ws k; regions = regions_of (filled (bs k)); stack_pages = first_or 1 (ks k); functions = fs k }
+      λ k. record { version = version_with (regional k); services = first_or (record { 0 = 0 }) (ss k); words = ws k; regions = rs k; stack_pages = first_or 1 (ks k); functions = fs k }
 
   all_faults_u : (is : List Item) → AllByRecursion (λ i. (i.number ≤ 1000000) × (f i.number ≤ 1000000)) is → faults_of (us is) ≡ map r (faults_of is)
   all_faults_u is h =

@@ -18,8 +18,9 @@ use Rattle.sbx_directives.specs.declared.directive.Directive.TheVariants as dire
 use Rattle.sbx_directives.specs.declared.directive.Statement.{Statement}
 use Rattle.sbx_directives.specs.declared.directive.Statement.TheVariants as statements
 use Rattle.sbx_directives.specs.declared.operand.Operand.{Operand}
+use Rattle.sbx_directives.specs.Lines.{text_of}
 use Rattle.sbx_directives.specs.Operands.{◌>>=◌, operands_of, is_between, integer, integer_in, natural_in, range_of, coefficient, plain_name, location, none, one, two, three, four, five}
-use Rattle.sbx_directives.specs.Directives.{bit_if, names, named_services, is_service, is_alignment, services_of, frames_of, value_count, function_of, cell_of, term_of, ranged, numbered, fuel_of, alignment_of, directive_of, told, keyed, keyword_named, begun, statement_of}
+use Rattle.sbx_directives.specs.Directives.{bit_if, names, named_services, is_service, is_alignment, services_of, frames_of, right_named, value_count, function_of, cell_of, term_of, ranged, numbered, fuel_of, alignment_of, directive_of, told, keyed, keyword_named, begun, statement_of}
 use Rattle.sbx_asm.proofs.Wholes.{whatever}
 
 -- each number that a directive has for the image
@@ -117,6 +118,7 @@ directive_fits : (line : List ℕ) (k : Keyword) (os : List Operand) → FitSome
 unfolding directive_of
 directive_fits line keywords.Text os = then_any Fits (none os) _ (λ _. tt)
 directive_fits line keywords.Data os = then_any Fits (none os) _ (λ _. tt)
+directive_fits line keywords.Region os = then_any Fits (one os >>= plain_name) _ (λ x. then_any Fits (right_named (text_of line x)) _ (λ writable. tt))
 directive_fits line keywords.Services os = then_all (λ x. x.0 < 2 ^ 16) Fits (services_of line os) _ (services_fit line os) (λ x h. h)
 directive_fits line keywords.Stack os = then_any Fits (numbered 1 16 os) _ (λ _. tt)
 directive_fits line keywords.Function os = function_fits line os

@@ -1,25 +1,26 @@
 -- Where a line stands: the start of a section and the lengths before it, as the stages count them.
-use Rattle.std.proofs.Common.{◌≡◌, ℕ, ◌+◌, ◌-◌, ◌*◌, Bool, true, false, cond, leb, List, [], ◌∷◌, Result, Ok, Err, refl, sym, ap, ◌∙◌, arith}
-use Rattle.std.proofs.lemmas.Bool.{leb-true, leb-false}
-use Rattle.v8_map.specs.declared.TheConstants.{CODE_START, DATA_START}
+use Rattle.std.proofs.Common.{◌≡◌, ℕ, ◌+◌, ◌-◌, ◌*◌, Bool, true, false, cond, leb, ◌≤◌, List, [], ◌∷◌, Ok, Err, refl, ap, arith}
+use Rattle.std.proofs.Math.Nat.{min-eq_left}
+use Rattle.std.proofs.lemmas.Bool.{cond_both, leb-true, leb-false}
+use Rattle.v8_map.specs.declared.TheConstants.{CODE_START}
 use Rattle.sbx_text.specs.declared.Token.{Token}
-use Rattle.std.specs.Prelude.{◌%◌, ◌==◌}
 use Rattle.v8_syntax.specs.Statements.{statement_length}
 use Rattle.sbx_directives.specs.declared.directive.Directive.{Directive}
 use Rattle.sbx_directives.specs.declared.directive.Directive.TheVariants as directives
 use Rattle.sbx_directives.specs.declared.directive.Statement.{Statement}
 use Rattle.sbx_directives.specs.declared.directive.Statement.TheVariants as statements
 use Rattle.sbx_directives.specs.Data.{bytes_of_width}
+use Rattle.sbx_image.specs.Regions.{pages_for}
 use Rattle.sbx_asm.specs.declared.place.Section.{Section}
 use Rattle.sbx_asm.specs.declared.place.Section.TheVariants.{Code, Data}
 use Rattle.sbx_asm.specs.declared.place.Place.{Place}
 use Rattle.sbx_asm.specs.Items.{Item, Said}
-use Rattle.sbx_asm.specs.Addresses.{code_length, data_length, padding_of, code_size, data_size, section_room, up_to_room, code_address, data_address, data_offset, section_after, chosen}
-use Rattle.sbx_asm.specs.Stages.Places.{start, moved_on, with_code, with_data, padding, directed, place_after}
+use Rattle.sbx_asm.specs.Addresses.{code_length, data_length, padding_of, code_size, data_size, section_room, up_to_room, last_start, start_behind, start_with, region_start, code_address, data_offset, section_after, address_in_section}
+use Rattle.sbx_asm.specs.Stages.Places.{moved_on, with_code, with_data, address_in, place_after}
 
 -- what some lines, the nearest first, make of the place
 abbrev pub place_of : List Item → Place
-place_of before = record { section = section_after before; next_word = code_address before; next_byte = data_address before }
+place_of before = record { section = section_after before; next_word = code_address before; region_start = region_start before; region_bytes = data_offset before }
 
 -- what the stages make of it
 abbrev pub passed : Item → Said → Place → Place
@@ -44,23 +45,67 @@ module _ (base size n : ℕ) where
 same_size : (base size : ℕ) → base + up_to_room size ≡ base + up_to_room (size + 0)
 same_size base size = let e : size ≡ size + 0 = omega arith in ap (λ (n : ℕ). base + up_to_room n) e
 
-pub padded : (n offset : ℕ) → padding n (DATA_START + offset) ≡ padding_of n offset
-padded n offset = ap (λ (k : ℕ). cond (n == 0) 0 ((n - k % n) % n)) (let e : DATA_START + offset - DATA_START ≡ offset = omega arith in e)
+same_bytes : (size : ℕ) → up_to_room size ≡ up_to_room (size + 0)
+same_bytes size = let e : size ≡ size + 0 = omega arith in ap up_to_room e
+
+-- so with the bytes of a region
+module _ (size n : ℕ) where
+  bytes_by : (fits room both : Bool) → leb size section_room ≡ fits → leb n (section_room - cond fits size section_room) ≡ room → leb (size + n) section_room ≡ both
+      → cond room (cond fits size section_room + n) section_room ≡ cond both (size + n) section_room
+  bytes_by true true true p q r = refl
+  bytes_by true true false p q r = let k = leb-true size section_room p in let l = leb-true n _ q in let m = leb-false (size + n) section_room r in omega arith
+  bytes_by true false true p q r = let k = leb-true size section_room p in let l = leb-false n _ q in let m = leb-true (size + n) section_room r in omega arith
+  bytes_by true false false p q r = refl
+  bytes_by false true true p q r = let k = leb-false size section_room p in let m = leb-true (size + n) section_room r in omega arith
+  bytes_by false true false p q r = let l = leb-true n _ q in omega arith
+  bytes_by false false true p q r = let k = leb-false size section_room p in let m = leb-true (size + n) section_room r in omega arith
+  bytes_by false false false p q r = refl
+
+  moved_bytes : moved_on section_room (up_to_room size) n ≡ up_to_room (size + n)
+  moved_bytes = bytes_by (leb size section_room) (leb n (section_room - up_to_room size)) (leb (size + n) section_room) refl refl refl
+
+-- a region begins below the end of the words' addresses, and so does what stands in it
+low_start : (start size : ℕ) → start_behind start size ≤ last_start
+low_start start size =
+    cond_both (leb (start + 4096 * pages_for size) last_start) (start + 4096 * pages_for size) last_start (λ m. m ≤ last_start) (λ h. leb-true (start + 4096 * pages_for size) last_start h) (λ _. omega arith)
+
+low_with : (start size : ℕ) (s : Said) → start ≤ last_start → start_with start size s ≤ last_start
+low_with start size (Ok (statements.Directive (directives.Region writable))) h = low_start start size
+low_with start size (Ok (statements.Directive _)) h = h
+low_with start size (Ok _) h = h
+low_with start size (Err f) h = h
+
+low : (before : List Item) → region_start before ≤ last_start
+low [] = omega arith
+low (i ∷ before) = low_with (region_start before) (data_offset before) i.said (low before)
+
+within_room : (size : ℕ) → up_to_room size ≤ section_room
+within_room size = cond_both (leb size section_room) size section_room (λ m. m ≤ section_room) (λ h. leb-true size section_room h) (λ _. omega arith)
+
+pub in_section : (before : List Item) (x : Section) → address_in x (place_of before) ≡ address_in_section before x
+in_section before Code = refl
+in_section before Data = min-eq_left (let h = low before in let k = within_room (data_size before) in omega arith)
 
 module _ (before : List Item) (number : ℕ) (labels : List (List ℕ)) (bytes : List ℕ) (tokens : List Token) where
   abbrev pub item : Said → Item
   item s = record { number = number; labels = labels; bytes = bytes; tokens = tokens; said = s }
 
-  stays : (x : Section) → (let p : Place = record { section = x; next_word = code_address before; next_byte = data_address before } in p) ≡ record { section = x; next_word = CODE_START + up_to_room (code_size before + 0); next_byte = DATA_START + up_to_room (data_size before + 0) }
-  stays x = λ j. record { section = x; next_word = same_size CODE_START (code_size before) j; next_byte = same_size DATA_START (data_size before) j }
+  -- the place behind lines that add so much
+  abbrev behind_by : Section → ℕ → ℕ → Place
+  behind_by x words more = record { section = x; next_word = CODE_START + up_to_room (code_size before + words); region_start = region_start before; region_bytes = up_to_room (data_size before + more) }
 
-  codes_more : (n : ℕ) → with_code n (place_of before) ≡ record { section = section_after before; next_word = CODE_START + up_to_room (code_size before + n); next_byte = DATA_START + up_to_room (data_size before + 0) }
-  codes_more n = λ j. record { section = section_after before; next_word = moved CODE_START (code_size before) n j; next_byte = same_size DATA_START (data_size before) j }
+  stays : (x : Section) → (let p : Place = record { section = x; next_word = code_address before; region_start = region_start before; region_bytes = data_offset before } in p) ≡ behind_by x 0 0
+  stays x = λ j. record { section = x; next_word = same_size CODE_START (code_size before) j; region_start = region_start before; region_bytes = same_bytes (data_size before) j }
 
-  data_more : (m n : ℕ) → m ≡ n → with_data m (place_of before) ≡ record { section = section_after before; next_word = CODE_START + up_to_room (code_size before + 0); next_byte = DATA_START + up_to_room (data_size before + n) }
-  data_more m n e =
-      ap (λ (k : ℕ). with_data k (place_of before)) e
-      ∙ (λ j. record { section = section_after before; next_word = same_size CODE_START (code_size before) j; next_byte = moved DATA_START (data_size before) n j })
+  codes_more : (n : ℕ) → with_code n (place_of before) ≡ behind_by (section_after before) n 0
+  codes_more n = λ j. record { section = section_after before; next_word = moved CODE_START (code_size before) n j; region_start = region_start before; region_bytes = same_bytes (data_size before) j }
+
+  data_more : (n : ℕ) → with_data n (place_of before) ≡ behind_by (section_after before) 0 n
+  data_more n = λ j. record { section = section_after before; next_word = same_size CODE_START (code_size before) j; region_start = region_start before; region_bytes = moved_bytes (data_size before) n j }
+
+  begins : (let p : Place = record { section = Data; next_word = code_address before; region_start = start_behind (region_start before) (data_offset before); region_bytes = 0 } in p)
+      ≡ record { section = Data; next_word = CODE_START + up_to_room (code_size before + 0); region_start = start_behind (region_start before) (data_offset before); region_bytes = 0 }
+  begins = λ j. record { section = Data; next_word = same_size CODE_START (code_size before) j; region_start = start_behind (region_start before) (data_offset before); region_bytes = 0 }
 
   pub stands : (s : Said) → passed (item s) s (place_of before) ≡ place_of (item s ∷ before)
   unfolding place_after
@@ -70,7 +115,8 @@ module _ (before : List Item) (number : ℕ) (labels : List (List ℕ)) (bytes :
   stands (Ok statements.Instruction) = codes_more (4 * statement_length bytes tokens)
   stands (Ok (statements.Directive directives.Text)) = stays Code
   stands (Ok (statements.Directive directives.Data)) = stays Data
-  stands (Ok (statements.Directive (directives.Values w n))) = data_more _ _ refl
-  stands (Ok (statements.Directive (directives.Skip n))) = data_more _ _ refl
-  stands (Ok (statements.Directive (directives.Align n))) = data_more _ _ (padded n (data_offset before))
+  stands (Ok (statements.Directive (directives.Region writable))) = begins
+  stands (Ok (statements.Directive (directives.Values w n))) = data_more (bytes_of_width w * n)
+  stands (Ok (statements.Directive (directives.Skip n))) = data_more n
+  stands (Ok (statements.Directive (directives.Align n))) = data_more (padding_of n (data_offset before))
   stands (Ok (statements.Directive _)) = stays (section_after before)

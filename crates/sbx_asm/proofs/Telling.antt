@@ -4,7 +4,7 @@ use Rattle.std.specs.Prelude.{not, ◌&&◌, ◌||◌, nat_lt, nat_le, if◌then
 use Rattle.std.specs.Option.{is_some}
 use Rattle.std.specs.List.{fold, list_any, flat_map}
 use Rattle.std.proofs.lemmas.List.{map-append, append-nil, length-append}
-use Rattle.v8_map.specs.declared.TheConstants.{CODE_START, CODE_END, DATA_START, DATA_END}
+use Rattle.v8_map.specs.declared.TheConstants.{CODE_START, CODE_END}
 use Rattle.sbx_text.specs.declared.Token.{Token}
 use Rattle.v8_formats.specs.declared.instr.Instr.{Instr}
 use Rattle.v8_syntax.specs.declared.fault.SyntaxFault.{SyntaxFault}
@@ -29,15 +29,15 @@ use Rattle.sbx_asm.specs.declared.opening.Head.{Head}
 use Rattle.sbx_asm.specs.declared.place.Place.{Place}
 use Rattle.sbx_asm.specs.declared.draft.Draft.{Draft}
 use Rattle.sbx_asm.specs.Faults.{told, at}
-use Rattle.sbx_asm.specs.Items.{Item, Said, up_to, count, starts_function, ends_function, is_block, ends_block, in_function, begins_block, block_count, params, results, cells, terms, ends, divides}
+use Rattle.sbx_asm.specs.Items.{Item, Said, up_to, count, starts_function, ends_function, is_data, is_region, leaves, leaves_region, has_bytes, is_block, ends_block, in_function, begins_block, block_count, params, results, cells, terms, ends, divides}
 use Rattle.sbx_asm.specs.Addresses.{code_offset, data_offset, data_length, padding_of, code_address, fits_behind, section_after, section_room}
-use Rattle.sbx_asm.specs.Rules.{Values, when, acts, is_code, is_unknown, takes_annotations, takes_ranges, has_fuel, last_cell, last_term, is_services, is_stack, in_place, range_rules, cell_rules, term_rules, value_rules, statement_rules, data_rules, another_block, block_rules, line_rules, empty_block}
-use Rattle.sbx_asm.specs.Stages.Places.{padding, has_room, code_end, data_end}
+use Rattle.sbx_asm.specs.Rules.{Values, when, acts, is_code, is_unknown, takes_annotations, takes_ranges, has_fuel, last_cell, last_term, is_services, is_stack, in_place, range_rules, cell_rules, term_rules, value_rules, statement_rules, data_rules, another_region, another_block, block_rules, line_rules, empty_block}
+use Rattle.sbx_asm.specs.Stages.Places.{has_room, code_end}
 use Rattle.sbx_asm.specs.Stages.Drafts as stages
-use Rattle.sbx_asm.specs.Stages.Drafts.{close_block, close_headed, close_function, headed, open_block, begin_function, begin_block_of, begin_block, param_if, add_param, result_if, add_result, cell_if, add_cell, term_if, add_term, fuel_if, fuel_by, add_fuel, services_by, add_services, stack_by, add_stack, noted, noted_where, begun, data_checked, with_data, with_zeros, add_values, add_zeros, instruction_checked, with_words, instruction_does, statement_does}
+use Rattle.sbx_asm.specs.Stages.Drafts.{close_block, close_headed, close_function, headed, open_block, begin_function, begin_block_of, begin_block, param_if, add_param, result_if, add_result, cell_if, add_cell, term_if, add_term, fuel_if, fuel_by, add_fuel, services_by, add_services, stack_by, add_stack, noted, noted_where, begun, leave_region, close_region, choose_data, begin_region, with_bytes, data_checked, with_data, with_zeros, add_values, add_zeros, instruction_checked, with_words, instruction_does, statement_does}
 use Rattle.sbx_asm.proofs.Labelling.{fold_append}
-use Rattle.sbx_asm.proofs.Standing.{item, place_of, padded}
-use Rattle.sbx_asm.proofs.Following.{said_does, Follows, bit, capped, capped_room, and_true, and_false, one_longer, same_annotations, same_ranges}
+use Rattle.sbx_asm.proofs.Standing.{item, place_of}
+use Rattle.sbx_asm.proofs.Following.{said_does, Follows, bit, capped, capped_room, capped_least, and_true, and_false, one_longer, same_annotations, same_ranges}
 
 pub joined : (o : Option AsmFault) (n : ℕ) (cs ds : List Cause) → fold told o (map (at n) (cs ++ ds)) ≡ fold told (fold told o (map (at n) cs)) (map (at n) ds)
 joined o n cs ds = ap (fold told o) (map-append (at n) cs ds) ∙ fold_append told o (map (at n) cs) (map (at n) ds)
@@ -45,6 +45,14 @@ joined o n cs ds = ap (fold told o) (map-append (at n) cs ds) ∙ fold_append to
 -- the block that a line ends, where no line of it acts
 abbrev pub closing : Said → Draft → List AsmFault
 closing s d = map (at d.block.line) (when ((ends s || divides s) && (is_some d.function.head && not d.block.begun)) causes.Directive)
+
+-- the region that a line leaves, where it has no bytes
+abbrev pub leaving : Said → Draft → List AsmFault
+leaving s d = map (at d.region.line) (when (leaves s && not d.region.begun) causes.Directive)
+
+-- the newest region, where it has no bytes up to its end
+abbrev pub wanting : Draft → List Item → List AsmFault
+wanting d after = map (at d.region.line) (when (not d.region.begun && not (list_any has_bytes (up_to leaves_region after))) causes.Directive)
 
 -- the open block, where no line of it acts up to its end
 abbrev pub pending : Values → Draft → List Item → List AsmFault
@@ -62,16 +70,15 @@ module _ (values : Values) (before : List Item) (number : ℕ) (labels : List (L
   code_room n =
       (λ j. leb n (code_end - (p j).next_word)) ∙ ap (leb n) (let e : CODE_END - (CODE_START + code_offset before) ≡ section_room - code_offset before = omega arith in e)
 
-  pub data_room : (n : ℕ) → has_room data_end d.place.next_byte n ≡ fits_behind (data_offset before) n
-  data_room n =
-      (λ j. leb n (data_end - (p j).next_byte)) ∙ ap (leb n) (let e : DATA_END - (DATA_START + data_offset before) ≡ section_room - data_offset before = omega arith in e)
+  pub data_room : (n : ℕ) → has_room section_room d.place.region_bytes n ≡ fits_behind (data_offset before) n
+  data_room n = λ j. leb n (section_room - (p j).region_bytes)
 
   data_told : (n : ℕ) → (data_checked n d).fault ≡ with_more (data_rules before n)
   data_told n =
       (λ j. fold told (with_more (when (is_code (p j).section) causes.Directive)) (map (at d.line) (when (not (data_room n j)) causes.Limit)))
       ∙ sym (joined d.fault d.line (when (is_code (section_after before)) causes.Directive) (when (not (fits_behind (data_offset before) n)) causes.Limit))
 
-  values_told : (n : ℕ) (r : Result (List ℕ) DataFault) → (with_data r (data_checked n d)).fault ≡ with_more (data_rules before n ++ value_rules r)
+  values_told : (n : ℕ) (r : Result (List ℕ) DataFault) → (with_bytes true (with_data r (data_checked n d))).fault ≡ with_more (data_rules before n ++ value_rules r)
   values_told n r = by r ∙ ap (λ (o : Option AsmFault). fold told o (map (at d.line) (value_rules r))) (data_told n) ∙ sym (joined d.fault d.line (data_rules before n) (value_rules r))
     where
       by : (r : Result (List ℕ) DataFault) → (with_data r (data_checked n d)).fault ≡ fold told (data_checked n d).fault (map (at d.line) (value_rules r))
@@ -83,6 +90,22 @@ module _ (values : Values) (before : List Item) (number : ℕ) (labels : List (L
   zeros_told : (n : ℕ) (t : Bool) → (with_zeros t n (data_checked n d)).fault ≡ with_more (data_rules before n)
   zeros_told n true = data_told n
   zeros_told n false = data_told n
+
+  skip_told : (n : ℕ) (t b : Bool) → (with_bytes b (with_zeros t n (data_checked n d))).fault ≡ with_more (data_rules before n)
+  skip_told n true b = data_told n
+  skip_told n false b = data_told n
+
+  -- ---- regions
+
+  abbrev left : Option AsmFault
+  left = fold told d.fault (map (at d.region.line) (when (not d.region.begun) causes.Directive))
+
+  region_told : (writable : Bool) → (begin_region writable d).fault ≡ fold told left (map (at d.line) (another_region before))
+  unfolding leave_region close_region begin_region
+  region_told writable =
+      (λ j. fold told (fold told left (map (at d.line) (when (h.12 j) causes.Directive))) (map (at d.line) (when (leb 8 (h.11 j)) causes.Limit)))
+      ∙ ap (λ (b : Bool). fold told (fold told left (map (at d.line) (when (list_any is_data before) causes.Directive))) (map (at d.line) (when b causes.Limit))) (capped_least 8 (count is_region before))
+      ∙ sym (joined left d.line (when (list_any is_data before) causes.Directive) (when (nat_le 8 (count is_region before)) causes.Limit))
 
   abbrev misplaced : List Cause
   misplaced = when (not (is_code (section_after before) && in_function before)) causes.Directive
@@ -108,7 +131,7 @@ module _ (values : Values) (before : List Item) (number : ℕ) (labels : List (L
   pend open_now = fold told d.fault (map (at d.block.line) (when (open_now && not d.block.begun) causes.Directive))
 
   block_room : ltb d.block_count 4096 ≡ ltb (block_count before) 4096
-  block_room = ap (λ (c : ℕ). ltb c 4096) h.2 ∙ capped_room (block_count before)
+  block_room = ap (λ (c : ℕ). ltb c 4096) h.2 ∙ capped_room 4096 (block_count before)
 
   ended_told : (o : Option Head) → (noted causes.Directive (close_headed o d)).fault ≡ fold told (pend (is_some o)) (map (at d.line) (causes.Directive ∷ []))
   unfolding close_block
@@ -177,8 +200,8 @@ module _ (values : Values) (before : List Item) (number : ℕ) (labels : List (L
 
   -- ---- a line
 
-  pub line_told : (s : Said) → (said_does values (it s) s d).fault ≡ fold told (fold told d.fault (closing s d)) (map (at d.line) (line_rules values before (it s) s))
-  unfolding statement_does instruction_does add_param add_result add_cell add_term add_fuel add_services add_stack add_values add_zeros begin_function begin_block close_function
+  pub line_told : (s : Said) → (said_does values (it s) s d).fault ≡ fold told (fold told (fold told d.fault (closing s d)) (leaving s d)) (map (at d.line) (line_rules values before (it s) s))
+  unfolding leave_region choose_data statement_does instruction_does add_param add_result add_cell add_term add_fuel add_services add_stack add_values add_zeros begin_function begin_block close_function
   line_told (Err f) = refl
   line_told (Ok statements.Nothing) = refl
   line_told (Ok statements.Instruction) =
@@ -190,7 +213,8 @@ module _ (values : Values) (before : List Item) (number : ℕ) (labels : List (L
       ∙ sym (joined (pend (is_some d.function.head)) d.line (block_rules before) (causes.Directive ∷ []))
   line_told (Ok (statements.Malformed _ name)) = refl
   line_told (Ok (statements.Directive directives.Text)) = refl
-  line_told (Ok (statements.Directive directives.Data)) = refl
+  line_told (Ok (statements.Directive directives.Data)) = λ j. with_more (when (h.13 j) causes.Directive)
+  line_told (Ok (statements.Directive (directives.Region writable))) = region_told writable
   line_told (Ok (statements.Directive (directives.Services x))) = services_told x d.services h.9
   line_told (Ok (statements.Directive (directives.Stack n))) = stack_told n d.stack h.10
   line_told (Ok (statements.Directive (directives.Function name kind frame room budget))) = begun_told kind frame room budget d.function.head h.1
@@ -201,8 +225,7 @@ module _ (values : Values) (before : List Item) (number : ℕ) (labels : List (L
   line_told (Ok (statements.Directive (directives.Fuel z))) = fuel_told z d.block.fuel h.8
   line_told (Ok (statements.Directive (directives.Term x))) = term_told x (stages.takes_annotations d.function d.block) (same_annotations values before d h)
   line_told (Ok (statements.Directive (directives.Values w n))) = values_told (bytes_of_width w * n) (data_of values bytes w tokens)
-  line_told (Ok (statements.Directive (directives.Skip n))) = zeros_told n (has_room data_end d.place.next_byte n)
+  line_told (Ok (statements.Directive (directives.Skip n))) = skip_told n (has_room section_room d.place.region_bytes n) (nat_lt 0 n)
   line_told (Ok (statements.Directive (directives.Align n))) =
-      zeros_told (padding n d.place.next_byte) (has_room data_end d.place.next_byte (padding n d.place.next_byte))
-      ∙ (λ j. with_more (data_rules before (padding n (p j).next_byte)))
-      ∙ ap (λ (m : ℕ). with_more (data_rules before m)) (padded n (data_offset before))
+      zeros_told (padding_of n d.place.region_bytes) (has_room section_room d.place.region_bytes (padding_of n d.place.region_bytes))
+      ∙ (λ j. with_more (data_rules before (padding_of n (p j).region_bytes)))

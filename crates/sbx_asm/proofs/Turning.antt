@@ -1,5 +1,5 @@
 -- The block that is open, from line to line: where no line of it acts, its fault is told where it began.
-use Rattle.std.proofs.Common.{◌≡◌, ◌⊎◌, inl, inr, ⊎_elim, ℕ, ◌+◌, ◌*◌, Bool, true, false, List, [], ◌∷◌, ◌++◌, map, Option, None, Some, Result, Ok, Err, refl, sym, ap, ◌∙◌}
+use Rattle.std.proofs.Common.{◌≡◌, ◌⊎◌, inl, inr, ⊎_elim, ℕ, ◌+◌, ◌*◌, Bool, true, false, List, [], ◌∷◌, ◌++◌, map, Option, None, Some, Result, Ok, Err, refl, sym, ap, ◌∙◌, append_assoc}
 use Rattle.std.specs.Prelude.{not, ◌&&◌, ◌||◌, ℤ, length, nat_lt, nat_le}
 use Rattle.std.specs.Option.{is_some}
 use Rattle.std.specs.List.{fold, list_any}
@@ -26,16 +26,17 @@ use Rattle.sbx_asm.specs.declared.fault.Cause.TheVariants as causes
 use Rattle.sbx_asm.specs.declared.opening.Head.{Head}
 use Rattle.sbx_asm.specs.declared.draft.Draft.{Draft}
 use Rattle.sbx_asm.specs.Faults.{told, at}
-use Rattle.sbx_asm.specs.Items.{Item, Said, each, up_to, ends_block, in_function}
-use Rattle.sbx_asm.specs.Rules.{Values, when, acts, is_unknown, line_rules, own_faults, empty_block, faults_at}
-use Rattle.sbx_asm.specs.Stages.Places.{padding, has_room, data_end}
+use Rattle.sbx_asm.specs.Items.{Item, Said, each, up_to, leaves_region, has_bytes, ends_block, in_function}
+use Rattle.sbx_asm.specs.Rules.{Values, when, acts, is_unknown, line_rules, own_faults, empty_block, empty_region, faults_at}
+use Rattle.sbx_asm.specs.Addresses.{padding_of, section_room}
+use Rattle.sbx_asm.specs.Stages.Places.{has_room}
 use Rattle.sbx_asm.specs.Stages.Drafts as stages
-use Rattle.sbx_asm.specs.Stages.Drafts.{close_block, close_headed, close_function, headed, open_block, begin_function, begin_block_of, begin_block, param_if, add_param, result_if, add_result, cell_if, add_cell, term_if, add_term, fuel_if, fuel_by, add_fuel, services_by, add_services, stack_by, add_stack, noted, noted_where, begun, data_checked, with_data, with_zeros, add_values, add_zeros, instruction_checked, with_words, instruction_does, statement_does, numbered_line}
+use Rattle.sbx_asm.specs.Stages.Drafts.{close_block, close_headed, close_function, headed, open_block, begin_function, begin_block_of, begin_block, param_if, add_param, result_if, add_result, cell_if, add_cell, term_if, add_term, fuel_if, fuel_by, add_fuel, services_by, add_services, stack_by, add_stack, noted, noted_where, begun, leave_region, close_region, choose_data, begin_region, with_bytes, closed, data_checked, with_data, with_zeros, add_values, add_zeros, instruction_checked, with_words, instruction_does, statement_does, numbered_line}
 use Rattle.sbx_asm.proofs.Labelling.{fold_append}
 use Rattle.sbx_asm.proofs.Standing.{item, passed, place_of, stands}
 use Rattle.sbx_asm.proofs.Following.{said_does, Follows, follows, and_true}
 use Rattle.sbx_asm.proofs.Orders.{told_first}
-use Rattle.sbx_asm.proofs.Telling.{closing, pending, line_told}
+use Rattle.sbx_asm.proofs.Telling.{closing, pending, leaving, wanting, line_told}
 
 -- either the line ends the open block, and the next one is open, or the same block stays open
 abbrev Turned : List AsmFault → List AsmFault → List AsmFault → List AsmFault → Type 0
@@ -49,24 +50,46 @@ module _ (values : Values) (before : List Item) (number : ℕ) (labels : List (L
   abbrev it : Said → Item
   it s = item before number labels bytes tokens s
 
+  -- so with the newest region
+  abbrev Leaves : Said → Draft → Type 0
+  Leaves s e = Turned (leaving s d) (wanting d (it s ∷ after)) (wanting e after) (empty_region (it s) after)
+
   abbrev Turns : Said → Draft → Type 0
-  Turns s e = Turned (closing s d) (pending values d (it s ∷ after)) (pending values e after) (empty_block values before (it s) after)
+  Turns s e = Turned (closing s d) (pending values d (it s ∷ after)) (pending values e after) (empty_block values before (it s) after) × Leaves s e
+
+  -- a line whose bytes stand in the region
+  filled_now : (b : Bool) → Turned [] (map (at d.region.line) (when (not d.region.begun && not (b || list_any has_bytes (up_to leaves_region after))) causes.Directive))
+      (map (at d.region.line) (when (not (b || d.region.begun) && not (list_any has_bytes (up_to leaves_region after))) causes.Directive)) []
+  filled_now true = inr (refl, refl, λ j. map (at d.region.line) (when (nothing (not d.region.begun) j) causes.Directive))
+  filled_now false = inr (refl, refl, refl)
+
+  -- a line that leaves it
+  abbrev left : map (at d.region.line) (when (not d.region.begun && true) causes.Directive) ≡ map (at d.region.line) (when (not d.region.begun) causes.Directive)
+  left = λ j. map (at d.region.line) (when (and_true (not d.region.begun) j) causes.Directive)
+
+  divided_region : (o : Option Head) → (begin_block_of o d).region ≡ d.region
+  unfolding open_block close_block
+  divided_region (Some x) = refl
+  divided_region None = refl
+
+  stays : (e : Draft) → e.region ≡ d.region → Turned [] (wanting d after) (wanting e after) []
+  stays e q = inr (refl, refl, λ j. map (at (q j).line) (when (not (q j).begun && not (list_any has_bytes (up_to leaves_region after))) causes.Directive))
 
   abbrev acted : pending values (begun d) after ≡ map (at d.block.line) (when (is_some d.function.head && (not d.block.begun && false)) causes.Directive)
   acted = λ j. map (at d.block.line) (when (is_some d.function.head && nothing (not d.block.begun) j) causes.Directive)
 
   words_turn : (r : Result (List Instr) SyntaxFault) → Turns (Ok statements.Instruction) (begun (with_words r (instruction_checked bytes tokens d)))
-  words_turn (Ok is) = inr (refl, refl, acted)
-  words_turn (Err f) = inr (refl, refl, acted)
+  words_turn (Ok is) = (inr (refl, refl, acted), inr (refl, refl, refl))
+  words_turn (Err f) = (inr (refl, refl, acted), inr (refl, refl, refl))
 
-  values_turn : (w : Width) (n : ℕ) (m : ℕ) (r : Result (List ℕ) DataFault) → r ≡ data_of values bytes w tokens → Turns (Ok (statements.Directive (directives.Values w n))) (with_data r (data_checked m d))
-  values_turn w n m (Ok bs) q = inr (refl, refl, λ j. map (at d.block.line) (when (is_some d.function.head && (not d.block.begun && not (is_unknown (q j) || list_any (acts values) (up_to ends_block after)))) causes.Directive))
+  values_turn : (w : Width) (n : ℕ) (m : ℕ) (r : Result (List ℕ) DataFault) → r ≡ data_of values bytes w tokens → Turns (Ok (statements.Directive (directives.Values w n))) (with_bytes true (with_data r (data_checked m d)))
+  values_turn w n m (Ok bs) q = (inr (refl, refl, λ j. map (at d.block.line) (when (is_some d.function.head && (not d.block.begun && not (is_unknown (q j) || list_any (acts values) (up_to ends_block after)))) causes.Directive)), filled_now true)
   values_turn w n m (Err data_faults.UnknownSymbol) q =
-      inr (refl, refl, acted ∙ (λ j. map (at d.block.line) (when (is_some d.function.head && (not d.block.begun && not (is_unknown (q j) || list_any (acts values) (up_to ends_block after)))) causes.Directive)))
+      (inr (refl, refl, acted ∙ (λ j. map (at d.block.line) (when (is_some d.function.head && (not d.block.begun && not (is_unknown (q j) || list_any (acts values) (up_to ends_block after)))) causes.Directive))), filled_now true)
   values_turn w n m (Err data_faults.Malformed) q =
-      inr (refl, refl, λ j. map (at d.block.line) (when (is_some d.function.head && (not d.block.begun && not (is_unknown (q j) || list_any (acts values) (up_to ends_block after)))) causes.Directive))
+      (inr (refl, refl, λ j. map (at d.block.line) (when (is_some d.function.head && (not d.block.begun && not (is_unknown (q j) || list_any (acts values) (up_to ends_block after)))) causes.Directive)), filled_now true)
   values_turn w n m (Err (data_faults.Memory want)) q =
-      inr (refl, refl, λ j. map (at d.block.line) (when (is_some d.function.head && (not d.block.begun && not (is_unknown (q j) || list_any (acts values) (up_to ends_block after)))) causes.Directive))
+      (inr (refl, refl, λ j. map (at d.block.line) (when (is_some d.function.head && (not d.block.begun && not (is_unknown (q j) || list_any (acts values) (up_to ends_block after)))) causes.Directive)), filled_now true)
 
   -- a line that ends the open block
   abbrev ended : map (at d.block.line) (when (is_some d.function.head && (not d.block.begun && true)) causes.Directive) ≡ map (at d.block.line) (when (is_some d.function.head && not d.block.begun) causes.Directive)
@@ -76,13 +99,13 @@ module _ (values : Values) (before : List Item) (number : ℕ) (labels : List (L
       → Turns (Ok (statements.Directive (directives.Function name kind frame room budget)))
       (let e : Draft = close_headed o d in open_block (headed kind frame room budget (noted_where (nat_le 256 (length e.functions)) causes.Limit e)))
   unfolding open_block close_block
-  begins name kind frame room budget (Some x) = inl (ended, λ j. map (at (l j)) (when (not (list_any (acts values) (up_to ends_block after))) causes.Directive))
-  begins name kind frame room budget None = inl (ended, λ j. map (at (l j)) (when (not (list_any (acts values) (up_to ends_block after))) causes.Directive))
+  begins name kind frame room budget (Some x) = (inl (ended, λ j. map (at (l j)) (when (not (list_any (acts values) (up_to ends_block after))) causes.Directive)), inr (refl, refl, refl))
+  begins name kind frame room budget None = (inl (ended, λ j. map (at (l j)) (when (not (list_any (acts values) (up_to ends_block after))) causes.Directive)), inr (refl, refl, refl))
 
   ends : (name : Option Name) (o : Option Head) → is_some d.function.head ≡ is_some o → Turns (Ok (statements.Malformed keywords.Function name)) (noted causes.Directive (close_headed o d))
   unfolding close_block
-  ends name (Some x) q = inl (ended, refl)
-  ends name None q = inl (ended, λ j. map (at d.block.line) (when (q j && (not d.block.begun && not (list_any (acts values) (up_to ends_block after)))) causes.Directive))
+  ends name (Some x) q = (inl (ended, refl), inr (refl, refl, refl))
+  ends name None q = (inl (ended, λ j. map (at d.block.line) (when (q j && (not d.block.begun && not (list_any (acts values) (up_to ends_block after)))) causes.Directive)), inr (refl, refl, refl))
 
   divides : (o : Option Head) → is_some d.function.head ≡ is_some o
       → pending values (begin_block_of o d) after ≡ map (at number) (when (in_function before && not (list_any (acts values) (up_to ends_block after))) causes.Directive)
@@ -93,63 +116,68 @@ module _ (values : Values) (before : List Item) (number : ℕ) (labels : List (L
       ∙ (let r : false ≡ in_function before = sym q ∙ h.0 in λ j. map (at number) (when (r j && not (list_any (acts values) (up_to ends_block after))) causes.Directive))
 
   quiet_param : (r : Range) (t : Bool) → Turns (Ok (statements.Directive (directives.Param r))) (param_if t r d)
-  quiet_param r true = inr (refl, refl, refl)
-  quiet_param r false = inr (refl, refl, refl)
+  quiet_param r true = (inr (refl, refl, refl), inr (refl, refl, refl))
+  quiet_param r false = (inr (refl, refl, refl), inr (refl, refl, refl))
 
   quiet_result : (r : Range) (t : Bool) → Turns (Ok (statements.Directive (directives.Result r))) (result_if t r d)
-  quiet_result r true = inr (refl, refl, refl)
-  quiet_result r false = inr (refl, refl, refl)
+  quiet_result r true = (inr (refl, refl, refl), inr (refl, refl, refl))
+  quiet_result r false = (inr (refl, refl, refl), inr (refl, refl, refl))
 
   quiet_cell : (c : Cell) (t : Bool) → Turns (Ok (statements.Directive (directives.Cell c))) (cell_if t c d)
-  quiet_cell c true = inr (refl, refl, refl)
-  quiet_cell c false = inr (refl, refl, refl)
+  quiet_cell c true = (inr (refl, refl, refl), inr (refl, refl, refl))
+  quiet_cell c false = (inr (refl, refl, refl), inr (refl, refl, refl))
 
   quiet_term : (x : Term) (t : Bool) → Turns (Ok (statements.Directive (directives.Term x))) (term_if t x d)
-  quiet_term x true = inr (refl, refl, refl)
-  quiet_term x false = inr (refl, refl, refl)
+  quiet_term x true = (inr (refl, refl, refl), inr (refl, refl, refl))
+  quiet_term x false = (inr (refl, refl, refl), inr (refl, refl, refl))
 
   quiet_fuel : (z : ℤ) (o : Option ℤ) (t : Bool) → stages.takes_annotations d.function d.block ≡ t → Turns (Ok (statements.Directive (directives.Fuel z))) (fuel_by o z d)
-  quiet_fuel z (Some y) t q = inr (refl, refl, refl)
+  quiet_fuel z (Some y) t q = (inr (refl, refl, refl), inr (refl, refl, refl))
   quiet_fuel z None t q = by (stages.takes_annotations d.function d.block)
     where
       by : (u : Bool) → Turns (Ok (statements.Directive (directives.Fuel z))) (fuel_if u z d)
-      by true = inr (refl, refl, refl)
-      by false = inr (refl, refl, refl)
+      by true = (inr (refl, refl, refl), inr (refl, refl, refl))
+      by false = (inr (refl, refl, refl), inr (refl, refl, refl))
 
   quiet_services : (x : Services) (o : Option Services) → Turns (Ok (statements.Directive (directives.Services x))) (services_by o x d)
-  quiet_services x (Some y) = inr (refl, refl, refl)
-  quiet_services x None = inr (refl, refl, refl)
+  quiet_services x (Some y) = (inr (refl, refl, refl), inr (refl, refl, refl))
+  quiet_services x None = (inr (refl, refl, refl), inr (refl, refl, refl))
 
   quiet_stack : (n : ℕ) (o : Option ℕ) → Turns (Ok (statements.Directive (directives.Stack n))) (stack_by o n d)
-  quiet_stack n (Some y) = inr (refl, refl, refl)
-  quiet_stack n None = inr (refl, refl, refl)
+  quiet_stack n (Some y) = (inr (refl, refl, refl), inr (refl, refl, refl))
+  quiet_stack n None = (inr (refl, refl, refl), inr (refl, refl, refl))
 
-  quiet_skip : (n m : ℕ) (t : Bool) → Turns (Ok (statements.Directive (directives.Skip n))) (with_zeros t m (data_checked m d))
-  quiet_skip n m true = inr (refl, refl, refl)
-  quiet_skip n m false = inr (refl, refl, refl)
+  quiet_skip : (n : ℕ) (t : Bool) → Turns (Ok (statements.Directive (directives.Skip n))) (with_bytes (nat_lt 0 n) (with_zeros t n (data_checked n d)))
+  quiet_skip n true = (inr (refl, refl, refl), filled_now (nat_lt 0 n))
+  quiet_skip n false = (inr (refl, refl, refl), filled_now (nat_lt 0 n))
+
+  quiet_align : (n m : ℕ) (t : Bool) → Turns (Ok (statements.Directive (directives.Align n))) (with_zeros t m (data_checked m d))
+  quiet_align n m true = (inr (refl, refl, refl), inr (refl, refl, refl))
+  quiet_align n m false = (inr (refl, refl, refl), inr (refl, refl, refl))
 
   turns : (s : Said) → Turns s (said_does values (it s) s d)
-  unfolding statement_does instruction_does add_param add_result add_cell add_term add_fuel add_services add_stack add_values add_zeros begin_function begin_block close_function
-  turns (Err f) = inr (refl, refl, acted)
-  turns (Ok statements.Nothing) = inr (refl, refl, refl)
+  unfolding leave_region close_region choose_data begin_region statement_does instruction_does add_param add_result add_cell add_term add_fuel add_services add_stack add_values add_zeros begin_function begin_block close_function
+  turns (Err f) = (inr (refl, refl, acted), inr (refl, refl, refl))
+  turns (Ok statements.Nothing) = (inr (refl, refl, refl), inr (refl, refl, refl))
   turns (Ok statements.Instruction) = words_turn (source_meaning values d.place.next_word bytes tokens)
   turns (Ok (statements.Malformed keywords.Function name)) = ends name d.function.head refl
-  turns (Ok (statements.Malformed keywords.Block name)) = inl (ended, divides d.function.head refl)
-  turns (Ok (statements.Malformed _ name)) = inr (refl, refl, refl)
-  turns (Ok (statements.Directive directives.Text)) = inr (refl, refl, refl)
-  turns (Ok (statements.Directive directives.Data)) = inr (refl, refl, refl)
+  turns (Ok (statements.Malformed keywords.Block name)) = (inl (ended, divides d.function.head refl), stays (begin_block_of d.function.head d) (divided_region d.function.head))
+  turns (Ok (statements.Malformed _ name)) = (inr (refl, refl, refl), inr (refl, refl, refl))
+  turns (Ok (statements.Directive directives.Text)) = (inr (refl, refl, refl), inl (left, refl))
+  turns (Ok (statements.Directive directives.Data)) = (inr (refl, refl, refl), inr (refl, refl, refl))
+  turns (Ok (statements.Directive (directives.Region writable))) = (inr (refl, refl, refl), inl (left, λ j. map (at (l j)) (when (not (list_any has_bytes (up_to leaves_region after))) causes.Directive)))
   turns (Ok (statements.Directive (directives.Services x))) = quiet_services x d.services
   turns (Ok (statements.Directive (directives.Stack n))) = quiet_stack n d.stack
   turns (Ok (statements.Directive (directives.Function name kind frame room budget))) = begins name kind frame room budget d.function.head
   turns (Ok (statements.Directive (directives.Param r))) = quiet_param r (stages.takes_ranges d.function d.block)
   turns (Ok (statements.Directive (directives.Result r))) = quiet_result r (stages.takes_ranges d.function d.block)
-  turns (Ok (statements.Directive (directives.Block name))) = inl (ended, divides d.function.head refl)
+  turns (Ok (statements.Directive (directives.Block name))) = (inl (ended, divides d.function.head refl), stays (begin_block_of d.function.head d) (divided_region d.function.head))
   turns (Ok (statements.Directive (directives.Cell c))) = quiet_cell c (stages.takes_annotations d.function d.block)
   turns (Ok (statements.Directive (directives.Fuel z))) = quiet_fuel z d.block.fuel (stages.takes_annotations d.function d.block) refl
   turns (Ok (statements.Directive (directives.Term x))) = quiet_term x (stages.takes_annotations d.function d.block)
   turns (Ok (statements.Directive (directives.Values w n))) = values_turn w n (bytes_of_width w * n) (data_of values bytes w tokens) refl
-  turns (Ok (statements.Directive (directives.Skip n))) = quiet_skip n n (has_room data_end d.place.next_byte n)
-  turns (Ok (statements.Directive (directives.Align n))) = quiet_skip n (padding n d.place.next_byte) (has_room data_end d.place.next_byte (padding n d.place.next_byte))
+  turns (Ok (statements.Directive (directives.Skip n))) = quiet_skip n (has_room section_room d.place.region_bytes n)
+  turns (Ok (statements.Directive (directives.Align n))) = quiet_align n (padding_of n d.place.region_bytes) (has_room section_room d.place.region_bytes (padding_of n d.place.region_bytes))
 
 -- ---- all lines
 
@@ -206,17 +234,39 @@ module _ (values : Values) where
   unfolding numbered_line
   item_follows before i d h = follows values before i.number i.labels i.bytes i.tokens i.said (numbered_line i.number d) h
 
+  at_last : (d : Draft) → (closed d).fault ≡ fold told d.fault (wanting d [] ++ (pending values d [] ++ []))
+  unfolding close_function close_region leave_region
+  at_last d =
+      at_end (close_region d) d.function.head
+      ∙ ap (λ (b : Bool). fold told (fold told d.fault (map (at d.region.line) (when b causes.Directive))) (pending values d [] ++ [])) (sym (and_true (not d.region.begun)))
+      ∙ sym (fold_append told d.fault (wanting d []) (pending values d [] ++ []))
+
   pub all_told : (before after : List Item) (d : Draft) → d.place ≡ place_of before → Follows values before d
-      → (close_function (fold item_does d after)).fault ≡ fold told d.fault (pending values d after ++ each (faults_at values) before after)
-  unfolding numbered_line close_function
-  all_told before [] d p h = at_end d d.function.head
+      → (closed (fold item_does d after)).fault ≡ fold told d.fault (wanting d after ++ (pending values d after ++ each (faults_at values) before after))
+  unfolding numbered_line
+  all_told before [] d p h = at_last d
   all_told before (i ∷ after) d p h =
       let d0 : Draft = numbered_line i.number d in
       let B : List AsmFault = map (at i.number) (when (nat_lt 1000000 i.number) causes.Limit) in
+      let C : List AsmFault = closing i.said d0 in
       let L : List AsmFault = map (at i.number) (line_rules values before i i.said) in
+      let E : List AsmFault = empty_region i after in
+      let F : List AsmFault = empty_block values before i after in
       let R : List AsmFault = each (faults_at values) (i ∷ before) after in
+      let v : List AsmFault = wanting (item_does d i) after in
       let q : List AsmFault = pending values (item_does d i) after in
+      let w : List AsmFault = wanting d (i ∷ after) in
+      let turned = turns values before i.number i.labels i.bytes i.tokens d0 h refl after i.said in
+      let o : Option AsmFault = fold told d.fault w in
       all_told (i ∷ before) after (item_does d i) (item_stands before i d p) (item_follows before i d h)
-      ∙ ap (λ (x : Option AsmFault). fold told x (q ++ R)) (line_told values before i.number i.labels i.bytes i.tokens d0 p h i.said)
-      ∙ gathered d.fault B L R d.block.line _ _ q (empty_block values before i after) (turns values before i.number i.labels i.bytes i.tokens d0 h refl after i.said)
-      ∙ ap (λ (x : List AsmFault). fold told d.fault (pending values d (i ∷ after) ++ ((x ++ empty_block values before i after) ++ R))) (sym (map-append (at i.number) (when (nat_lt 1000000 i.number) causes.Limit) (line_rules values before i i.said)))
+      ∙ ap (λ (x : Option AsmFault). fold told x (v ++ (q ++ R))) (line_told values before i.number i.labels i.bytes i.tokens d0 p h i.said)
+      ∙ ap (λ (x : Option AsmFault). fold told (fold told (fold told x (leaving i.said d0)) L) (v ++ (q ++ R))) (sym (fold_append told d.fault B C))
+      ∙ gathered d.fault (B ++ C) L (q ++ R) d.region.line _ _ v E turned.1
+      ∙ fold_append told d.fault w ((((B ++ C) ++ L) ++ E) ++ (q ++ R))
+      ∙ spread o (B ++ C) L E (q ++ R)
+      ∙ ap (λ (x : Option AsmFault). fold told (fold told (fold told x L) E) (q ++ R)) (fold_append told o B C)
+      ∙ ap (λ (x : Option AsmFault). fold told x (q ++ R)) (sym (fold_append told (fold told (fold told o B) C) L E))
+      ∙ gathered o B (L ++ E) R d.block.line _ _ q F turned.0
+      ∙ sym (fold_append told d.fault w (pending values d (i ∷ after) ++ (((B ++ (L ++ E)) ++ F) ++ R)))
+      ∙ ap (λ (x : List AsmFault). fold told d.fault (w ++ (pending values d (i ∷ after) ++ ((x ++ F) ++ R)))) (sym (append_assoc B L E))
+      ∙ ap (λ (x : List AsmFault). fold told d.fault (w ++ (pending values d (i ∷ after) ++ (((x ++ E) ++ F) ++ R)))) (sym (map-append (at i.number) (when (nat_lt 1000000 i.number) causes.Limit) (line_rules values before i i.said)))

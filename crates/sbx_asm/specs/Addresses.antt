@@ -4,6 +4,7 @@ use Rattle.std.specs.List.{list_any}
 use Rattle.std.specs.Str.{bytes_eq}
 use Rattle.v8_map.specs.declared.TheConstants.{CODE_START, DATA_START}
 use Rattle.v8_syntax.specs.Statements.{statement_length}
+use Rattle.sbx_image.specs.Regions.{pages_for}
 use Rattle.sbx_directives.specs.declared.directive.Name.{Name}
 use Rattle.sbx_directives.specs.declared.directive.Directive.TheVariants as directives
 use Rattle.sbx_directives.specs.declared.directive.Statement.TheVariants as statements
@@ -32,7 +33,7 @@ data_length size (Ok (statements.Directive (directives.Skip n))) = n
 data_length size (Ok (statements.Directive (directives.Align n))) = padding_of n size
 data_length size _ = 0
 
--- a section has room for 262,144 bytes, and ends there
+-- a section, as the code, the data or a region of them, has room for 262,144 bytes, and ends there
 abbrev pub section_room : ℕ
 section_room = 0x40000
 
@@ -48,9 +49,14 @@ abbrev pub code_size : List Item → ℕ
 code_size [] = 0
 code_size (i ∷ before) = code_size before + code_length i i.said
 
+-- those of the data are of the newest region
+abbrev pub size_with : ℕ → Said → ℕ
+size_with size (Ok (statements.Directive (directives.Region writable))) = 0
+size_with size s = size + data_length (up_to_room size) s
+
 abbrev pub data_size : List Item → ℕ
 data_size [] = 0
-data_size (i ∷ before) = data_size before + data_length (up_to_room (data_size before)) i.said
+data_size (i ∷ before) = size_with (data_size before) i.said
 
 -- ---- addresses
 
@@ -61,19 +67,40 @@ code_offset before = up_to_room (code_size before)
 abbrev pub data_offset : List Item → ℕ
 data_offset before = up_to_room (data_size before)
 
+-- where a ninth region, which is too many, begins at the latest
+abbrev pub last_start : ℕ
+last_start = DATA_START + 8 * section_room
+
+-- a region begins at the page behind the last one of the region before it, which has so many bytes
+abbrev pub up_to_last : ℕ → ℕ
+up_to_last address = if nat_le address last_start then address else last_start
+
+abbrev pub start_behind : ℕ → ℕ → ℕ
+start_behind start size = up_to_last (start + 4096 * pages_for size)
+
+abbrev pub start_with : ℕ → ℕ → Said → ℕ
+start_with start size (Ok (statements.Directive (directives.Region writable))) = start_behind start size
+start_with start size s = start
+
+-- where the newest region begins, or the data where there are no regions
+abbrev pub region_start : List Item → ℕ
+region_start [] = DATA_START
+region_start (i ∷ before) = start_with (region_start before) (data_offset before) i.said
+
 -- the code begins at 00040000 and the data at 00080000, as the address map has them
 abbrev pub code_address : List Item → ℕ
 code_address before = CODE_START + code_offset before
 
 abbrev pub data_address : List Item → ℕ
-data_address before = DATA_START + data_offset before
+data_address before = region_start before + data_offset before
 
 abbrev pub chosen : Said → Section → Section
 chosen (Ok (statements.Directive directives.Text)) section = Code
 chosen (Ok (statements.Directive directives.Data)) section = Data
+chosen (Ok (statements.Directive (directives.Region writable))) section = Data
 chosen _ section = section
 
--- the section that `.text` or `.data` chose last
+-- the section that `.text`, `.data` or `.region` chose last
 abbrev pub section_after : List Item → Section
 section_after [] = Code
 section_after (i ∷ before) = chosen i.said (section_after before)

@@ -1,5 +1,5 @@
--- Two sources and what they mean, worked out from the definitions.
-use Rattle.std.specs.Prelude.{◌≡◌, ℕ, pos, List, [], ◌∷◌, ◌++◌, Ok, Err, codes}
+-- Three sources and what they mean, worked out from the definitions.
+use Rattle.std.specs.Prelude.{◌≡◌, ℕ, pos, true, false, List, [], ◌∷◌, ◌++◌, Ok, Err, codes}
 use Rattle.std.specs.List.{flat_map}
 use Rattle.sbx_image.specs.Kind.TheVariants.{Leaf}
 use Rattle.sbx_image.specs.Parts.{Parts}
@@ -46,6 +46,47 @@ hello_parts =
           } ∷ [];
     }
 
+-- puts out "H" from a region that is read alone, and stores it in one that is written
+abbrev pub letter : List ℕ
+letter =
+    lines_to_text (
+    codes ".services exit,put"
+    ∷ codes ".region ro"
+    ∷ codes ".byte 72,105"
+    ∷ codes ".region rw"
+    ∷ codes "note: .skip 8"
+    ∷ codes ".text"
+    ∷ codes ".function main,leaf,0,0,14"
+    ∷ codes ".fuel 14"
+    ∷ codes "    sethi 512,%g1"
+    ∷ codes "    ldub [%g1],%o0"
+    ∷ codes "    ta 2"
+    ∷ codes "    set note,%g2 ! 00081000"
+    ∷ codes "    stb %o0,[%g2+7]"
+    ∷ codes "    mov 0,%o0"
+    ∷ codes "    ta 0" ∷ [])
+
+abbrev pub letter_parts : Parts
+letter_parts =
+    record {
+      version = 2;
+      services = record { 0 = 5 };
+      words = 0x03000200 ∷ 0xD0084000 ∷ 0x91D02002 ∷ 0x05000204 ∷ 0x8410A000 ∷ 0xD028A007 ∷ 0x90102000 ∷ 0x91D02000 ∷ [];
+      regions = record { bytes = 72 ∷ 105 ∷ 0 ∷ 0 ∷ 0 ∷ 0 ∷ 0 ∷ 0 ∷ []; writable = false } ∷ record { bytes = 0 ∷ 0 ∷ 0 ∷ 0 ∷ 0 ∷ 0 ∷ 0 ∷ 0 ∷ []; writable = true } ∷ [];
+      stack_pages = 1;
+      functions =
+          record {
+            kind = Leaf;
+            params = [];
+            results = [];
+            entry = 0x40000;
+            frame = 0;
+            stack_room = 0;
+            budget = 14;
+            blocks = record { address = 0x40000; fuel = pos 14; cells = []; terms = [] } ∷ [];
+          } ∷ [];
+    }
+
 -- an empty source has no function
 abbrev pub KnownSourcesHaveTheirMeanings : Type 0
-KnownSourcesHaveTheirMeanings = (source_image [] ≡ Err (at 1 causes.Directive)) × (source_image hello ≡ Ok hello_parts)
+KnownSourcesHaveTheirMeanings = (source_image [] ≡ Err (at 1 causes.Directive)) × (source_image hello ≡ Ok hello_parts) × (source_image letter ≡ Ok letter_parts)

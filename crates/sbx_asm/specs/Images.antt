@@ -1,6 +1,6 @@
 -- The image of a source without faults, as a map over its lines: words and bytes one after the other, functions and blocks as groups.
-use Rattle.std.specs.Prelude.{ℕ, ◌+◌, ◌-◌, ◌%◌, ℤ, pos, Bool, List, [], ◌∷◌, ◌++◌, length, map, replicate, Result, Ok, Err}
-use Rattle.std.specs.List.{flat_map}
+use Rattle.std.specs.Prelude.{ℕ, ◌+◌, ◌-◌, ◌%◌, ℤ, pos, Bool, true, if◌then◌else◌, List, [], ◌∷◌, ◌++◌, length, map, replicate, Result, Ok, Err}
+use Rattle.std.specs.List.{flat_map, list_any}
 use Rattle.v8_formats.specs.declared.instr.Instr.{Instr}
 use Rattle.v8_formats.specs.Spelling.{spelling}
 use Rattle.v8_syntax.specs.declared.fault.SyntaxFault.{SyntaxFault}
@@ -8,13 +8,13 @@ use Rattle.v8_syntax.specs.Statements.{source_meaning}
 use Rattle.sbx_image.specs.Block.{Block}
 use Rattle.sbx_image.specs.Function.{Function}
 use Rattle.sbx_image.specs.Parts.{Parts}
-use Rattle.sbx_image.specs.Reading.{regions_of}
+use Rattle.sbx_image.specs.Region.{Region}
 use Rattle.sbx_image.specs.Services.{Services}
 use Rattle.sbx_directives.specs.declared.directive.Directive.TheVariants as directives
 use Rattle.sbx_directives.specs.declared.directive.Statement.TheVariants as statements
 use Rattle.sbx_directives.specs.declared.fault.DataFault.{DataFault}
 use Rattle.sbx_directives.specs.Data.{data_of}
-use Rattle.sbx_asm.specs.Items.{Item, Said, each, up_to, ends_function, ends_block, params, results, cells, terms}
+use Rattle.sbx_asm.specs.Items.{Item, Said, each, up_to, ends_function, ends_block, is_region, params, results, cells, terms}
 use Rattle.sbx_asm.specs.Addresses.{code_address, data_offset, data_length, values_of}
 use Rattle.sbx_asm.specs.Rules.{Values}
 
@@ -67,6 +67,15 @@ abbrev pub bytes_meant : Result (List ℕ) DataFault → List ℕ
 bytes_meant (Ok bytes) = bytes
 bytes_meant (Err f) = []
 
+-- zeros up to a multiple of 8
+abbrev pub filled : List ℕ → List ℕ
+filled bytes = bytes ++ replicate ((8 - length bytes % 8) % 8) 0
+
+-- no region where there are no bytes
+abbrev pub region_with : Bool → List ℕ → List Region
+region_with writable [] = []
+region_with writable (b ∷ bytes) = record { bytes = b ∷ bytes; writable = writable } ∷ []
+
 -- what the labels are worth
 module _ (values : Values) where
   abbrev pub words_said : List Item → Item → Said → List ℕ
@@ -87,11 +96,21 @@ module _ (values : Values) where
   abbrev pub bytes_at : List Item → Item → List Item → List ℕ
   bytes_at before i after = bytes_said before i i.said
 
--- ---- the image
+  -- ---- regions
 
--- zeros up to a multiple of 8
-abbrev pub filled : List ℕ → List ℕ
-filled bytes = bytes ++ replicate ((8 - length bytes % 8) % 8) 0
+  abbrev pub region_begun : List Item → Said → List Item → List Region
+  region_begun behind_it (Ok (statements.Directive (directives.Region writable))) after = region_with writable (filled (each bytes_at behind_it (up_to is_region after)))
+  region_begun behind_it _ after = []
+
+  -- a `.region` and the lines up to the next
+  abbrev pub region_at : List Item → Item → List Item → List Region
+  region_at before i after = region_begun (i ∷ before) i.said after
+
+  -- the data before any `.region` may be written
+  abbrev pub regions_of : List Item → List Region
+  regions_of items = region_with true (filled (each bytes_at [] (up_to is_region items))) ++ each region_at [] items
+
+-- ---- the image
 
 abbrev pub services_said : Said → List Services
 services_said (Ok (statements.Directive (directives.Services x))) = x ∷ []
@@ -107,14 +126,18 @@ services i = services_said i.said
 abbrev pub stacks : Item → List ℕ
 stacks i = stack_said i.said
 
--- Without their lines, no services and one page of stack. The data are one region that may be written, or none where there are no bytes.
+-- the version that has regions, where a `.region` stands
+abbrev pub version_with : Bool → ℕ
+version_with regions = if regions then 2 else 1
+
+-- Without their lines, no services and one page of stack.
 unfoldable pub image_of : List Item → Parts
 image_of items =
     record {
-      version = 1;
+      version = version_with (list_any is_region items);
       services = first_or (record { 0 = 0 }) (flat_map services items);
       words = each (words_at (values_of items)) [] items;
-      regions = regions_of (filled (each (bytes_at (values_of items)) [] items));
+      regions = regions_of (values_of items) items;
       stack_pages = first_or 1 (flat_map stacks items);
       functions = each function_at [] items;
     }

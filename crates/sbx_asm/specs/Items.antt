@@ -1,5 +1,5 @@
 -- The lines of a source as items: the labels of each, and the statement or the directive behind them.
-use Rattle.std.specs.Prelude.{ℕ, zero, suc, ◌+◌, ◌*◌, Bool, true, false, not, ◌||◌, ◌&&◌, if◌then◌else◌, List, [], ◌∷◌, ◌++◌, drop, map, Option, Some, None, Result, Ok, Err}
+use Rattle.std.specs.Prelude.{ℕ, zero, suc, ◌+◌, ◌*◌, Bool, true, false, not, ◌||◌, ◌&&◌, nat_lt, if◌then◌else◌, List, [], ◌∷◌, ◌++◌, drop, map, Option, Some, None, Result, Ok, Err}
 use Rattle.std.specs.List.{list_any}
 use Rattle.sbx_text.specs.declared.Token.{Token}
 use Rattle.sbx_text.specs.declared.fault.TextFault.{TextFault}
@@ -111,6 +111,40 @@ is_block i = divides i.said
 -- a block ends where another one or a function begins
 abbrev pub ends_block : Item → Bool
 ends_block i = ends i.said || divides i.said
+
+abbrev pub chooses_data : Said → Bool
+chooses_data (Ok (statements.Directive directives.Data)) = true
+chooses_data _ = false
+
+-- a `.data`
+abbrev pub is_data : Item → Bool
+is_data i = chooses_data i.said
+
+abbrev pub starts_region : Said → Bool
+starts_region (Ok (statements.Directive (directives.Region writable))) = true
+starts_region _ = false
+
+-- a `.region`
+abbrev pub is_region : Item → Bool
+is_region i = starts_region i.said
+
+abbrev pub leaves : Said → Bool
+leaves (Ok (statements.Directive directives.Text)) = true
+leaves (Ok (statements.Directive (directives.Region writable))) = true
+leaves _ = false
+
+-- a region is the section up to a `.text` or another `.region`
+abbrev pub leaves_region : Item → Bool
+leaves_region i = leaves i.said
+
+abbrev pub gives_bytes : Said → Bool
+gives_bytes (Ok (statements.Directive (directives.Values w n))) = true
+gives_bytes (Ok (statements.Directive (directives.Skip n))) = nat_lt 0 n
+gives_bytes _ = false
+
+-- a list of values, or zeros; at the start of a region `.align` gives none
+abbrev pub has_bytes : Item → Bool
+has_bytes i = gives_bytes i.said
 
 -- whether a function is open behind an item, by whether one was before it
 abbrev pub leaves_open : Said → Bool → Bool

@@ -6,14 +6,13 @@ use Rattle.sbx_image.specs.Parts.{Parts}
 use Rattle.sbx_image.specs.Spelling.{IsTyped}
 use Rattle.sbx_directives.specs.declared.directive.Statement.TheVariants as statements
 use Rattle.sbx_asm.specs.declared.fault.AsmFault.{AsmFault}
-use Rattle.sbx_asm.specs.declared.fault.Cause.TheVariants as causes
 use Rattle.sbx_asm.specs.Faults.{at, is_earlier}
 use Rattle.sbx_asm.specs.Lines.{lines_of}
 use Rattle.sbx_asm.specs.Items.{Item, item_of, items_of, each, behind}
 use Rattle.sbx_asm.specs.Addresses.{Label, all_labels, worth_in, values_of}
 use Rattle.sbx_asm.specs.Rules.{duplicates, faults_of, least_of}
 use Rattle.sbx_asm.specs.Images.{words_at, image_of}
-use Rattle.sbx_asm.specs.Meaning.{source_image}
+use Rattle.sbx_asm.specs.Meaning.{source_image, whole_cause}
 
 -- each of its numbers is one that its field can hold, and its regions have bytes
 abbrev pub MeantImagesFitTheirFields : Type 0
@@ -69,4 +68,4 @@ IsLeastOf f faults = ((front : List AsmFault) × (rest : List AsmFault) × (faul
 -- What is told is a least fault of the lines; else they have none, and it is told of the whole at the line after the last.
 abbrev pub TheLeastFaultIsTold : Type 0
 TheLeastFaultIsTold = (source : List ℕ) (f : AsmFault) → source_image source ≡ Err f
-    → IsLeastOf f (faults_of (items_of source)) ⊎ ((faults_of (items_of source) ≡ []) × (f ≡ at (length (items_of source) + 1) causes.Directive))
+    → IsLeastOf f (faults_of (items_of source)) ⊎ ((faults_of (items_of source) ≡ []) × (f ≡ at (length (items_of source) + 1) (whole_cause (image_of (items_of source)))))

@@ -23,7 +23,7 @@ use Rattle.sbx_asm.specs.declared.fault.AsmFault.{AsmFault}
 use Rattle.sbx_asm.specs.declared.fault.Cause.{Cause}
 use Rattle.sbx_asm.specs.declared.fault.Cause.TheVariants as causes
 use Rattle.sbx_asm.specs.Faults.{at, told}
-use Rattle.sbx_asm.specs.Items.{Item, Said, each, up_to, count, starts_function, ends_function, is_block, ends_block, in_function, begins_block, block_count, params, results, cells, terms}
+use Rattle.sbx_asm.specs.Items.{Item, Said, each, up_to, count, starts_function, ends_function, is_data, is_region, leaves_region, has_bytes, is_block, ends_block, in_function, begins_block, block_count, params, results, cells, terms}
 use Rattle.sbx_asm.specs.Addresses.{Label, code_offset, data_offset, data_length, code_address, fits_behind, section_after, all_labels, values_of}
 
 abbrev pub Values : Type 0
@@ -106,6 +106,17 @@ is_services i = serves i.said
 abbrev pub is_stack : Item → Bool
 is_stack i = stacks i.said
 
+-- a source has `.data` or regions, and at most 8 of these
+abbrev pub data_section_rules : List Item → List Cause
+data_section_rules before = when (list_any is_region before) causes.Directive
+
+abbrev pub another_region : List Item → List Cause
+another_region before = when (list_any is_data before) causes.Directive ++ when (nat_le 8 (count is_region before)) causes.Limit
+
+-- a region without bytes is told where it begins
+abbrev pub empty_region : Item → List Item → List AsmFault
+empty_region i after = map (at i.number) (when (is_region i && not (list_any has_bytes (up_to leaves_region after))) causes.Directive)
+
 -- a malformed list of values, or one that doesn't fit; an unknown symbol
 abbrev pub value_rules : Result (List ℕ) DataFault → List Cause
 value_rules (Ok bytes) = []
@@ -163,7 +174,8 @@ module _ (values : Values) where
 
   abbrev pub directive_rules : List Item → Item → Directive → List Cause
   directive_rules before i directives.Text = []
-  directive_rules before i directives.Data = []
+  directive_rules before i directives.Data = data_section_rules before
+  directive_rules before i (directives.Region writable) = another_region before
   directive_rules before i (directives.Services x) = when (list_any is_services before) causes.Directive
   directive_rules before i (directives.Stack n) = when (list_any is_stack before) causes.Directive
   directive_rules before i (directives.Function name kind frame room budget) = another_function before
@@ -199,7 +211,7 @@ module _ (values : Values) where
   empty_block before i after = map (at i.number) (when (begins_block before i && not (list_any acts (up_to ends_block after))) causes.Directive)
 
   abbrev pub faults_at : List Item → Item → List Item → List AsmFault
-  faults_at before i after = own_faults before i ++ empty_block before i after
+  faults_at before i after = (own_faults before i ++ empty_region i after) ++ empty_block before i after
 
 -- the faults of all lines
 abbrev pub faults_of : List Item → List AsmFault

@@ -3,7 +3,7 @@ ghost use Rattle.std.specs.Prelude.{◌≡◌, ◌+◌, ◌≤◌, IfOk, length,
 ghost use Rattle.std.specs.List.{fold};
 ghost use Rattle.sbx_asm.specs.Lines.{lines_of};
 ghost use Rattle.sbx_asm.specs.Stages.Labels.{worth, labels_of};
-ghost use Rattle.sbx_asm.specs.Stages.Drafts.{empty_draft, draft_line, close_function};
+ghost use Rattle.sbx_asm.specs.Stages.Drafts.{empty_draft, draft_line, closed};
 ghost use Rattle.sbx_asm.specs.Items.{all_lines};
 ghost use Rattle.sbx_asm.specs.Stages.Whole.{labels_in, draft_in, image_in, image_made};
 ghost use Rattle.sbx_asm.specs.Meaning.{source_image, Gives};
@@ -56,15 +56,16 @@ fn draft_lines(
     Ok((draft, number))
 }
 
-/// The draft of a source with its last function ended, and the number of its lines.
+/// The draft of a source with its last region and its last function ended, and the number of its lines.
 #[tactic(auto, unfolding(crate::specs::Stages::Whole::draft_in))]
 fn draft_of(alloc: Global, source: &[u8]) -> Result<(Draft, usize), AllocError>
-    ensures draft { IfOk result (λ made. made.0 ≡ close_function (draft_in (labels_in source.now) source.now)) }
+    ensures draft { IfOk result (λ made. made.0 ≡ closed (draft_in (labels_in source.now) source.now)) }
     ensures count { IfOk result (λ made. made.1 ≡ length (lines_of source.now)) }
     ensures few { IfOk result (λ made. made.1 ≤ length source.now) }
 {
     let survey = survey_lines(alloc, source)?;
     let (mut draft, count) = draft_lines(alloc, &survey.table, survey.fault, source)?;
+    draft.close_region(alloc)?;
     draft.close_function(alloc)?;
     Ok((draft, count))
 }
@@ -75,7 +76,7 @@ fn image_made(alloc: Global, source: &[u8]) -> Result<Image, AsmFault>
     ensures { Gives result (image_made source.now) }
 {
     match draft_of(alloc, source) {
-        Ok((draft, count)) => finish(alloc, count + 1, draft),
+        Ok((draft, count)) => finish(count + 1, draft),
         Err(error) => Err(AsmFault::from(error)),
     }
 }

@@ -1,11 +1,12 @@
 //! The image that the lines so far make.
 ghost use Rattle.std.specs.Prelude.{◌≡◌, ◌*◌, IfOk};
-ghost use Rattle.sbx_asm.specs.Stages.Drafts.{empty_draft, noted_at, noted, noted_where, close_block, close_function, open_block, begin_function, begin_block, malformed, add_param, add_result, add_cell, add_term, add_fuel, add_services, add_stack};
+ghost use Rattle.sbx_asm.specs.Stages.Drafts.{empty_draft, noted_at, noted, noted_where, leave_region, close_region, choose_data, begin_region, with_bytes, close_block, close_function, open_block, begin_function, begin_block, malformed, add_param, add_result, add_cell, add_term, add_fuel, add_services, add_stack};
 
 use crate::fault::{AsmFault, Cause, told};
 use crate::growing::Growing;
 use crate::opening::{Head, OpenBlock, OpenFunction};
 use crate::place::Place;
+use crate::regions::{OpenRegion, REGIONS};
 use sbx_directives::Keyword;
 use sbx_image::{Cell, Function, Kind, Range, Services, Term};
 use std::alloc::{AllocError, Global};
@@ -29,7 +30,7 @@ pub struct Draft {
     pub fault: Option<AsmFault>,
     pub place: Place,
     pub words: Growing<u32>,
-    pub bytes: Growing<u8>,
+    pub region: OpenRegion,
     pub services: Option<Services>,
     pub stack: Option<u16>,
     /// The functions before the open one.
@@ -50,7 +51,7 @@ impl Draft {
             fault,
             place: Place::start(),
             words: Growing::new(alloc),
-            bytes: Growing::new(alloc),
+            region: OpenRegion::none(alloc),
             services: None,
             stack: None,
             functions: Growing::new(alloc),
@@ -79,6 +80,59 @@ impl Draft {
     {
         if test {
             self.note(cause);
+        }
+    }
+
+    /// Leaves the newest region. One without bytes is told where it begins.
+    #[tactic(auto, unfolding(crate::specs::Stages::Drafts::leave_region))]
+    pub fn leave_region(&mut self)
+        ensures { self.new ≡ leave_region self.old }
+    {
+        if !self.region.begun {
+            self.note_at(self.region.line, Cause::Directive);
+        }
+        self.region.begun = true;
+    }
+
+    /// Ends the newest region.
+    #[tactic(auto, unfolding(crate::specs::Stages::Drafts::close_region))]
+    pub fn close_region(&mut self, alloc: Global) -> Result<(), AllocError>
+        ensures { IfOk result (λ _. self.new ≡ close_region self.old) }
+    {
+        self.leave_region();
+        self.region.close(alloc)
+    }
+
+    /// The line of a `.data`, which stands in no source with regions.
+    #[tactic(auto, unfolding(crate::specs::Stages::Drafts::choose_data))]
+    pub fn choose_data(&mut self)
+        ensures { self.new ≡ choose_data self.old }
+    {
+        let mixed = self.region.has_region;
+        self.note_where(mixed, Cause::Directive);
+        self.region.has_data = true;
+    }
+
+    /// A region's line: it ends the region before it.
+    #[tactic(auto, unfolding(crate::specs::Stages::Drafts::begin_region))]
+    pub fn begin_region(&mut self, alloc: Global, writable: bool) -> Result<(), AllocError>
+        ensures { IfOk result (λ _. self.new ≡ begin_region writable self.old) }
+    {
+        self.close_region(alloc)?;
+        let mixed = self.region.has_data;
+        let many = self.region.count >= REGIONS;
+        self.note_where(mixed, Cause::Directive);
+        self.note_where(many, Cause::Limit);
+        self.region.open(self.line, writable);
+        Ok(())
+    }
+
+    /// The newest region has bytes, where there are some.
+    pub fn with_bytes(&mut self, some: bool)
+        ensures { self.new ≡ with_bytes some self.old }
+    {
+        if some {
+            self.region.begun = true;
         }
     }
 
@@ -175,6 +229,7 @@ impl Draft {
             Keyword::Block => self.begin_block(alloc)?,
             Keyword::Text
             | Keyword::Data
+            | Keyword::Region
             | Keyword::Services
             | Keyword::Stack
             | Keyword::Param

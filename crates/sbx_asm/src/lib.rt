@@ -11,6 +11,7 @@ mod lines;
 mod opening;
 mod place;
 mod reading;
+mod regions;
 mod scope;
 mod statements;
 mod survey;

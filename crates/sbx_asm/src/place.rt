@@ -1,11 +1,13 @@
 //! Places of a source: how far the code and the data have come.
-ghost use Rattle.std.specs.Prelude.{◌≡◌, ◌*◌, ◌≤◌};
+ghost use Rattle.std.specs.Prelude.{◌≡◌, ◌+◌, ◌*◌, ◌≤◌};
 ghost use Rattle.sbx_directives.specs.Data.{bytes_of_width};
-ghost use Rattle.sbx_asm.specs.Stages.Places.{start, code_end, data_end, has_room, moved_on, with_code, with_data, address, padding, directed, place_after};
+ghost use Rattle.sbx_image.specs.Regions.{pages_for};
+ghost use Rattle.sbx_asm.specs.Addresses.{last_start, padding_of, section_room, start_behind, up_to_last};
+ghost use Rattle.sbx_asm.specs.Stages.Places.{start, code_end, has_room, moved_on, with_code, with_data, address, directed, place_after};
 
 use sbx_directives::{Directive, Statement, Width, byte_len};
 use sbx_text::Token;
-use v8_map::{CODE_END, CODE_START, DATA_END, DATA_START};
+use v8_map::{CODE_END, CODE_START, DATA_START};
 use v8_syntax::length_of;
 
 /// What an ordinary line adds to.
@@ -15,12 +17,20 @@ pub enum Section {
     Data,
 }
 
-/// The current section, and the addresses of what comes next in the code and in the data.
+/// The bytes that a section has room for, as the code, the data or a region of them.
+pub const ROOM: u32 = 0x40000;
+
+/// Where a ninth region, which is too many, begins at the latest.
+const LAST_START: u32 = DATA_START + 8 * ROOM;
+
+/// The current section, the address of what comes next in the code, and how much the newest region of the data has.
 #[derive(Clone, Copy)]
 pub struct Place {
     pub section: Section,
     pub next_word: u32,
-    pub next_byte: u32,
+    /// Where the newest region begins, or the data where there are no regions.
+    pub region_start: u32,
+    pub region_bytes: u32,
 }
 
 /// Whether so many bytes fit from an address up to a limit.
@@ -47,14 +57,27 @@ pub fn bytes_of_values(width: Width, count: usize) -> u128
     byte_len(width) as u128 * count as u128
 }
 
-/// How many zeros stand up to a multiple of `unit` bytes of data.
-pub fn padding(unit: u32, address: u32) -> u32
-    ensures { result ≡ padding unit address }
+/// How many zeros stand up to a multiple of `unit` bytes, behind so many.
+pub fn padding(unit: u32, bytes: u32) -> u32
+    ensures { result ≡ padding_of unit bytes }
 {
     if unit == 0 {
         0
     } else {
-        (unit - address.saturating_sub(DATA_START) % unit) % unit
+        (unit - bytes % unit) % unit
+    }
+}
+
+/// The page behind a region's last one, where the next region begins.
+fn start_behind(start: u32, bytes: u32) -> u32
+    ensures { result ≡ start_behind start bytes }
+{
+    let pages = (u64::from(bytes) + 4095) / 4096;
+    let next = u64::from(start) + 4096 * pages;
+    if next <= u64::from(LAST_START) {
+        next as u32
+    } else {
+        LAST_START
     }
 }
 
@@ -66,7 +89,8 @@ impl Place {
         Place {
             section: Section::Code,
             next_word: CODE_START,
-            next_byte: DATA_START,
+            region_start: DATA_START,
+            region_bytes: 0,
         }
     }
 
@@ -85,7 +109,7 @@ impl Place {
         ensures { result ≡ with_data bytes self }
     {
         Place {
-            next_byte: moved_on(DATA_END, self.next_byte, bytes),
+            region_bytes: moved_on(ROOM, self.region_bytes, bytes),
             ..self
         }
     }
@@ -96,7 +120,7 @@ impl Place {
     {
         match self.section {
             Section::Code => self.next_word,
-            Section::Data => self.next_byte,
+            Section::Data => self.region_start.saturating_add(self.region_bytes),
         }
     }
 
@@ -112,9 +136,15 @@ impl Place {
                 section: Section::Data,
                 ..self
             },
+            Directive::Region { .. } => Place {
+                section: Section::Data,
+                region_start: start_behind(self.region_start, self.region_bytes),
+                region_bytes: 0,
+                ..self
+            },
             Directive::Values(width, count) => self.with_data(bytes_of_values(width, count)),
             Directive::Skip(count) => self.with_data(u128::from(count)),
-            Directive::Align(unit) => self.with_data(u128::from(padding(unit, self.next_byte))),
+            Directive::Align(unit) => self.with_data(u128::from(padding(unit, self.region_bytes))),
             Directive::Services(_)
             | Directive::Stack(_)
             | Directive::Function { .. }

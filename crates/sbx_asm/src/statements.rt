@@ -5,12 +5,12 @@ ghost use Rattle.v8_syntax.specs.Statements.{source_meaning};
 ghost use Rattle.sbx_directives.specs.Data.{data_of};
 ghost use Rattle.sbx_asm.specs.Rules.{is_code};
 ghost use Rattle.sbx_asm.specs.Stages.Labels.{worth};
-ghost use Rattle.sbx_asm.specs.Stages.Drafts.{data_checked, with_zeros, add_values, add_zeros, directive_does, instruction_checked, begun, with_words, instruction_does, statement_does, behind_labels, draft_tokens, numbered_line, draft_line};
+ghost use Rattle.sbx_asm.specs.Stages.Drafts.{data_checked, with_bytes, with_zeros, add_values, add_zeros, directive_does, instruction_checked, begun, with_words, instruction_does, statement_does, behind_labels, draft_tokens, numbered_line, draft_line};
 
 use crate::draft::Draft;
 use crate::fault::Cause;
 use crate::growing::Growing;
-use crate::place::{Section, bytes_of_values, has_room, padding};
+use crate::place::{ROOM, Section, bytes_of_values, has_room, padding};
 use crate::reading::{behind_labels, read_tokens};
 use crate::scope::Scope;
 use crate::table::Table;
@@ -18,7 +18,7 @@ use sbx_directives::{DataFault, Directive, Statement, Width, label_count, read_s
 use sbx_text::Token;
 use std::alloc::{AllocError, Global};
 use v8_formats::{Instr, encode};
-use v8_map::{CODE_END, DATA_END};
+use v8_map::CODE_END;
 use v8_syntax::{SyntaxFault, length_of, parse_instr};
 
 /// The most lines.
@@ -48,7 +48,7 @@ impl Draft {
     fn check_data(&mut self, bytes: u128)
         ensures { self.new ≡ data_checked bytes self.old }
     {
-        let room = has_room(DATA_END, self.place.next_byte, bytes);
+        let room = has_room(ROOM, self.place.region_bytes, bytes);
         let misplaced = is_code(self.place.section);
         self.note_where(misplaced, Cause::Directive);
         self.note_where(!room, Cause::Limit);
@@ -67,7 +67,7 @@ impl Draft {
     {
         self.check_data(bytes_of_values(width, count));
         let scope = Scope { table, here: 0 };
-        match self.bytes.push_values(width, &scope, line, tokens) {
+        match self.region.bytes.push_values(width, &scope, line, tokens) {
             Ok(()) => {}
             Err(DataFault::UnknownSymbol) => {
                 self.note(Cause::Syntax(SyntaxFault::UnknownSymbol));
@@ -83,10 +83,10 @@ impl Draft {
     fn add_zeros(&mut self, count: u64) -> Result<(), AllocError>
         ensures { IfOk result (λ _. self.new ≡ add_zeros count self.old) }
     {
-        let room = has_room(DATA_END, self.place.next_byte, u128::from(count));
+        let room = has_room(ROOM, self.place.region_bytes, u128::from(count));
         self.check_data(u128::from(count));
         if room {
-            self.bytes.push_copies(count as usize, 0)?;
+            self.region.bytes.push_copies(count as usize, 0)?;
         }
         Ok(())
     }
@@ -102,7 +102,9 @@ impl Draft {
         ensures { IfOk result (λ _. self.new ≡ directive_does (worth table.now) line.now tokens.now directive self.old) }
     {
         match directive {
-            Directive::Text | Directive::Data => {}
+            Directive::Text => self.leave_region(),
+            Directive::Data => self.choose_data(),
+            Directive::Region { writable } => self.begin_region(alloc, writable)?,
             Directive::Services(services) => self.add_services(services),
             Directive::Stack(pages) => self.add_stack(pages),
             Directive::Function {
@@ -118,10 +120,16 @@ impl Draft {
             Directive::Cell(cell) => self.add_cell(cell)?,
             Directive::Fuel(fuel) => self.add_fuel(fuel),
             Directive::Term(term) => self.add_term(term)?,
-            Directive::Values(width, count) => self.add_values(table, line, tokens, width, count)?,
-            Directive::Skip(count) => self.add_zeros(count)?,
+            Directive::Values(width, count) => {
+                self.add_values(table, line, tokens, width, count)?;
+                self.with_bytes(true);
+            }
+            Directive::Skip(count) => {
+                self.add_zeros(count)?;
+                self.with_bytes(count > 0);
+            }
             Directive::Align(unit) => {
-                self.add_zeros(u64::from(padding(unit, self.place.next_byte)))?;
+                self.add_zeros(u64::from(padding(unit, self.place.region_bytes)))?;
             }
         }
         Ok(())

@@ -95,6 +95,7 @@ impl<'a> Survey<'a> {
             }
             Directive::Text
             | Directive::Data
+            | Directive::Region { .. }
             | Directive::Services(_)
             | Directive::Stack(_)
             | Directive::Param(_)

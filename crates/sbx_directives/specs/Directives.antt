@@ -28,6 +28,7 @@ use Rattle.sbx_directives.specs.Operands.{◌>>=◌, operands_of, integer_in, na
 abbrev pub name_of : Keyword → List ℕ
 name_of keywords.Text = codes ".text"
 name_of keywords.Data = codes ".data"
+name_of keywords.Region = codes ".region"
 name_of keywords.Services = codes ".services"
 name_of keywords.Stack = codes ".stack"
 name_of keywords.Function = codes ".function"
@@ -46,7 +47,7 @@ name_of keywords.Align = codes ".align"
 -- all of them
 unfoldable pub all_keywords : List Keyword
 all_keywords =
-    keywords.Text ∷ keywords.Data ∷ keywords.Services ∷ keywords.Stack
+    keywords.Text ∷ keywords.Data ∷ keywords.Region ∷ keywords.Services ∷ keywords.Stack
     ∷ keywords.Function ∷ keywords.Param ∷ keywords.Result ∷ keywords.Block
     ∷ keywords.Cell ∷ keywords.Fuel ∷ keywords.Term
     ∷ keywords.Word ∷ keywords.Half ∷ keywords.Byte ∷ keywords.Skip ∷ keywords.Align ∷ []
@@ -62,6 +63,13 @@ abbrev pub kind_named : List ℕ → Option Frames
 kind_named name =
     if bytes_eq name (codes "leaf") then Some Leaf
     else (if bytes_eq name (codes "framed") then Some Framed
+    else None)
+
+-- `ro` or `rw`: whether the program may write
+abbrev pub right_named : List ℕ → Option Bool
+right_named name =
+    if bytes_eq name (codes "ro") then Some false
+    else (if bytes_eq name (codes "rw") then Some true
     else None)
 
 abbrev pub is_called : List ℕ → List ℕ → Option Name → Bool
@@ -149,6 +157,13 @@ ranged os = three os >>= λ x. range_of x.0 x.1 x.2
 abbrev pub is_alignment : ℕ → Bool
 is_alignment n = n == 2 || (n == 4 || n == 8)
 
+-- `ro` or `rw`
+abbrev pub region_of : List ℕ → List Operand → Option Directive
+region_of line os =
+    one os >>= plain_name >>= λ x.
+    right_named (text_of line x) >>= λ writable.
+    Some (directives.Region writable)
+
 -- no operand
 abbrev pub plainly : Directive → List Operand → Option Directive
 plainly d os = none os >>= λ _. Some d
@@ -169,6 +184,7 @@ alignment_of os = numbered 2 8 os >>= λ n. if is_alignment n then Some (directi
 unfoldable pub directive_of : List ℕ → Keyword → List Operand → Option Directive
 directive_of line keywords.Text os = plainly directives.Text os
 directive_of line keywords.Data os = plainly directives.Data os
+directive_of line keywords.Region os = region_of line os
 directive_of line keywords.Services os = services_of line os >>= λ s. Some (directives.Services s)
 directive_of line keywords.Stack os = numbered 1 16 os >>= λ n. Some (directives.Stack n)
 directive_of line keywords.Function os = function_of line os

@@ -21,6 +21,7 @@ pub enum Width {
 pub enum Keyword {
     Text,
     Data,
+    Region,
     Services,
     Stack,
     Function,
@@ -44,6 +45,11 @@ pub enum Directive {
     Text,
     /// What follows goes to the data.
     Data,
+    /// What follows goes to a new region of the data.
+    Region {
+        /// Whether the program may write it, and not read it alone.
+        writable: bool,
+    },
     /// The set of services that are named.
     Services(Services),
     /// Pages of stack, 1 to 16.

@@ -13,6 +13,7 @@ fn name_of(keyword: Keyword) -> &'static str
     match keyword {
         Keyword::Text => ".text",
         Keyword::Data => ".data",
+        Keyword::Region => ".region",
         Keyword::Services => ".services",
         Keyword::Stack => ".stack",
         Keyword::Function => ".function",
@@ -30,9 +31,10 @@ fn name_of(keyword: Keyword) -> &'static str
     }
 }
 
-static KEYWORDS: [Keyword; 16] = [
+static KEYWORDS: [Keyword; 17] = [
     Keyword::Text,
     Keyword::Data,
+    Keyword::Region,
     Keyword::Services,
     Keyword::Stack,
     Keyword::Function,

@@ -2,7 +2,7 @@
 ghost use Rattle.std.specs.Prelude.{◌≡◌, ◌≤◌, IfSome};
 ghost use Rattle.std.specs.List.{list_any, list_all};
 ghost use Rattle.sbx_directives.specs.Operands.{behind};
-ghost use Rattle.sbx_directives.specs.Directives.{kind_named, names, bit_if, named_services, is_service_name, is_service, services_of, frames_of, is_expression, value_count, function_of, cell_of, term_of, ranged, plainly, numbered, fuel_of, alignment_of, directive_of, called, told, statement_of};
+ghost use Rattle.sbx_directives.specs.Directives.{kind_named, names, bit_if, named_services, is_service_name, is_service, services_of, frames_of, right_named, region_of, is_expression, value_count, function_of, cell_of, term_of, ranged, plainly, numbered, fuel_of, alignment_of, directive_of, called, told, statement_of};
 
 use crate::directive::{Directive, Keyword, Name, Statement, Width};
 use crate::keyword::keyword_named;
@@ -30,6 +30,19 @@ fn frames_of(line: &[u8], operand: Operand) -> Option<Frames>
 {
     let name = plain_name(operand)?;
     kind_named(text_of(line, name))
+}
+
+/// Whether the program may write what `ro` or `rw` names.
+fn right_named(name: &[u8]) -> Option<bool>
+    ensures { result ≡ right_named name.now }
+{
+    if is_same(name, b"ro") {
+        Some(false)
+    } else if is_same(name, b"rw") {
+        Some(true)
+    } else {
+        None
+    }
 }
 
 /// Whether an operand is the name that is wanted.
@@ -198,6 +211,14 @@ fn ranged(line: &[u8], tokens: &[Token]) -> Option<Range>
     range_of(low, high, alignment)
 }
 
+fn region_of(line: &[u8], tokens: &[Token]) -> Option<Directive>
+    ensures { result ≡ region_of line.now (behind line.now tokens.now) }
+{
+    let name = plain_name(one(line, tokens)?)?;
+    let writable = right_named(text_of(line, name))?;
+    Some(Directive::Region { writable })
+}
+
 fn plainly(directive: Directive, line: &[u8], tokens: &[Token]) -> Option<Directive>
     ensures { result ≡ plainly directive (behind line.now tokens.now) }
 {
@@ -237,6 +258,7 @@ fn directive_of(line: &[u8], keyword: Keyword, tokens: &[Token]) -> Option<Direc
     match keyword {
         Keyword::Text => plainly(Directive::Text, line, tokens),
         Keyword::Data => plainly(Directive::Data, line, tokens),
+        Keyword::Region => region_of(line, tokens),
         Keyword::Services => Some(Directive::Services(services_of(line, tokens)?)),
         Keyword::Stack => Some(Directive::Stack(numbered(1, 16, line, tokens)? as u16)),
         Keyword::Function => function_of(line, tokens),

@@ -18,6 +18,10 @@ fn push_number(text: &mut String, keyword: &str, number: u64) -> Result<(), Allo
     write!(text, "{keyword} {number}")
 }
 
+fn push_flag(text: &mut String, keyword: &str, flag: bool) -> Result<(), AllocError> {
+    write!(text, "{keyword} {flag}")
+}
+
 fn push_fuel(text: &mut String, fuel: i64) -> Result<(), AllocError> {
     write!(text, "fuel {fuel}")
 }
@@ -66,6 +70,7 @@ fn push_directive(text: &mut String, directive: &Directive) -> Result<(), AllocE
     match directive {
         Directive::Text => text.push_str("text"),
         Directive::Data => text.push_str("data"),
+        Directive::Region { writable } => push_flag(text, "region", *writable),
         Directive::Services(services) => push_number(text, "services", u64::from(services.0)),
         Directive::Stack(pages) => push_number(text, "stack", u64::from(*pages)),
         Directive::Function {
@@ -112,7 +117,7 @@ fn is_read<R: Abort>(rt: &R, alloc: Global, line: &str, wanted: &str) -> Result<
     Ok(())
 }
 
-static STATEMENTS: [(&str, &str); 24] = [
+static STATEMENTS: [(&str, &str); 26] = [
     ("", "0 nothing"),
     ("a: .text : ! b:", "2 nothing"),
     ("a: nop", "1 instruction"),
@@ -122,6 +127,8 @@ static STATEMENTS: [(&str, &str); 24] = [
     ("5:", "0 instruction"),
     ("x: .text", "1 text"),
     (".data", "0 data"),
+    (".region ro", "0 region false"),
+    ("x: .region rw", "1 region true"),
     (".services exit,exit", "0 services 1"),
     (".services put , get", "0 services 6"),
     (".stack 16", "0 stack 16"),
@@ -154,9 +161,15 @@ fn statements(rt: HostRuntime) -> Result<(), Fail> {
 }
 
 /// Operands of another shape, and numbers past their bounds.
-static MALFORMED: [&str; 44] = [
+static MALFORMED: [&str; 50] = [
     ".text 5",
     ".data x",
+    ".region",
+    ".region wr",
+    ".region ro,rw",
+    ".region ro rw",
+    ".region 1",
+    ".region ro+1",
     ".services",
     ".services exit,",
     ".services stop",

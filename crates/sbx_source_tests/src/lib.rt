@@ -15,6 +15,8 @@ mod lines;
 #[cfg(test)]
 mod names;
 #[cfg(test)]
+mod regions;
+#[cfg(test)]
 mod rereading;
 #[cfg(test)]
 mod sources;

@@ -24,7 +24,7 @@ type Row = (
 /// A line of some forty bytes but for its number.
 const WORD: &str = " nop ! one of many words, all alike: ";
 
-static LIMITS: [Row; 7] = [
+static LIMITS: [Row; 9] = [
     (HEAD, WORD, "", 65536, "line 65538: A3"),
     ("", ".function f", ",leaf,0,0,1\n nop", 257, "line 513: A3"),
     (ONE_WORD, ".block b", "\n nop", 4096, "line 8193: A3"),
@@ -32,6 +32,20 @@ static LIMITS: [Row; 7] = [
     (HEAD, ".term slot ", ",1", 9, "line 10: A3"),
     (HEAD, ".param 0,", ",0", 7, "line 8: A3"),
     (HEAD, ".result 0,", ",0", 7, "line 8: A3"),
+    (
+        ONE_WORD,
+        ".region ro\n.skip 32768 ! ",
+        "\n.text",
+        9,
+        "line 27: A3",
+    ),
+    (
+        ONE_WORD,
+        ".region rw\n.skip 40960 ! ",
+        "\n.text",
+        7,
+        "line 25: A3",
+    ),
 ];
 
 /// A source of a first line, some lines that end by their number, and an instruction.

@@ -77,7 +77,7 @@ fn image_text(alloc: Global, image: &Image) -> Result<String, AllocError> {
 }
 
 /// The bytes of a source's image in hexadecimal, or its fault.
-fn written(alloc: Global, source: &str) -> Result<String, AllocError> {
+pub(crate) fn written(alloc: Global, source: &str) -> Result<String, AllocError> {
     match assemble(alloc, source.as_bytes()) {
         Ok(image) => image_text(alloc, &image),
         Err(fault) => fault_text(alloc, &fault),
@@ -367,7 +367,12 @@ static INSIDE: [(&str, &str); 55] = [
     ),
 ];
 
-fn gives_inside<R: Abort>(rt: &R, alloc: Global, row: &(&str, &str)) -> Result<(), AllocError> {
+/// The same behind the line of a function.
+pub(crate) fn gives_inside<R: Abort>(
+    rt: &R,
+    alloc: Global,
+    row: &(&str, &str),
+) -> Result<(), AllocError> {
     let (source, wanted) = *row;
     let whole = format!(in alloc; ".function f,leaf,0,0,1\n{source}")?;
     gives(rt, alloc, whole.as_bytes(), wanted)

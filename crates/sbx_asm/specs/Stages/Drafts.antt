@@ -1,5 +1,5 @@
 -- The image of a source: the fold over the lines, with the addresses of all labels known.
-use Rattle.std.specs.Prelude.{ℕ, ◌+◌, ◌*◌, ◌==◌, Bool, true, false, not, ◌&&◌, nat_lt, nat_le, if◌then◌else◌, ℤ, pos, List, [], ◌∷◌, ◌++◌, length, map, drop, replicate, Option, Some, None, Result, Ok, Err}
+use Rattle.std.specs.Prelude.{ℕ, ◌+◌, ◌*◌, ◌==◌, Bool, true, false, not, ◌&&◌, ◌||◌, nat_lt, nat_le, if◌then◌else◌, ℤ, pos, List, [], ◌∷◌, ◌++◌, length, map, drop, replicate, Option, Some, None, Result, Ok, Err}
 use Rattle.std.specs.Option.{is_some, unwrap_or}
 use Rattle.std.specs.List.{fold}
 use Rattle.sbx_text.specs.declared.Token.{Token}
@@ -35,9 +35,12 @@ use Rattle.sbx_asm.specs.declared.fault.Cause.TheVariants as causes
 use Rattle.sbx_asm.specs.declared.opening.Head.{Head}
 use Rattle.sbx_asm.specs.declared.opening.OpenBlock.{OpenBlock}
 use Rattle.sbx_asm.specs.declared.opening.OpenFunction.{OpenFunction}
+use Rattle.sbx_asm.specs.declared.regions.OpenRegion.{OpenRegion}
 use Rattle.sbx_asm.specs.declared.draft.Draft.{Draft}
 use Rattle.sbx_asm.specs.Faults.{told, at}
-use Rattle.sbx_asm.specs.Stages.Places.{start, code_end, data_end, has_room, with_code, padding, place_after}
+use Rattle.sbx_asm.specs.Addresses.{padding_of, section_room}
+use Rattle.sbx_asm.specs.Images.{filled, region_with}
+use Rattle.sbx_asm.specs.Stages.Places.{start, code_end, has_room, with_code, place_after}
 use Rattle.sbx_asm.specs.Rules.{Values, when, is_code}
 
 -- ---- faults
@@ -123,6 +126,7 @@ malformed keywords.Function d = noted causes.Directive (close_function d)
 malformed keywords.Block d = noted causes.Directive (begin_block d)
 malformed keywords.Text d = noted causes.Directive d
 malformed keywords.Data d = noted causes.Directive d
+malformed keywords.Region d = noted causes.Directive d
 malformed keywords.Services d = noted causes.Directive d
 malformed keywords.Stack d = noted causes.Directive d
 malformed keywords.Param d = noted causes.Directive d
@@ -211,26 +215,65 @@ add_stack n d = stack_by d.stack n d
 abbrev pub begun : Draft → Draft
 begun d = record d { block = record d.block { begun = true } }
 
+-- ---- data and their regions
+
+abbrev pub no_region : OpenRegion
+no_region = record { line = 0; begun = true; writable = true; bytes = []; regions = []; count = 0; has_data = false; has_region = false }
+
+-- its bytes are a region
+abbrev pub region_closed : OpenRegion → OpenRegion
+region_closed r = record r { regions = r.regions ++ region_with r.writable (filled r.bytes); bytes = [] }
+
+-- at most 8 regions
+abbrev pub region_opened : ℕ → Bool → OpenRegion → OpenRegion
+region_opened line writable r = record r { line = line; begun = false; writable = writable; count = if nat_lt r.count 8 then r.count + 1 else r.count; has_region = true }
+
+-- a region without bytes is told where it begins
+unfoldable pub leave_region : Draft → Draft
+leave_region d = record d { fault = fold told d.fault (map (at d.region.line) (when (not d.region.begun) causes.Directive)); region = record d.region { begun = true } }
+
+unfoldable pub close_region : Draft → Draft
+close_region d =
+    let e : Draft = leave_region d in
+    record e { region = region_closed e.region }
+
+-- a `.data` beside regions
+unfoldable pub choose_data : Draft → Draft
+choose_data d =
+    let e : Draft = noted_where d.region.has_region causes.Directive d in
+    record e { region = record e.region { has_data = true } }
+
+-- a region ends the one before it
+unfoldable pub begin_region : Bool → Draft → Draft
+begin_region writable d =
+    let e : Draft = close_region d in
+    let f : Draft = noted_where (nat_le 8 e.region.count) causes.Limit (noted_where e.region.has_data causes.Directive e) in
+    record f { region = region_opened f.line writable f.region }
+
+-- bytes stand in the region
+abbrev pub with_bytes : Bool → Draft → Draft
+with_bytes some d = record d { region = record d.region { begun = some || d.region.begun } }
+
 -- data stand in the data section, within its limit
 abbrev pub data_checked : ℕ → Draft → Draft
-data_checked n d = noted_where (not (has_room data_end d.place.next_byte n)) causes.Limit (noted_where (is_code d.place.section) causes.Directive d)
+data_checked n d = noted_where (not (has_room section_room d.place.region_bytes n)) causes.Limit (noted_where (is_code d.place.section) causes.Directive d)
 
 -- a line with a fault of its syntax counts as an instruction
 abbrev pub with_data : Result (List ℕ) DataFault → Draft → Draft
-with_data (Ok bytes) d = record d { bytes = d.bytes ++ bytes }
+with_data (Ok bytes) d = record d { region = record d.region { bytes = d.region.bytes ++ bytes } }
 with_data (Err data_faults.UnknownSymbol) d = begun (noted (causes.Syntax UnknownSymbol) d)
 with_data (Err data_faults.Malformed) d = noted causes.Directive d
 with_data (Err (data_faults.Memory want)) d = d
 
 abbrev pub with_zeros : Bool → ℕ → Draft → Draft
-with_zeros true n d = record d { bytes = d.bytes ++ replicate n 0 }
+with_zeros true n d = record d { region = record d.region { bytes = d.region.bytes ++ replicate n 0 } }
 with_zeros false n d = d
 
 unfoldable pub add_values : Width → ℕ → Result (List ℕ) DataFault → Draft → Draft
 add_values width n bytes d = with_data bytes (data_checked (bytes_of_width width * n) d)
 
 unfoldable pub add_zeros : ℕ → Draft → Draft
-add_zeros n d = with_zeros (has_room data_end d.place.next_byte n) n (data_checked n d)
+add_zeros n d = with_zeros (has_room section_room d.place.region_bytes n) n (data_checked n d)
 
 -- an instruction stands in the code, in a function, within the limit
 abbrev pub instruction_checked : List ℕ → List Token → Draft → Draft
@@ -245,8 +288,9 @@ with_words (Err f) d = noted (causes.Syntax f) d
 -- the labels' values, the line and its tokens behind the labels
 module _ (values : Values) (line : List ℕ) (ts : List Token) where
   abbrev pub directive_does : Directive → Draft → Draft
-  directive_does directives.Text d = d
-  directive_does directives.Data d = d
+  directive_does directives.Text d = leave_region d
+  directive_does directives.Data d = choose_data d
+  directive_does (directives.Region writable) d = begin_region writable d
   directive_does (directives.Services x) d = add_services x d
   directive_does (directives.Stack n) d = add_stack n d
   directive_does (directives.Function name kind frame room budget) d = begin_function kind frame room budget d
@@ -256,9 +300,9 @@ module _ (values : Values) (line : List ℕ) (ts : List Token) where
   directive_does (directives.Cell c) d = add_cell c d
   directive_does (directives.Fuel z) d = add_fuel z d
   directive_does (directives.Term t) d = add_term t d
-  directive_does (directives.Values w n) d = add_values w n (data_of values line w ts) d
-  directive_does (directives.Skip n) d = add_zeros n d
-  directive_does (directives.Align n) d = add_zeros (padding n d.place.next_byte) d
+  directive_does (directives.Values w n) d = with_bytes true (add_values w n (data_of values line w ts) d)
+  directive_does (directives.Skip n) d = with_bytes (nat_lt 0 n) (add_zeros n d)
+  directive_does (directives.Align n) d = add_zeros (padding_of n d.place.region_bytes) d
 
   unfoldable pub instruction_does : Draft → Draft
   instruction_does d = begun (with_words (source_meaning values d.place.next_word line ts) (instruction_checked line ts d))
@@ -287,4 +331,8 @@ draft_line values d x = draft_tokens values x.1 (numbered_line x.0 d) (tokens_of
 -- before the first line, with the fault that is told already
 abbrev pub empty_draft : Option AsmFault → Draft
 empty_draft fault =
-    record { line = 0; fault = fault; place = start; words = []; bytes = []; services = None; stack = None; functions = []; block_count = 0; function = no_function; block = no_block }
+    record { line = 0; fault = fault; place = start; words = []; region = no_region; services = None; stack = None; functions = []; block_count = 0; function = no_function; block = no_block }
+
+-- the function and the region that are open end
+abbrev pub closed : Draft → Draft
+closed d = close_function (close_region d)

@@ -61,6 +61,7 @@ add_here number s name = add number name (address s.place) s
 abbrev pub name_it : ℕ → List ℕ → Directive → Labels → Labels
 name_it number line directives.Text s = s
 name_it number line directives.Data s = s
+name_it number line (directives.Region writable) s = s
 name_it number line (directives.Services x) s = s
 name_it number line (directives.Stack n) s = s
 name_it number line (directives.Function name kind frame room budget) s = add number (text_of line name) s.place.next_word s

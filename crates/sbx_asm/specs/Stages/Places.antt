@@ -1,6 +1,6 @@
 -- Places of a source: how far the code and the data have come.
-use Rattle.std.specs.Prelude.{ℕ, ◌+◌, ◌-◌, ◌*◌, ◌%◌, Bool, nat_le, if◌then◌else◌, ◌==◌, List}
-use Rattle.v8_map.specs.declared.TheConstants.{CODE_START, CODE_END, DATA_START, DATA_END}
+use Rattle.std.specs.Prelude.{ℕ, ◌+◌, ◌-◌, ◌*◌, Bool, nat_le, min, if◌then◌else◌, List}
+use Rattle.v8_map.specs.declared.TheConstants.{CODE_START, CODE_END, DATA_START}
 use Rattle.sbx_text.specs.declared.Token.{Token}
 use Rattle.v8_syntax.specs.Statements.{statement_length}
 use Rattle.sbx_directives.specs.declared.directive.Directive.{Directive}
@@ -11,16 +11,14 @@ use Rattle.sbx_directives.specs.Data.{bytes_of_width}
 use Rattle.sbx_asm.specs.declared.place.Section.{Section}
 use Rattle.sbx_asm.specs.declared.place.Section.TheVariants.{Code, Data}
 use Rattle.sbx_asm.specs.declared.place.Place.{Place}
+use Rattle.sbx_asm.specs.Addresses.{padding_of, section_room, start_behind}
 
--- code and data begin and end where the address map has them
+-- the code begins and ends where the address map has it, and the data begin there
 abbrev pub start : Place
-start = record { section = Code; next_word = CODE_START; next_byte = DATA_START }
+start = record { section = Code; next_word = CODE_START; region_start = DATA_START; region_bytes = 0 }
 
 abbrev pub code_end : ℕ
 code_end = CODE_END
-
-abbrev pub data_end : ℕ
-data_end = DATA_END
 
 abbrev pub has_room : ℕ → ℕ → ℕ → Bool
 has_room limit address n = nat_le n (limit - address)
@@ -33,23 +31,20 @@ abbrev pub with_code : ℕ → Place → Place
 with_code n p = record p { next_word = moved_on code_end p.next_word n }
 
 abbrev pub with_data : ℕ → Place → Place
-with_data n p = record p { next_byte = moved_on data_end p.next_byte n }
+with_data n p = record p { region_bytes = moved_on section_room p.region_bytes n }
 
 abbrev pub address_in : Section → Place → ℕ
 address_in Code p = p.next_word
-address_in Data p = p.next_byte
+address_in Data p = min (p.region_start + p.region_bytes) 4294967295
 
 -- the address of what comes next in the current section
 abbrev pub address : Place → ℕ
 address p = address_in p.section p
 
--- zeros up to a multiple of n, from the start of the data
-abbrev pub padding : ℕ → ℕ → ℕ
-padding n address = if n == 0 then 0 else (n - (address - DATA_START) % n) % n
-
 abbrev pub directed : Directive → Place → Place
 directed directives.Text p = record p { section = Code }
 directed directives.Data p = record p { section = Data }
+directed (directives.Region writable) p = record p { section = Data; region_start = start_behind p.region_start p.region_bytes; region_bytes = 0 }
 directed (directives.Services x) p = p
 directed (directives.Stack n) p = p
 directed (directives.Function name kind frame room budget) p = p
@@ -61,7 +56,7 @@ directed (directives.Fuel z) p = p
 directed (directives.Term t) p = p
 directed (directives.Values w n) p = with_data (bytes_of_width w * n) p
 directed (directives.Skip n) p = with_data n p
-directed (directives.Align n) p = with_data (padding n p.next_byte) p
+directed (directives.Align n) p = with_data (padding_of n p.region_bytes) p
 
 -- instructions go to the code and values to the data, whatever section is current
 unfoldable pub place_after : List ℕ → List Token → Statement → Place → Place
