@@ -1,4 +1,4 @@
-//! Verdicts and runs of images, against rows that were worked out by hand.
+//! Verdicts and runs of images, also over readers and writers that end, fail, and take nothing, against rows that were worked out by hand.
 #![tactic(auto)]
 
 #[cfg(test)]
@@ -8,9 +8,15 @@ mod bits;
 #[cfg(test)]
 mod boards;
 #[cfg(test)]
+mod ports;
+#[cfg(test)]
 mod runs;
 #[cfg(test)]
 mod sources;
+#[cfg(test)]
+mod streaming;
+#[cfg(test)]
+mod streams;
 #[cfg(test)]
 mod verdicts;
 #[cfg(test)]

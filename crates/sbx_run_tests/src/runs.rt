@@ -272,7 +272,7 @@ impl Row<'_> {
 }
 
 /// The image, if it is accepted.
-fn accepted_of(alloc: Global, image: Image) -> Option<Accepted> {
+pub(crate) fn accepted_of(alloc: Global, image: Image) -> Option<Accepted> {
     match verify(alloc, image) {
         Ok(accepted) => Some(accepted),
         Err(_refused) => None,

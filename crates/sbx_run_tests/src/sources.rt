@@ -66,7 +66,8 @@ impl Source {
     }
 }
 
-fn assembled(alloc: Global, text: &[u8]) -> Option<Image> {
+/// The image of a text, if it means one.
+pub(crate) fn assembled(alloc: Global, text: &[u8]) -> Option<Image> {
     match assemble(alloc, text) {
         Ok(image) => Some(image),
         Err(_fault) => None,
@@ -138,6 +139,36 @@ pub(crate) const LONG_ECHO: &str = ".services exit,get,put
 .fuel 4
  mov 0,%o0
  ta 0
+";
+
+/// Asks for three bytes, and exits with the third.
+pub(crate) const THREE: &str = ".services exit,get
+.function main,leaf,0,0,18
+.fuel 18
+ ta 1
+ ta 1
+ ta 1
+ ta 0
+";
+
+/// Puts `Hi` out in as many turns as it may take.
+pub(crate) const GREETING: &str = ".services exit,put
+.function main,leaf,0,0,16
+.fuel 16
+ mov 72,%o0
+ ta 2
+ mov 105,%o0
+ ta 2
+ mov 0,%o0
+ ta 0
+";
+
+/// Never ends. No verifier accepts it.
+pub(crate) const ENDLESS: &str = ".services exit
+.function main,leaf,0,0,0
+.fuel 0
+ ba main
+ nop
 ";
 
 /// Counts down from 10; what a round takes stands between this and the rest.

@@ -1,11 +1,19 @@
-//! What the flat machine reads of code words, and the laws that its definitions keep.
+//! What the flat machine reads of code words, and laws: those that its definitions keep, and those of boards beside it.
 use sbx_flat::laws::{
     each_step_counts, frames_come_and_go, invariants_make_safe, registers_keep_words,
 };
 use sbx_flat::{asked, declares, service_of, weight_of, word_at};
 use sbx_image::Services;
+use sbx_shows::laws::{
+    annulled_turns_keep_what_is_shown, registers_read_the_same, restores_underflow, saves_overflow,
+    user_turns_keep_what_is_shown,
+};
+use sbx_windows::laws::runs_to_its_end;
 use std::marker::Brand;
 use v8_meaning::Operation;
+use v8_services::laws::{
+    exit_stops_the_machine, get_gives_the_next_byte, put_puts_the_low_byte_out,
+};
 
 /// The service that a word calls.
 fn called(word: u32) -> Option<u32> {
@@ -52,4 +60,17 @@ fn laws_return(_rt: HostRuntime) {
     frames_come_and_go();
     each_step_counts();
     invariants_make_safe::<Brand>();
+}
+
+#[test]
+fn laws_of_boards_return(_rt: HostRuntime) {
+    exit_stops_the_machine();
+    get_gives_the_next_byte();
+    put_puts_the_low_byte_out();
+    registers_read_the_same();
+    user_turns_keep_what_is_shown();
+    annulled_turns_keep_what_is_shown();
+    saves_overflow();
+    restores_underflow();
+    runs_to_its_end();
 }

@@ -1,4 +1,7 @@
-//! Compares the verifier's verdicts, and runs of accepted images, with those of a model of the rules that was written apart from the
+//! Compares what is told of images and sources with what isn't from here: with the verdicts of a model, and with what stands beside the
+//! programs of `examples`.
+//!
+//! First it compares the verifier's verdicts, and runs of accepted images, with those of a model of the rules that was written apart from the
 //! verifier and shares nothing with it: prints each line that differs, and how many agree.
 //!
 //! The lines stand on standard input, and their words a space apart. `image BYTES accepted` and `image BYTES RULE FUNCTION ADDRESS` are
@@ -8,10 +11,13 @@
 //! none. A line that begins with `#` is a comment.
 //!
 //! A run is compared on a board of as many windows, and twice on the plain flat machine.
+//!
+//! Then it does with each program of `examples` what the sandbox's commands do, and prints what they tell.
 #![tactic(auto)]
 
 mod boards;
 mod comparison;
+mod examples;
 mod faults;
 mod fields;
 mod flat;
@@ -19,6 +25,7 @@ mod runs;
 mod verdicts;
 
 use comparison::Comparison;
+use examples::tell_programs;
 use faults::LineFault;
 use std::io::{self, BufRead, BufReader};
 
@@ -35,13 +42,19 @@ fn compare(rt: &HostRuntime, comparison: &mut Comparison, line: &str) -> io::Res
     }
 }
 
-fn main(rt: HostRuntime) -> io::Result<()> {
+/// Compares the lines of standard input, and tells how many agree.
+fn compare_lines(rt: &HostRuntime) -> io::Result<()> {
     let mut comparison = Comparison::new();
     for line in BufReader::new(rt.alloc(), rt.reader())?.lines(rt.alloc()) {
-        compare(&rt, &mut comparison, line?.as_str())?;
+        compare(rt, &mut comparison, line?.as_str())?;
     }
     println!(rt;
         "{} images and {} runs agree",
         comparison.images, comparison.runs
     )
+}
+
+fn main(rt: HostRuntime) -> io::Result<()> {
+    compare_lines(&rt)?;
+    tell_programs(&rt)
 }

@@ -2,9 +2,9 @@
 ghost use Rattle.std.specs.Prelude.{◌≤◌, ℕ};
 
 use crate::images::{
-    EXIT, End, GET, GREETING, LOADS, NOP, PUT, RESTORE, RET, SAVE, STORES_AFTER_A_LOAD, data_image,
-    raw_image,
+    EXIT, End, GET, GREETING, LOADS, NOP, PUT, STORES_AFTER_A_LOAD, data_image, raw_image,
 };
+use crate::programs::{Shape, chain};
 use sbx_image::Image;
 use sbx_raw::{Ending, Outcome, PageUse, Raw, run_raw};
 use std::alloc::{AllocError, Global};
@@ -176,55 +176,22 @@ fn long_outputs_are_kept(rt: HostRuntime) -> Result<(), Fail> {
     Ok(())
 }
 
-/// The words that the functions of a chain begin with; a last function follows.
-struct Heads {
-    first: &'static [u32],
-    second: &'static [u32],
-}
-
-const MIDDLE: [u32; 5] = [SAVE, 0x4000_0004, NOP, RET, RESTORE];
-
-/// The first function exits with 0.
-const PLAIN: Heads = Heads {
-    first: &[SAVE, 0x4000_0004, NOP, 0x9010_2000, EXIT], // mov 0,%o0
-    second: &MIDDLE,
-};
-
-/// The second function's RESTORE makes the result 42, with which the first exits.
-const WITH_RESULT: Heads = Heads {
-    first: &[SAVE, 0x4000_0003, NOP, EXIT],
-    // mov 41,%l0; ret; restore %l0,1,%o0
-    second: &[SAVE, 0x4000_0005, NOP, 0xA010_2029, RET, 0x91EC_2001],
-};
-
-/// A chain of 40 functions, each of which saves a window and calls the next; the last puts `!` out.
-fn chain(alloc: Global, heads: &Heads) -> Result<Vec<u32>, AllocError> {
-    let mut words = Vec::new(alloc);
-    words.extend_from_slice(heads.first)?;
-    words.extend_from_slice(heads.second)?;
-    for _ in 2..39u32 {
-        words.extend_from_slice(&MIDDLE)?;
-    }
-    // mov 33,%o0
-    words.extend_from_slice(&[SAVE, 0x9010_2021, PUT, RET, RESTORE])?;
-    Ok(words)
-}
-
-fn chain_image(alloc: Global, heads: &Heads) -> Result<Image, Fail> {
-    let words = chain(alloc, heads)?;
+/// The image of a chain of 40 functions, each of which saves a window and calls the next; the last puts `!` out.
+fn chain_image(alloc: Global, shape: Shape) -> Result<Image, Fail> {
+    let words = chain(alloc, shape)?;
     raw_image(alloc, &words)
 }
 
 /// Whether a chain exits on `N` windows with this status, these counts, and `!` put out.
 fn chain_ends<const N: usize>(
     alloc: Global,
-    heads: &Heads,
+    shape: Shape,
     status: u32,
     counts: (u64, u64, u64),
 ) -> Result<bool, Fail>
     requires { (4 ≤ N) × (N ≤ 32) }
 {
-    let image = chain_image(alloc, heads)?;
+    let image = chain_image(alloc, shape)?;
     let raw = run_raw::<N>(alloc, &image, b"", 10_000)?;
     Ok(exits(&raw, status, counts) && raw.output.as_slice() == b"!".as_slice())
 }
@@ -240,11 +207,11 @@ fn exits(raw: &Raw, status: u32, counts: (u64, u64, u64)) -> bool {
 #[test]
 fn chains_of_calls_return(rt: HostRuntime) -> Result<(), Fail> {
     let alloc = rt.alloc();
-    assert!(rt; chain_ends::<4>(alloc, &PLAIN, 0, (2006, 38, 37))?);
-    assert!(rt; chain_ends::<5>(alloc, &PLAIN, 0, (1958, 37, 36))?);
-    assert!(rt; chain_ends::<6>(alloc, &PLAIN, 0, (1910, 36, 35))?);
-    assert!(rt; chain_ends::<32>(alloc, &PLAIN, 0, (662, 10, 9))?);
-    assert!(rt; chain_ends::<4>(alloc, &WITH_RESULT, 42, (2006, 38, 37))?);
+    assert!(rt; chain_ends::<4>(alloc, Shape::Plain, 0, (2006, 38, 37))?);
+    assert!(rt; chain_ends::<5>(alloc, Shape::Plain, 0, (1958, 37, 36))?);
+    assert!(rt; chain_ends::<6>(alloc, Shape::Plain, 0, (1910, 36, 35))?);
+    assert!(rt; chain_ends::<32>(alloc, Shape::Plain, 0, (662, 10, 9))?);
+    assert!(rt; chain_ends::<4>(alloc, Shape::Result, 42, (2006, 38, 37))?);
     Ok(())
 }
 

@@ -7,6 +7,7 @@ use crate::images::{
     EXIT, End, GET, GREETING, LOADS, NOP, PUT, SAVE, STORES_AFTER_A_LOAD, data_image,
 };
 use crate::ports::Probe;
+use crate::programs::ECHO;
 use std::alloc::{AllocError, Global};
 use std::test::Fail;
 use v8_board::{Board, Ending, Port};
@@ -149,23 +150,6 @@ fn a_run_goes_on_after_each_failed_call(rt: HostRuntime) -> Result<(), Fail> {
     }
     Ok(())
 }
-
-/// A loop that gets bytes and puts them out, until there are no more:
-/// `save %sp,-96,%sp; mov 1000,%l0; loop: ta 1; cmp %o0,-1; be done; nop; ta 2; deccc %l0; bne loop; nop; done: mov 0,%o0; ta 0`
-const ECHO: [u32; 12] = [
-    SAVE,
-    0xA010_23E8,
-    GET,
-    0x80A2_3FFF,
-    0x0280_0006,
-    NOP,
-    PUT,
-    0xA0A4_2001,
-    0x12BF_FFFA,
-    NOP,
-    0x9010_2000,
-    EXIT,
-];
 
 /// A board with `abc` as its input, loaded with the loop, whose port fails so at its second put, and then never again.
 fn refusing(alloc: Global, fault: PortFault) -> Result<Tested, Fail> {

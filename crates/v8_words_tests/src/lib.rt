@@ -1,5 +1,9 @@
-//! Tests of words, formats, results, windows, translation, handlers and page tables. Expected values come from the manual, from GNU as, and by hand.
+//! Tests of words, formats, what they ask for, results, windows, translation, the cache, handlers and page tables. Expected values come from the manual, from GNU as, and by hand.
 #![tactic(auto)]
 
+#[cfg(test)]
+mod cache;
+#[cfg(test)]
+mod meaning;
 #[cfg(test)]
 mod tests;

@@ -1,9 +1,9 @@
-//! Reports and traces.
+//! Reports of runs and traces told in words, against texts of a model of the machine that was written apart from it.
 ghost use Rattle.std.specs.Prelude.{◌≤◌};
 
-use crate::images::{FOREVER, HELLO};
-use crate::sink::Sink;
-use sbx_image::{Image, parse};
+use crate::images::{FOREVER, HELLO, image_of};
+use crate::sheet::Sheet;
+use sbx_image::Image;
 use sbx_raw::RunFault;
 use sbx_tell::{Progress, push_run, run_windows};
 use sbx_watch::watch_windows;
@@ -16,14 +16,6 @@ struct Count(u32);
 impl Progress for Count {
     fn made(&mut self, _turns: u64) {
         self.0 = self.0.wrapping_add(1);
-    }
-}
-
-/// The image of these bytes; where memory was refused, it is read once more.
-fn image_of(alloc: Global, bytes: &[u8]) -> Option<Image> {
-    match parse(alloc, bytes) {
-        Ok(image) => Some(image),
-        Err(_refused) => parse(alloc, bytes).ok(),
     }
 }
 
@@ -129,16 +121,16 @@ fn three_mebibytes_are_told(rt: HostRuntime) {
     assert!(rt; is_told_at_length(rt.alloc()));
 }
 
-/// Whether the turns of an image's run on no input are told. Where memory was refused, they are asked for once more; the sink takes all,
+/// Whether the turns of an image's run on no input are told. Where memory was refused, they are asked for once more; the sheet takes all,
 /// so there is no other fault.
-fn is_watched(alloc: Global, windows: u32, image: &Image, limit: u64, sink: &mut Sink) -> bool
+fn is_watched(alloc: Global, windows: u32, image: &Image, limit: u64, sheet: &mut Sheet) -> bool
     requires { (4 ≤ windows) × (windows ≤ 32) }
 {
-    match watch_windows(alloc, windows, image, b"", limit, sink) {
+    match watch_windows(alloc, windows, image, b"", limit, sheet) {
         Ok(()) => true,
         Err(RunFault::Memory(_)) => {
-            *sink = Sink::new();
-            watch_windows(alloc, windows, image, b"", limit, sink).is_ok()
+            *sheet = Sheet::new(usize::MAX);
+            watch_windows(alloc, windows, image, b"", limit, sheet).is_ok()
         }
         Err(_) => false,
     }
@@ -146,10 +138,10 @@ fn is_watched(alloc: Global, windows: u32, image: &Image, limit: u64, sink: &mut
 
 /// Whether the turns of HELLO are told as they have to be.
 fn are_turns_told(alloc: Global) -> bool {
-    let mut sink = Sink::new();
+    let mut sheet = Sheet::new(usize::MAX);
     match image_of(alloc, HELLO) {
         Some(image) => {
-            is_watched(alloc, 8, &image, 100_000, &mut sink) && sink.front() == TURNS.as_bytes()
+            is_watched(alloc, 8, &image, 100_000, &mut sheet) && sheet.front() == TURNS.as_bytes()
         }
         None => false,
     }
@@ -162,12 +154,12 @@ fn turns_are_told(rt: HostRuntime) {
 
 /// Whether 200,000 turns have as many lines or more, none longer than 100 columns.
 fn has_lines_that_fit(alloc: Global) -> bool {
-    let mut sink = Sink::new();
+    let mut sheet = Sheet::new(usize::MAX);
     match image_of(alloc, FOREVER) {
         Some(image) => {
-            is_watched(alloc, 32, &image, 200_000, &mut sink)
-                && sink.longest <= 100
-                && sink.lines >= 200_000
+            is_watched(alloc, 32, &image, 200_000, &mut sheet)
+                && sheet.longest <= 100
+                && sheet.lines >= 200_000
         }
         None => false,
     }

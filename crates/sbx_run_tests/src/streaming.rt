@@ -1,18 +1,17 @@
 //! Rows of runs over streams.
 ghost use Rattle.std.specs.Prelude.{◌≤◌};
 
-use crate::sources::{ECHO, THREE};
+use crate::runs::accepted_of;
+use crate::sources::{ECHO, THREE, assembled};
 use crate::streams::{Sink, Source};
-use sbx_asm::assemble;
-use sbx_stream::{Accepted, Finished, RunFault, run_accepted, run_stream, verify};
+use sbx_stream::{Accepted, Finished, RunFault, run_accepted, run_stream};
 use std::alloc::Global;
-use std::test::Fail;
 
 /// A source, what a reader and a writer do, and what comes of it. The reader gives the input, and then ends, or is broken; the writer
 /// takes so many bytes, and then takes none, or is broken.
 #[derive(Clone, Copy)]
 struct Row<'a> {
-    source: &'a [u8],
+    source: &'static str,
     input: &'a [u8],
     reader_breaks: bool,
     room: usize,
@@ -68,17 +67,6 @@ const fn broken<'a>(
     }
 }
 
-/// The image of a source, if it is accepted.
-fn accepted_of(alloc: Global, source: &[u8]) -> Result<Option<Accepted>, Fail> {
-    match assemble(alloc, source) {
-        Ok(image) => match verify(alloc, image) {
-            Ok(accepted) => Ok(Some(accepted)),
-            Err(_refused) => Ok(None),
-        },
-        Err(_fault) => Ok(None),
-    }
-}
-
 /// Whether a run gave what the row says, and what a run over the same bytes in memory gives.
 fn gave<const N: usize>(
     alloc: Global,
@@ -127,32 +115,36 @@ fn runs_on<const N: usize>(alloc: Global, accepted: &Accepted, row: &Row<'_>) ->
     so && asked(&reader, &writer, row)
 }
 
+/// The image of a source, if it is accepted.
+fn accepted_in(alloc: Global, source: &str) -> Option<Accepted> {
+    accepted_of(alloc, assembled(alloc, source.as_bytes())?)
+}
+
 /// Whether the row's source is accepted, and runs so on few windows and on many.
-fn is_so(alloc: Global, row: &Row<'_>) -> Result<bool, Fail> {
-    match accepted_of(alloc, row.source)? {
-        Some(accepted) => Ok(
+fn is_so(alloc: Global, row: &Row<'_>) -> bool {
+    match accepted_in(alloc, row.source) {
+        Some(accepted) => {
             runs_on::<4>(alloc, &accepted, row)
                 && runs_on::<8>(alloc, &accepted, row)
-                && runs_on::<32>(alloc, &accepted, row),
-        ),
-        None => Ok(false),
+                && runs_on::<32>(alloc, &accepted, row)
+        }
+        None => false,
     }
 }
 
 #[test]
-fn streams_are_echoed(rt: HostRuntime) -> Result<(), Fail> {
+fn streams_are_echoed(rt: HostRuntime) {
     for row in &[
         echo(b"", b"", 14, 1),
         echo(b"abc", b"abc", 62, 4),
         echo(&LONG, &LONG[..1000], 16006, 1000),
     ] {
-        assert!(rt; is_so(rt.alloc(), row)?, "{}", row.turns);
+        assert!(rt; is_so(rt.alloc(), row), "{}", row.turns);
     }
-    Ok(())
 }
 
 #[test]
-fn broken_streams_end_runs(rt: HostRuntime) -> Result<(), Fail> {
+fn broken_streams_end_runs(rt: HostRuntime) {
     for row in &[
         Row {
             reader_breaks: true,
@@ -176,13 +168,12 @@ fn broken_streams_end_runs(rt: HostRuntime) -> Result<(), Fail> {
             ..broken(RunFault::Writer, b"abc", b"", 1, 1)
         },
     ] {
-        assert!(rt; is_so(rt.alloc(), row)?, "{} {}", row.reads, row.writes);
+        assert!(rt; is_so(rt.alloc(), row), "{} {}", row.reads, row.writes);
     }
-    Ok(())
 }
 
 #[test]
-fn ended_inputs_are_not_asked_again(rt: HostRuntime) -> Result<(), Fail> {
+fn ended_inputs_are_not_asked_again(rt: HostRuntime) {
     for (input, status, reads) in [
         (b"".as_slice(), 0xFFFF_FFFF, 1),
         (b"a", 0xFFFF_FFFF, 2),
@@ -193,7 +184,6 @@ fn ended_inputs_are_not_asked_again(rt: HostRuntime) -> Result<(), Fail> {
             status,
             ..echo(input, b"", 18, reads)
         };
-        assert!(rt; is_so(rt.alloc(), &row)?, "{reads}");
+        assert!(rt; is_so(rt.alloc(), &row), "{reads}");
     }
-    Ok(())
 }

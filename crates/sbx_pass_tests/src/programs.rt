@@ -1,5 +1,5 @@
-// Programs of a few words, and what is known after them. Each expected range and form was worked out by hand.
-use crate::rows::{Ends, Row};
+//! Programs of a few words, and what is known after them. Each expected range and form was worked out by hand.
+use crate::known::{Ends, Row};
 use sbx_image::{Cell, Range};
 use v8_word::Cond;
 

@@ -1,4 +1,4 @@
-// Worked examples of the manual's rules, and the words of GNU as (binutils 2.40) for the statements in the comments.
+//! Worked examples of the manual's rules, and the words of GNU as (binutils 2.40) for the statements in the comments.
 use v8_alu::{Division, Op, TaggedOp};
 use v8_formats::{Branch, decode};
 use v8_meaning::{

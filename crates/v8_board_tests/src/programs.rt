@@ -1,4 +1,5 @@
 //! Programs as words, and chains of 39 calls below the first function.
+use crate::images::{NOP, RESTORE, RET, SAVE};
 use std::alloc::{AllocError, Global};
 
 /// Copies at most 1,000 bytes of input to the output.
@@ -228,14 +229,6 @@ pub enum Shape {
     /// The same, and each function but the last passes a multiple of its word on, which sets the condition codes and Y.
     Products,
 }
-
-const SAVE: u32 = 0x9DE3_BFA0; // save %sp,-96,%sp
-
-const RET: u32 = 0x81C7_E008;
-
-const RESTORE: u32 = 0x81E8_0000;
-
-const NOP: u32 = 0x0100_0000;
 
 /// Two rounds of `call .+64; add %l2,%l0,%o0; mov %o0,%l2; deccc %l0; bne .-16; nop`, and then %l2 is put out.
 const ROUNDS: [u32; 19] = [

@@ -1,4 +1,4 @@
-// Rows of numbers between blanks, a row a line. A range is three numbers: its ends and its alignment.
+//! Rows of numbers between blanks, a row a line. A range is three numbers: its ends and its alignment.
 use sbx_range::{
     Pair, Range, range_of, range_of_division, range_of_tagged, refine, refine_by_value, tagged_fits,
 };

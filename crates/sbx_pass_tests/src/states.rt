@@ -1,9 +1,9 @@
-// Tests pass where memory is refused.
+//! What the verifier knows between two words, worked out by hand. Tests pass where memory is refused.
+use crate::known::{Row, first_wrong, has_least, range};
 use crate::programs::{
     COMPARED, EIGHT, FRAME_WORDS, HIGH_WORDS_AND_Y, ITSELF, LEAST, LOADS, NINE, NO_FRAME_WORDS,
     NO_LOCATIONS, QUOTIENTS, RETURNED, SAVED, SET, SIGN, SUMS, TWO, UNRELATED, UNSET, WINDOWS,
 };
-use crate::rows::{Row, first_wrong, has_least, range};
 use sbx_domain::State;
 use sbx_image::Cell;
 use v8_alu::Op;

@@ -1,37 +1,18 @@
 //! Runs of an image that is accepted. At a want of memory each call is asked once more, and then has to give what it gives with ample
 //! memory; any other fault fails the test.
-
+use crate::images::{HELLO, image_of};
+use crate::sheet::Sheet;
 use sbx_batch::{Batch, run_batch};
-use sbx_image::{Image, ImageFault, parse, write};
+use sbx_image::{Image, write};
 use sbx_run::{
     Accepted, Cause, Ending, Finished, Raw, RunFault, run_accepted, run_raw, run_windows, trace,
     verify,
 };
 use std::alloc::{AllocError, Global};
-use std::io::{self, Write};
-
-/// Puts `H` and `i` and exits with 0 (docs/image.md).
-const HELLO: [u8; 86] = [
-    0x53, 0x42, 0x58, 0x38, 0x00, 0x01, 0x00, 0x05, 0x00, 0x00, 0x00, 0x06, 0x00, 0x00, 0x00, 0x00,
-    0x00, 0x01, 0x00, 0x01, 0x90, 0x10, 0x20, 0x48, 0x91, 0xD0, 0x20, 0x02, 0x90, 0x10, 0x20, 0x69,
-    0x91, 0xD0, 0x20, 0x02, 0x90, 0x10, 0x20, 0x00, 0x91, 0xD0, 0x20, 0x00, 0x00, 0x00, 0x00, 0x00,
-    0x00, 0x04, 0x00, 0x00, 0x00, 0x00, 0x00, 0x00, 0x00, 0x00, 0x00, 0x00, 0x00, 0x00, 0x00, 0x00,
-    0x00, 0x00, 0x00, 0x10, 0x00, 0x01, 0x00, 0x04, 0x00, 0x00, 0x00, 0x00, 0x00, 0x00, 0x00, 0x00,
-    0x00, 0x00, 0x00, 0x00, 0x00, 0x10,
-];
-
-/// The image; none where a fault is told that isn't want of memory.
-fn image(alloc: Global) -> Option<Image> {
-    match parse(alloc, &HELLO) {
-        Ok(image) => Some(image),
-        Err(ImageFault::Memory(_)) => parse(alloc, &HELLO).ok(),
-        Err(_) => None,
-    }
-}
 
 /// The image as an accepted one. Where memory is refused it comes back, and is verified again.
 fn accepted(alloc: Global) -> Option<Accepted> {
-    match verify(alloc, image(alloc)?) {
+    match verify(alloc, image_of(alloc, HELLO)?) {
         Ok(accepted) => Some(accepted),
         Err((image, refusal)) => match refusal.cause {
             Cause::NoMemory(_) => verify(alloc, image).ok(),
@@ -46,9 +27,9 @@ fn is_spelled(alloc: Global) -> bool {
         return false;
     };
     match write(accepted.image(), alloc) {
-        Ok(bytes) => bytes.as_slice() == HELLO.as_slice(),
+        Ok(bytes) => bytes.as_slice() == HELLO,
         Err(AllocError) => match write(accepted.image(), alloc) {
-            Ok(bytes) => bytes.as_slice() == HELLO.as_slice(),
+            Ok(bytes) => bytes.as_slice() == HELLO,
             Err(AllocError) => false,
         },
     }
@@ -77,7 +58,7 @@ fn raw_of(alloc: Global, image: &Image) -> Option<Raw> {
 
 /// Whether the raw run is as it has to be.
 fn runs_raw(alloc: Global) -> bool {
-    let Some(image) = image(alloc) else {
+    let Some(image) = image_of(alloc, HELLO) else {
         return false;
     };
     match raw_of(alloc, &image) {
@@ -181,50 +162,6 @@ fn runs_on_one_board_end(rt: HostRuntime) {
     assert!(rt; runs_twice(rt.alloc()));
 }
 
-/// Takes so many bytes, one a call, and then fails. Its room is its own, so that no refused growth is its.
-#[derive(Drop)]
-struct Sheet {
-    kept: [u8; 1024],
-    count: usize,
-    most: usize,
-}
-
-impl Sheet {
-    /// One with nothing on it.
-    fn new(most: usize) -> Sheet {
-        Sheet {
-            kept: [0; 1024],
-            count: 0,
-            most,
-        }
-    }
-
-    /// What was written.
-    fn text(&self) -> &[u8] {
-        self.kept.get(..self.count).unwrap_or(&[])
-    }
-}
-
-impl Write for Sheet {
-    fn write(&mut self, buf: &[u8]) -> io::Result<usize> {
-        if self.count >= self.most.min(1024) {
-            return Err(io::Error::from(io::ErrorKind::Other));
-        }
-        match buf.first() {
-            Some(byte) => {
-                self.kept[self.count] = *byte;
-                self.count += 1;
-                Ok(1)
-            }
-            None => Ok(0),
-        }
-    }
-
-    fn flush(&mut self) -> io::Result<()> {
-        Ok(())
-    }
-}
-
 /// What 8 windows' trace of the first two turns has to be.
 const TWO_TURNS: &[u8] = b"0000000001 00 u 00040000 90102048 ran
 0000000002 00 u 00040004 91D02002 trap 82
@@ -244,12 +181,12 @@ fn traced(alloc: Global, image: &Image, limit: u64, most: usize) -> (Sheet, bool
 
 /// Whether a trace of two turns is written whole, and one to a writer that takes 60 bytes leaves the first 60.
 fn traces(alloc: Global) -> bool {
-    let Some(image) = image(alloc) else {
+    let Some(image) = image_of(alloc, HELLO) else {
         return false;
     };
     let (whole, failed) = traced(alloc, &image, 2, 1024);
     let (front, full) = traced(alloc, &image, 100, 60);
-    !failed && full && whole.text() == TWO_TURNS && Some(front.text()) == TWO_TURNS.get(..60)
+    !failed && full && whole.front() == TWO_TURNS && Some(front.front()) == TWO_TURNS.get(..60)
 }
 
 #[test]

@@ -1,7 +1,6 @@
 //! The port of one byte each way, and runs over it of images that nobody has verified.
-use crate::sources::{ECHO, ENDLESS, HELLO};
+use crate::sources::{ECHO, ENDLESS, GREETING, assembled};
 use crate::streams::{Sink, Source};
-use sbx_asm::assemble;
 use sbx_image::Image;
 use sbx_port::{Mailbox, StreamFault, carry};
 use std::alloc::Global;
@@ -27,7 +26,7 @@ fn a_mailbox_has_room_for_a_byte_each_way(rt: HostRuntime) -> Result<(), Fail> {
 /// A source that is run up to a limit of turns on an input that ends, and what comes of it.
 #[derive(Clone, Copy)]
 struct Row<'a> {
-    source: &'a [u8],
+    source: &'static str,
     limit: u64,
     input: &'a [u8],
     written: &'a [u8],
@@ -53,17 +52,17 @@ fn told_of(
 
 /// Whether the row's run is what it says.
 fn is_so(alloc: Global, row: &Row<'_>) -> Result<bool, Fail> {
-    match assemble(alloc, row.source) {
-        Ok(image) => {
+    match assembled(alloc, row.source.as_bytes()) {
+        Some(image) => {
             let (end, outcome, so) = told_of(alloc, &image, row)?;
             Ok(end.is_ok() && so && outcome.ending == row.ending && outcome.turns == row.turns)
         }
-        Err(_fault) => Ok(false),
+        None => Ok(false),
     }
 }
 
 /// A run that its limit cuts short before anything is read or written.
-const fn cut(source: &[u8], limit: u64) -> Row<'_> {
+const fn cut(source: &'static str, limit: u64) -> Row<'static> {
     Row {
         source,
         limit,
@@ -95,7 +94,7 @@ fn boards_run_up_to_a_limit(rt: HostRuntime) -> Result<(), Fail> {
             written: b"Hi",
             ending: Ending::Exit(0),
             turns: 16,
-            ..cut(HELLO, u64::MAX)
+            ..cut(GREETING, u64::MAX)
         },
     ] {
         assert!(rt; is_so(rt.alloc(), row)?, "{} {}", row.limit, row.turns);

@@ -2,8 +2,9 @@
 ghost use Rattle.std.specs.Prelude.{IfOk};
 ghost use Rattle.sbx_inspect.specs.Sights.{IsSeen};
 
+use crate::images::image_of;
 use sbx_domain::State;
-use sbx_image::{Image, ImageFault, parse};
+use sbx_image::Image;
 use sbx_inspect::{
     Fuel, NotKnown, RoomSides, Sight, after, budget_sides, call_room, entry_room, fuel_sides,
     known_at, stack_room,
@@ -41,13 +42,6 @@ const CHAIN: [u8; 215] = [
 const O0: u16 = 8;
 
 const L0: u16 = 16;
-
-fn read(alloc: Global, bytes: &[u8]) -> Result<Image, ImageFault> {
-    match parse(alloc, bytes) {
-        Err(ImageFault::Memory(_)) => parse(alloc, bytes),
-        first => first,
-    }
-}
 
 fn seen(alloc: Global, image: &Image, function: u16, address: u32) -> Result<Sight, NotKnown>
     ensures { IfOk result (λ sight. IsSeen image.now sight) }
@@ -118,9 +112,9 @@ fn is_seen(alloc: Global, image: &Image, row: &Row) -> bool {
 
 /// The number of the first row that isn't what is known.
 fn wrong(alloc: Global, bytes: &[u8], rows: &[Row]) -> Option<usize> {
-    match read(alloc, bytes) {
-        Ok(image) => rows.iter().position(|row| !is_seen(alloc, &image, row)),
-        Err(_) => Some(rows.len()),
+    match image_of(alloc, bytes) {
+        Some(image) => rows.iter().position(|row| !is_seen(alloc, &image, row)),
+        None => Some(rows.len()),
     }
 }
 
@@ -134,7 +128,7 @@ fn these_are_known(rt: HostRuntime) {
 
 /// The slot of the chain's first call: before it nothing is known of %o0, after it the result.
 fn has_result_after_call(alloc: Global) -> bool {
-    let Ok(image) = read(alloc, &CHAIN) else {
+    let Some(image) = image_of(alloc, &CHAIN) else {
         return false;
     };
     let Ok(sight) = seen(alloc, &image, 0, 0x0004_0008) else {
@@ -167,11 +161,11 @@ fn is_nowhere(alloc: Global, image: &Image, row: (u16, u32, NotKnown)) -> bool {
 }
 
 fn first_somewhere(alloc: Global) -> Option<usize> {
-    match read(alloc, &ECHO) {
-        Ok(image) => NOWHERE
+    match image_of(alloc, &ECHO) {
+        Some(image) => NOWHERE
             .iter()
             .position(|row| !is_nowhere(alloc, &image, *row)),
-        Err(_) => Some(NOWHERE.len()),
+        None => Some(NOWHERE.len()),
     }
 }
 
@@ -200,7 +194,7 @@ fn is_next(fuel: &Option<Fuel>, constant: i64, coefficient: i128) -> bool {
 
 /// The slot of the echo's last branch: its block's fuel is 16 times %l0 less 4, the loop's is that and 8 more, the last block's 4.
 fn has_fuel_sides(alloc: Global) -> bool {
-    let Ok(image) = read(alloc, &ECHO) else {
+    let Some(image) = image_of(alloc, &ECHO) else {
         return false;
     };
     let Ok(sight) = seen(alloc, &image, 0, 0x0004_0024) else {
@@ -222,7 +216,7 @@ fn is_room(sides: RoomSides, room: u64, needed: u64) -> bool {
 
 /// The calls of the chain: 288 bytes against 96 and 192, and 192 against 96 and 96. The stack has a page.
 fn has_room_sides(alloc: Global) -> bool {
-    let Ok(image) = read(alloc, &CHAIN) else {
+    let Some(image) = image_of(alloc, &CHAIN) else {
         return false;
     };
     let Ok(first) = seen(alloc, &image, 0, 0x0004_0004) else {
@@ -267,7 +261,7 @@ fn long_block(alloc: Global) -> Result<Vec<u8>, AllocError> {
 
 /// The turns up to an image's last word, where it has 65,536.
 fn last_weight(alloc: Global, bytes: &[u8]) -> Option<u64> {
-    let image = read(alloc, bytes).ok()?;
+    let image = image_of(alloc, bytes)?;
     let sight = seen(alloc, &image, 0, 0x0007_FFFC).ok()?;
     Some(sight.weight)
 }

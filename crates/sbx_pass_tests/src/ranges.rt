@@ -1,4 +1,4 @@
-// The table of ranges, row by row, with its edges.
+//! The table of ranges, row by row, with its edges.
 use crate::reading::{Table, wrong_row};
 use sbx_range::{
     BYTE_OR_END, Range, SIGNED_HALF, all, differences_fit, excludes_zero, is_single, is_within,

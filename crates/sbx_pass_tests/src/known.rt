@@ -1,3 +1,4 @@
+//! Rows of what is done to a state, and of what has to be known of it then.
 use sbx_domain::{State, least};
 use sbx_image::Range;
 use v8_formats::decode;
