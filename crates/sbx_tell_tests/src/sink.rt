@@ -1,7 +1,8 @@
 //! A writer that counts lines.
 use std::io::{self, Write};
 
-/// Keeps the first bytes, and counts lines and the columns of the longest. It takes no memory of its own accord.
+/// Keeps the first bytes, and counts lines and the columns of the longest. It takes no memory of its own accord, and knows whether it was
+/// flushed behind the last write.
 #[derive(Drop)]
 pub(crate) struct Sink {
     kept: [u8; 4096],
@@ -9,6 +10,7 @@ pub(crate) struct Sink {
     column: usize,
     pub(crate) lines: u64,
     pub(crate) longest: usize,
+    pub(crate) flushed: bool,
 }
 
 impl Sink {
@@ -20,6 +22,7 @@ impl Sink {
             column: 0,
             lines: 0,
             longest: 0,
+            flushed: false,
         }
     }
 
@@ -45,6 +48,7 @@ impl Sink {
 
 impl Write for Sink {
     fn write(&mut self, buf: &[u8]) -> io::Result<usize> {
+        self.flushed = false;
         for byte in buf {
             self.take(*byte);
         }
@@ -52,6 +56,7 @@ impl Write for Sink {
     }
 
     fn flush(&mut self) -> io::Result<()> {
+        self.flushed = true;
         Ok(())
     }
 }

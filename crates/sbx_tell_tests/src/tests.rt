@@ -144,12 +144,14 @@ fn is_watched(alloc: Global, windows: u32, image: &Image, limit: u64, sink: &mut
     }
 }
 
-/// Whether the turns of HELLO are told as they have to be.
+/// Whether the turns of HELLO are told as they have to be, and flushed.
 fn are_turns_told(alloc: Global) -> bool {
     let mut sink = Sink::new();
     match image_of(alloc, HELLO) {
         Some(image) => {
-            is_watched(alloc, 8, &image, 100_000, &mut sink) && sink.front() == TURNS.as_bytes()
+            is_watched(alloc, 8, &image, 100_000, &mut sink)
+                && sink.front() == TURNS.as_bytes()
+                && sink.flushed
         }
         None => false,
     }
