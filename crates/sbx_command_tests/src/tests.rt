@@ -1,4 +1,5 @@
 //! Commands on bytes that are or aren't images, over readers and writers that fail at one call.
+mod calls;
 mod chain;
 mod sources;
 mod streams;

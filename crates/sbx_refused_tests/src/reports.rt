@@ -136,12 +136,14 @@ fn is_watched(alloc: Global, windows: u32, image: &Image, limit: u64, sheet: &mu
     }
 }
 
-/// Whether the turns of HELLO are told as they have to be.
+/// Whether the turns of HELLO are told as they have to be, and flushed.
 fn are_turns_told(alloc: Global) -> bool {
     let mut sheet = Sheet::new(usize::MAX);
     match image_of(alloc, HELLO) {
         Some(image) => {
-            is_watched(alloc, 8, &image, 100_000, &mut sheet) && sheet.front() == TURNS.as_bytes()
+            is_watched(alloc, 8, &image, 100_000, &mut sheet)
+                && sheet.front() == TURNS.as_bytes()
+                && sheet.flushed
         }
         None => false,
     }

@@ -1,8 +1,8 @@
 //! A writer that counts what it takes.
 use std::io::{self, Write};
 
-/// Takes so many bytes, one a call, and then fails. Keeps the first of them, and counts lines and the columns of the longest. Its room is
-/// its own, so that no refused growth is its.
+/// Takes so many bytes, one a call, and then fails. Keeps the first of them, and counts lines and the columns of the longest, and knows
+/// whether it was flushed behind the last write. Its room is its own, so that no refused growth is its.
 #[derive(Drop)]
 pub(crate) struct Sheet {
     kept: [u8; 4096],
@@ -11,6 +11,7 @@ pub(crate) struct Sheet {
     column: usize,
     pub(crate) lines: u64,
     pub(crate) longest: usize,
+    pub(crate) flushed: bool,
 }
 
 impl Sheet {
@@ -23,6 +24,7 @@ impl Sheet {
             column: 0,
             lines: 0,
             longest: 0,
+            flushed: false,
         }
     }
 
@@ -48,6 +50,7 @@ impl Sheet {
 
 impl Write for Sheet {
     fn write(&mut self, buf: &[u8]) -> io::Result<usize> {
+        self.flushed = false;
         if self.count >= self.most {
             return Err(io::Error::from(io::ErrorKind::Other));
         }
@@ -61,6 +64,7 @@ impl Write for Sheet {
     }
 
     fn flush(&mut self) -> io::Result<()> {
+        self.flushed = true;
         Ok(())
     }
 }

@@ -4,12 +4,12 @@ use sbx_command::{Job, command};
 use std::alloc::Global;
 use std::io::{self, Write};
 
-const ASM: Job<'static> = Job::Asm {
+pub(super) const ASM: Job<'static> = Job::Asm {
     source: "a.s",
     object: "a.img",
 };
 
-const SOURCE: &[u8] = b".services exit,put
+pub(super) const SOURCE: &[u8] = b".services exit,put
 .function main,leaf,0,0,16
 .fuel 16
  mov 72,%o0

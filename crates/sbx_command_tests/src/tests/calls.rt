@@ -1,0 +1,82 @@
+//! Each call of the file, the input and the output fails in turn.
+use super::sources::{ASM, SOURCE};
+use super::streams::ECHO;
+use super::{HELLO, LIST, RUN, TRACE, Told, VERIFY, answer_of};
+use sbx_command::Job;
+use std::alloc::Global;
+
+/// A job on a file, and how many calls it makes of the file, of the input, which has three bytes, and of the output. A read gives a byte,
+/// and a further one tells the end; a trace is written line by line, and each output is flushed at its end.
+type Row = (Job<'static>, &'static [u8], [usize; 3]);
+
+const ROWS: [Row; 5] = [
+    (VERIFY, &HELLO, [87, 0, 2]),
+    (LIST, &HELLO, [87, 0, 7]),
+    (RUN, &ECHO, [204, 4, 4]),
+    (TRACE, &HELLO, [87, 4, 17]),
+    (ASM, SOURCE, [110, 0, 2]),
+];
+
+/// What is told of a call that fails, of the file, the input and the output.
+const LINES: [&[u8]; 3] = [b"file\n", b"input\n", b"output\n"];
+
+/// Whether what a job tells with a failed call is this line, and what it has put out is the front of what it puts out otherwise.
+fn is_stop(told: &Told, ample: &Told, line: &[u8]) -> bool {
+    let whole = ample.out.kept.as_slice();
+    told.status == 4
+        && told.err.kept.as_slice() == line
+        && whole.starts_with(told.out.kept.as_slice())
+}
+
+/// Whether a job tells what it tells without a failed call.
+fn is_like(told: &Told, ample: &Told) -> bool {
+    told.status == 0
+        && told.out.flushed
+        && told.out.kept.as_slice() == ample.out.kept.as_slice()
+        && told.err.kept.is_empty()
+}
+
+/// The calls that fail, where one of the file, the input or the output is to.
+fn failing(stream: usize, call: usize) -> [usize; 3] {
+    let mut fails = [0; 3];
+    for (number, place) in fails.iter_mut().enumerate() {
+        if number == stream {
+            *place = call;
+        }
+    }
+    fails
+}
+
+/// Whether a job stops at each of so many calls of the file, the input or the output, and makes no further one.
+fn stops_at_each(alloc: Global, row: &Row, ample: &Told, stream: usize, line: &[u8]) -> bool {
+    let calls = row.2[stream % 3];
+    for call in 1..=calls {
+        if !is_stop(
+            &answer_of(alloc, &row.0, row.1, failing(stream, call)),
+            ample,
+            line,
+        ) {
+            return false;
+        }
+    }
+    let further = failing(stream, calls.wrapping_add(1));
+    is_like(&answer_of(alloc, &row.0, row.1, further), ample)
+}
+
+/// Whether a job is done where no call fails, and stops at each that fails.
+fn is_stopped_by_each(alloc: Global, row: &Row) -> bool {
+    let ample = answer_of(alloc, &row.0, row.1, [0, 0, 0]);
+    for (stream, line) in LINES.into_iter().enumerate() {
+        if !stops_at_each(alloc, row, &ample, stream, line) {
+            return false;
+        }
+    }
+    is_like(&ample, &ample)
+}
+
+#[test]
+fn each_failed_call_is_told(rt: HostRuntime) {
+    for row in &ROWS {
+        assert!(rt; is_stopped_by_each(rt.alloc(), row), "at {:?}", row.0);
+    }
+}
