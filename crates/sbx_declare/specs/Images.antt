@@ -1,5 +1,5 @@
 -- What an image declares, as its source would.
-use Rattle.std.specs.Prelude.{ℕ, ◌+◌, ◌==◌, if◌then◌else◌, List, [], ◌∷◌, ◌++◌, codes, length}
+use Rattle.std.specs.Prelude.{ℕ, ◌+◌, ◌==◌, Bool, true, false, if◌then◌else◌, List, [], ◌∷◌, ◌++◌, codes, length}
 use Rattle.std.specs.List.{flat_map}
 use Rattle.std.specs.Fmt.{decimal, signed_decimal}
 use Rattle.sbx_image.specs.Block.{Block}
@@ -9,7 +9,8 @@ use Rattle.sbx_image.specs.Kind.{Kind}
 use Rattle.sbx_image.specs.Kind.TheVariants.{Leaf, Framed}
 use Rattle.sbx_image.specs.Parts.{Parts}
 use Rattle.sbx_image.specs.Range.{Range}
-use Rattle.sbx_image.specs.Regions.{byte_count}
+use Rattle.sbx_image.specs.Region.{Region}
+use Rattle.sbx_image.specs.Regions.{Placed, byte_count, placed}
 use Rattle.sbx_image.specs.Term.{Term}
 use Rattle.sbx_lines.specs.Words.{word_text}
 use Rattle.sbx_declare.specs.Names.{bounds_text, location_text}
@@ -68,7 +69,7 @@ function_text n f = function_head n f ++ flat_map param_line f.params ++ flat_ma
 abbrev pub functions_text : List Function → List ℕ
 functions_text functions = numbered function_text 0 functions
 
--- ---- the whole
+-- ---- services and sizes
 
 abbrev pub services_line : ℕ → List ℕ
 services_line s =
@@ -85,5 +86,22 @@ abbrev pub sizes_lines : ℕ → ℕ → ℕ → List ℕ
 sizes_lines pages words bytes = codes ".stack " ++ (decimal pages ++ (codes "\n! words of code: " ++ (decimal words
     ++ (codes ", bytes of data: " ++ (decimal bytes ++ line_end)))))
 
+-- ---- the data
+
+abbrev pub right_text : Bool → List ℕ
+right_text true = codes "rw"
+right_text false = codes "ro"
+
+-- where a region begins, how many bytes it has, and whether the program may write them
+abbrev pub region_lines : Placed → List ℕ
+region_lines r = codes "\n! " ++ (word_text r.address ++ (codes ", bytes: " ++ (decimal (length r.bytes) ++ (codes "\n.region " ++ (right_text r.writable ++ line_end)))))
+
+-- version 1 tells no more of its data
+abbrev pub regions_text : ℕ → List Region → List ℕ
+regions_text version regions = if version == 1 then [] else flat_map region_lines (placed regions)
+
+-- ---- the whole
+
 abbrev pub image_text : Parts → List ℕ
-image_text parts = services_line parts.services.0 ++ sizes_lines parts.stack_pages (length parts.words) (byte_count parts.regions) ++ functions_text parts.functions
+image_text parts =
+    services_line parts.services.0 ++ sizes_lines parts.stack_pages (length parts.words) (byte_count parts.regions) ++ regions_text parts.version parts.regions ++ functions_text parts.functions

@@ -1,11 +1,13 @@
 //! What an image declares, in the source language's own words.
-ghost use Rattle.std.specs.Prelude.{◌≡◌, ◌++◌, OnOk, string_bytes};
+ghost use Rattle.std.specs.Prelude.{◌≡◌, ◌≤◌, ◌++◌, length, OnOk, string_bytes};
 ghost use Rattle.std.specs.List.{flat_map};
-ghost use Rattle.sbx_declare.specs.Images.{block_head, block_lines, block_text, blocks_text, cell_line, function_head, function_text, functions_text, image_text, kind_text, param_line, result_line, services_line, sizes_lines, term_line};
+ghost use Rattle.sbx_image.specs.Regions.{page_rights, placed};
+ghost use Rattle.sbx_declare.specs.Images.{block_head, block_lines, block_text, blocks_text, cell_line, function_head, function_text, functions_text, image_text, kind_text, param_line, region_lines, regions_text, result_line, right_text, services_line, sizes_lines, term_line};
 
 use crate::names::{Bounds, Location};
-use sbx_image::{Block, Cell, Function, Image, Kind, Range, Services, Term};
+use sbx_image::{Block, Cell, Function, Image, Kind, Range, Region, Services, Term, behind};
 use std::alloc::AllocError;
+use v8_map::DATA_START;
 
 fn push_cells(out: &mut String, cells: &[Cell]) -> Result<(), AllocError>
     ensures { OnOk result (string_bytes out.new ≡ string_bytes out.old ++ flat_map cell_line cells.now) }
@@ -174,7 +176,46 @@ fn push_sizes(out: &mut String, pages: u16, words: u32, bytes: u32) -> Result<()
     )
 }
 
-/// What an image declares, as its source would: services, pages of stack, and of each function kind, frame, stack room, budget,
+fn right_name(writable: bool) -> &'static str
+    ensures { result.now ≡ right_text writable }
+{
+    if writable { "rw" } else { "ro" }
+}
+
+/// A region that begins at an address.
+fn push_region(out: &mut String, start: u32, region: &Region) -> Result<(), AllocError>
+    ensures { OnOk result (string_bytes out.new ≡ string_bytes out.old ++ region_lines (record { address = start; bytes = region.now.bytes; writable = region.now.writable })) }
+{
+    let bytes = region.bytes.len();
+    let right = right_name(region.writable);
+    writeln!(out, "\n! {start:08X}, bytes: {bytes}\n.region {right}")
+}
+
+fn push_each_region(out: &mut String, regions: &[Region]) -> Result<(), AllocError>
+    requires { length (page_rights regions.now) ≤ 64 }
+    ensures { OnOk result (string_bytes out.new ≡ string_bytes out.old ++ flat_map region_lines (placed regions.now)) }
+{
+    let mut start = DATA_START;
+    for region in regions {
+        push_region(out, start, region)?;
+        start = behind(start, region);
+    }
+    Ok(())
+}
+
+/// The regions of an image of that version.
+fn push_regions(out: &mut String, version: u16, regions: &[Region]) -> Result<(), AllocError>
+    requires { length (page_rights regions.now) ≤ 64 }
+    ensures { OnOk result (string_bytes out.new ≡ string_bytes out.old ++ regions_text version regions.now) }
+{
+    if version == 1 {
+        Ok(())
+    } else {
+        push_each_region(out, regions)
+    }
+}
+
+/// What an image declares, as its source would: services, pages of stack, the regions of version 2, and of each function kind, frame, stack room, budget,
 /// parameters, results and blocks, each with its cells and fuel. Names aren't kept in an image: `f2` is function 2, and `f2_b3` its
 /// block 3, both counted from 0. Addresses and sizes stand in comments.
 pub fn push_image(out: &mut String, image: &Image) -> Result<(), AllocError>
@@ -187,6 +228,7 @@ pub fn push_image(out: &mut String, image: &Image) -> Result<(), AllocError>
         image.word_count(),
         image.byte_count(),
     )?;
+    push_regions(out, image.version(), image.regions())?;
     push_functions(out, image.functions())?;
     Ok(())
 }
