@@ -7,12 +7,13 @@ use sbx_command::{Job, Windows, command};
 use std::{fs, io};
 
 /// The programs whose images are kept, and whether there is an input for them.
-const KEPT: [(&str, bool); 9] = [
+const KEPT: [(&str, bool); 10] = [
     ("hello", false),
     ("echo", true),
     ("countdown", false),
     ("upper", true),
     ("checksum", true),
+    ("crc", true),
     ("sieve", false),
     ("squares", false),
     ("sort", true),
