@@ -10,7 +10,7 @@ use progress::Lines;
 use sbx_command::{Full, Stop};
 use std::alloc::AllocError;
 use std::fs::File;
-use std::io::{BufWriter, Write};
+use std::io::BufWriter;
 use std::process::ExitCode;
 use std::{env, fs, io};
 use words::{Job, USAGE, read_words};
@@ -26,39 +26,6 @@ fn opened(rt: &HostRuntime, path: &str) -> Result<File, Stop> {
     }
 }
 
-/// Does a job on an image file, and tells on a writer.
-fn tell_on<O: Write>(
-    rt: &HostRuntime,
-    job: Job<'_>,
-    file: &mut File,
-    out: &mut O,
-) -> Result<(), Stop> {
-    match job {
-        Job::Image { .. } => show_image(rt.alloc(), file, out),
-        Job::Run { windows, limit, .. } => run_image(
-            rt.alloc(),
-            windows,
-            limit,
-            file,
-            &mut rt.stdin(),
-            out,
-            &mut Lines::new(rt),
-        ),
-        Job::Trace { windows, limit, .. } => trace_image(
-            rt.alloc(),
-            windows,
-            limit,
-            file,
-            &mut rt.stdin(),
-            out,
-        ),
-        Job::Why { .. } => {
-            explain_image(rt.alloc(), file, out)?;
-            Ok(())
-        }
-    }
-}
-
 /// Does a job, and tells on standard output.
 fn perform(rt: &HostRuntime, job: Job<'_>) -> Result<(), Stop> {
     let (Job::Image { image }
@@ -66,12 +33,33 @@ fn perform(rt: &HostRuntime, job: Job<'_>) -> Result<(), Stop> {
     | Job::Trace { image, .. }
     | Job::Why { image }) = job;
     let mut file = opened(rt, image)?;
-    match BufWriter::new(rt.alloc(), rt.stdout()) {
-        Ok(out) => {
-            let mut out = out;
-            tell_on(rt, job, &mut file, &mut out)
+    let mut out = match BufWriter::new(rt.alloc(), rt.stdout()) {
+        Ok(out) => out,
+        Err(error) => return Err(Stop::of(&error, Stop::Output)),
+    };
+    match job {
+        Job::Image { .. } => show_image(rt.alloc(), &mut file, &mut out),
+        Job::Run { windows, limit, .. } => run_image(
+            rt.alloc(),
+            windows,
+            limit,
+            &mut file,
+            &mut rt.stdin(),
+            &mut out,
+            &mut Lines::new(rt),
+        ),
+        Job::Trace { windows, limit, .. } => trace_image(
+            rt.alloc(),
+            windows,
+            limit,
+            &mut file,
+            &mut rt.stdin(),
+            &mut out,
+        ),
+        Job::Why { .. } => {
+            explain_image(rt.alloc(), &mut file, &mut out)?;
+            Ok(())
         }
-        Err(error) => Err(Stop::of(&error, Stop::Output)),
     }
 }
 
