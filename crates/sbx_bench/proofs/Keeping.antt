@@ -4,7 +4,7 @@ use Rattle.std.proofs.lemmas.Bool.{leb-true, le-leb}
 use Rattle.sbx_image.specs.ImageFault.{ImageFault}
 use Rattle.sbx_image.specs.ImageFault.TheVariants.{Limit}
 use Rattle.sbx_image.specs.Parts.{Parts}
-use Rattle.sbx_image.specs.Rules.{◌>>=◌, wants, each, block_keeps, function_keeps, parts_keep}
+use Rattle.sbx_image.specs.Rules.{◌>>=◌, wants, each, block_keeps, function_keeps, parts_keep, region_keeps}
 use Rattle.sbx_bench.specs.Images.{image_of, zeros, IsCodeLength}
 
 -- the rules of so many words
@@ -17,7 +17,7 @@ then_nothing false = refl
 
 -- nothing but the number of words can break a rule
 by_length : (words : List ℕ) → parts_keep (image_of words) ≡ judged (leb 1 (length words)) (leb (length words) 65536)
-unfolding parts_keep each function_keeps block_keeps image_of zeros
+unfolding parts_keep each region_keeps function_keeps block_keeps image_of zeros
 by_length words = then_nothing (leb 1 (length words) && leb (length words) 65536)
 
 both : (some few : Bool) → judged some few ≡ Ok tt → (some ≡ true) × (few ≡ true)

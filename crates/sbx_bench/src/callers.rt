@@ -1,9 +1,8 @@
 //! Images of functions that call each other.
 
-use crate::pieces::{
-    CODE, EXIT, Head, push_block, push_data, push_function, push_header, push_leaf, push_words,
-};
-use std::alloc::AllocError;
+use crate::pieces::{CODE, EXIT, bare, framed, leaf, whole};
+use sbx_image::{Function, Parts};
+use std::alloc::{AllocError, Global};
 
 /// `save %sp,-96,%sp; call .+60; nop`
 const OPENING: [u32; 3] = [0x9DE3_BFA0, 0x4000_000F, NOP];
@@ -23,46 +22,47 @@ const LEAF: [u32; 2] = [0x81C3_E008, NOP];
 const FRAME: u32 = 96;
 
 /// Adds a caller's 16 words: it calls the function after it, and five times the last one, before which so many callers stand.
-fn push_calls(bytes: &mut Vec<u8>, callers: u16, end: &[u32; 2]) -> Result<(), AllocError> {
-    push_words(bytes, &OPENING)?;
+fn add_caller(words: &mut Vec<u32>, callers: u16, end: &[u32; 2]) -> Result<(), AllocError> {
+    words.extend_from_slice(&OPENING)?;
     for call in 0..5 {
-        let last = CALL + 16 * u32::from(callers) - (3 + 2 * call);
-        push_words(bytes, &[last, NOP])?;
+        words.push(CALL + 16 * u32::from(callers) - (3 + 2 * call))?;
+        words.push(NOP)?;
     }
-    push_words(bytes, &[NOP])?;
-    push_words(bytes, end)
+    words.push(NOP)?;
+    words.extend_from_slice(end)
 }
 
-/// Adds the words of so many callers and of the last function. The first caller ends the run.
-fn push_code(bytes: &mut Vec<u8>, callers: u16) -> Result<(), AllocError> {
+/// The words of so many callers and of the last function. The first caller ends the run.
+fn words(alloc: Global, callers: u16) -> Result<Vec<u32>, AllocError> {
+    let mut words = Vec::new(alloc);
     for done in 0..callers {
         let end = if done == 0 { &EXIT } else { &RETURN };
-        push_calls(bytes, callers - done, end)?;
+        add_caller(&mut words, callers - done, end)?;
     }
-    push_words(bytes, &LEAF)
+    words.extend_from_slice(&LEAF)?;
+    Ok(words)
 }
 
-/// Adds a caller of one block, so many callers before the last one.
-fn push_caller(bytes: &mut Vec<u8>, entry: u32, left: u16) -> Result<(), AllocError> {
-    let head = Head {
-        entry,
-        frame: FRAME,
-        stack_room: FRAME * u32::from(left),
-        budget: 128 * u32::from(left),
-        blocks: 1,
-    };
-    push_function(bytes, &head)?;
-    push_block(bytes, entry, (0, 0), head.budget)
+/// A leaf function of one block.
+fn plain(alloc: Global, entry: u32, budget: u32) -> Result<Function, AllocError> {
+    let blocks = vec![in alloc; bare(alloc, entry, i64::from(budget))]?;
+    Ok(leaf(alloc, entry, u64::from(budget), blocks))
 }
 
-/// Adds so many functions, at least two. Each but the last calls the next one, and five times the last one.
-pub fn push_callers(bytes: &mut Vec<u8>, count: u16) -> Result<(), AllocError> {
-    let callers = count.saturating_sub(1);
-    push_header(bytes, 16 * u32::from(callers) + 2, count)?;
-    push_code(bytes, callers)?;
-    push_data(bytes)?;
+/// The functions of so many callers, and the last one.
+fn functions(alloc: Global, callers: u16) -> Result<Vec<Function>, AllocError> {
+    let mut functions = Vec::new(alloc);
     for done in 0..callers {
-        push_caller(bytes, CODE + 64 * u32::from(done), callers - done)?;
+        let left = u32::from(callers - done);
+        let function = plain(alloc, CODE + 64 * u32::from(done), 128 * left)?;
+        functions.push(framed(function, FRAME, FRAME * left))?;
     }
-    push_leaf(bytes, CODE + 64 * u32::from(callers), 8)
+    functions.push(plain(alloc, CODE + 64 * u32::from(callers), 8)?)?;
+    Ok(functions)
+}
+
+/// So many functions, at least two. Each but the last calls the next one, and five times the last one.
+pub fn callers(alloc: Global, count: u16) -> Result<Parts, AllocError> {
+    let callers = count.saturating_sub(1);
+    whole(alloc, words(alloc, callers)?, functions(alloc, callers)?)
 }

@@ -21,11 +21,10 @@ mod ways;
 
 use anyhow::{Result, anyhow};
 use loops::Loop;
-use sbx_image::Image;
 use shapes::Shape;
 use std::env;
 use std::time::Instant;
-use verdicts::{Verdict, timed_verdict};
+use verdicts::timed_verdict;
 use ways::Way;
 
 /// What is measured: a loop's turns, or a shape's verification.
@@ -92,75 +91,49 @@ fn with_argument(plan: Plan, argument: &str) -> Result<Plan> {
     }
 }
 
-/// What the words after the first one ask for.
-fn plan_of(arguments: &[String]) -> Result<Plan> {
+/// What the program's arguments ask for.
+fn planned(rt: &HostRuntime) -> Result<Plan> {
     let mut plan = Plan {
         turns: 100_000,
         only: None,
         only_way: None,
     };
+    let arguments: Vec<String> = env::args(rt)?.collect(rt.alloc())?;
     for argument in arguments.iter().skip(1) {
         plan = with_argument(plan, argument.as_str())?;
     }
     Ok(plan)
 }
 
-/// What the program's arguments ask for.
-fn planned(rt: &HostRuntime) -> Result<Plan> {
-    let arguments: Vec<String> = env::args(rt)?.collect(rt.alloc())?;
-    plan_of(arguments.as_slice())
-}
-
-/// Drives a loop's image in a way, and tells what it told and how long it took.
-fn measure_way(
-    rt: &HostRuntime,
-    turns: u64,
-    name: &str,
-    image: &Image,
-    (way_name, way): (&str, Way),
-) -> Result<()> {
-    let begin = Instant::now(rt)?;
-    let told = way.drive(rt.alloc(), image, turns)?;
-    let time = begin.elapsed(rt)?.as_micros();
-    println!(rt; "{name} by {way_name}: {told}")?;
-    eprintln!(rt; "{name} by {way_name}: {time} us")?;
-    Ok(())
-}
-
-/// Measures a loop's image in each way of the plan.
-fn measure_ways(rt: &HostRuntime, plan: Plan, name: &str, image: &Image) -> Result<()> {
-    for way in WAYS {
-        if plan.only_way.unwrap_or(way.1) == way.1 {
-            measure_way(rt, plan.turns, name, image, way)?;
+/// Measures a loop in each way of the plan.
+fn measure_loop(rt: &HostRuntime, plan: Plan, loop_name: &str, measured: Loop) -> Result<()> {
+    let Ok(image) = loops::image(rt.alloc(), measured.words()) else {
+        return Err(anyhow!("the loop is no image"));
+    };
+    for (way_name, way) in WAYS {
+        if plan.only_way.unwrap_or(way) == way {
+            let begin = Instant::now(rt)?;
+            let told = way.drive(rt.alloc(), &image, plan.turns)?;
+            let time = begin.elapsed(rt)?.as_micros();
+            println!(rt; "{loop_name} by {way_name}: {told}")?;
+            eprintln!(rt; "{loop_name} by {way_name}: {time} us")?;
         }
     }
     Ok(())
 }
 
-/// Measures a loop.
-fn measure_loop(rt: &HostRuntime, plan: Plan, name: &str, measured: Loop) -> Result<()> {
-    match loops::image(rt.alloc(), measured.words()) {
-        Ok(image) => measure_ways(rt, plan, name, &image),
-        Err(_fault) => Err(anyhow!("the loop is no image")),
-    }
-}
-
-/// Prints a verdict, and gives its time in microseconds.
-fn tell_verdict(rt: &HostRuntime, name: &str, told: &Verdict) -> Result<u128> {
+/// Verifies an image of the shape, prints the verdict, and gives the time in microseconds.
+fn verified(rt: &HostRuntime, name: &str, shape: Shape, count: u16) -> Result<u128> {
+    let Ok(image) = shape.image(rt.alloc(), count) else {
+        return Err(anyhow!("the shape is no image"));
+    };
+    let told = timed_verdict(rt, image)?;
     let words = told.words;
     match told.refusal {
         None => println!(rt; "{name} of {words} words: accepted")?,
         Some(refusal) => println!(rt; "{name} of {words} words: {refusal}")?,
     }
     Ok(told.time)
-}
-
-/// Verifies an image of the shape, prints the verdict, and gives the time in microseconds.
-fn verified(rt: &HostRuntime, name: &str, shape: Shape, count: u16) -> Result<u128> {
-    match shape.image(rt.alloc(), count) {
-        Ok(image) => tell_verdict(rt, name, &timed_verdict(rt, image)?),
-        Err(_fault) => Err(anyhow!("the shape is no image")),
-    }
 }
 
 /// Verifies an image of the shape and one of a quarter of it, and tells how long each took.

@@ -1,9 +1,8 @@
 //! Images of one function, of rows of words.
 
-use crate::pieces::{
-    CODE, EXIT, Head, push_block, push_data, push_function, push_header, push_leaf, push_words,
-};
-use std::alloc::AllocError;
+use crate::pieces::{CODE, EXIT, bare, framed, leaf, whole};
+use sbx_image::{Block, Cell, Items, Parts, Range, Term};
+use std::alloc::{AllocError, Global};
 
 /// `mov 5,%o1; ta 1; add %o0,%o1,%o2; sll %o2,2,%o3; xor %o3,%o1,%o4; and %o4,255,%o5; sethi 512,%g1; st %o5,[%g1]; ld [%g1],%o2;
 /// umul %o2,%o1,%o3; sub %o3,%o4,%o5; srl %o5,3,%o4; or %o4,%o0,%o3; addcc %o3,1,%o2; sra %o2,1,%o2; xor %o2,%o0,%o3`
@@ -44,26 +43,28 @@ const FRAME: u32 = 240;
 /// Turns that last for the greatest of these functions.
 const BUDGET: u32 = 1 << 30;
 
-/// Adds a function of one block, of so many times 16 words.
-pub fn push_straight(bytes: &mut Vec<u8>, rows: u16) -> Result<(), AllocError> {
-    push_header(bytes, 16 * u32::from(rows), 1)?;
+/// A function of one block, of so many times 16 words.
+pub fn straight(alloc: Global, rows: u16) -> Result<Parts, AllocError> {
+    let mut words = Vec::new(alloc);
     for _ in 1..rows {
-        push_words(bytes, &ROW)?;
+        words.extend_from_slice(&ROW)?;
     }
-    push_words(bytes, &ROW[..14])?;
-    push_words(bytes, &EXIT)?;
-    push_data(bytes)?;
-    push_leaf(bytes, CODE, BUDGET)
+    words.extend_from_slice(&ROW[..14])?;
+    words.extend_from_slice(&EXIT)?;
+    let blocks = vec![in alloc; bare(alloc, CODE, i64::from(BUDGET))]?;
+    let function = leaf(alloc, CODE, u64::from(BUDGET), blocks);
+    whole(alloc, words, vec![in alloc; function]?)
 }
 
-/// Adds so many rows of 15 words, each of which ends with a branch past the last of them, and the exit.
-fn push_rows(bytes: &mut Vec<u8>, rows: u16) -> Result<(), AllocError> {
+/// Adds so many rows of 15 words, each of which ends with a branch past the last of them.
+fn add_rows(words: &mut Vec<u32>, rows: u16) -> Result<(), AllocError> {
     for done in 0..rows {
-        let branch = BRANCH + 15 * u32::from(rows - done) - 13;
-        push_words(bytes, &ROW[..12])?;
-        push_words(bytes, &[COMPARE, branch, SLOT])?;
+        words.extend_from_slice(&ROW[..12])?;
+        words.push(COMPARE)?;
+        words.push(BRANCH + 15 * u32::from(rows - done) - 13)?;
+        words.push(SLOT)?;
     }
-    push_words(bytes, &EXIT)
+    Ok(())
 }
 
 /// Whether a location from 8 to 75 can be a cell: not %sp, %o7, %fp and %i7.
@@ -80,102 +81,109 @@ fn clearing(location: u16) -> u32 {
     }
 }
 
-/// Adds the words that open a frame and make each cell 0.
-fn push_opening(bytes: &mut Vec<u8>) -> Result<(), AllocError> {
-    push_words(bytes, &[SAVE])?;
+/// The words that open a frame and make each cell 0.
+fn opening(alloc: Global) -> Result<Vec<u32>, AllocError> {
+    let mut words = vec![in alloc; SAVE]?;
     for location in 8..76 {
         if is_cell(location) {
-            push_words(bytes, &[clearing(location)])?;
+            words.push(clearing(location))?;
         }
     }
-    Ok(())
+    Ok(words)
 }
 
-/// Adds a cell: the range of a local's is small.
-fn push_cell(bytes: &mut Vec<u8>, location: u16) -> Result<(), AllocError> {
+/// The range of a cell: a local's is small.
+fn cell_range(location: u16) -> Range {
     let is_local = 16 <= location && location < 24;
-    bytes.extend_from_slice(&location.to_be_bytes())?;
-    if is_local {
-        bytes.extend_from_slice(&[0, 0, 0, 0, 0, 0, 0, 99, 0])
-    } else {
-        bytes.extend_from_slice(&[0x80, 0, 0, 0, 0x7F, 0xFF, 0xFF, 0xFF, 0])
+    Range {
+        lo: if is_local { 0 } else { i32::MIN },
+        hi: if is_local { 99 } else { i32::MAX },
+        alignment: 0,
     }
 }
 
-/// Adds sixty-four cells.
-fn push_cells(bytes: &mut Vec<u8>) -> Result<(), AllocError> {
+/// Sixty-four cells.
+fn all_cells(alloc: Global) -> Result<Vec<Cell>, AllocError> {
+    let mut cells = Vec::new(alloc);
     for location in 8..76 {
         if is_cell(location) {
-            push_cell(bytes, location)?;
+            let range = cell_range(location);
+            cells.push(Cell { location, range })?;
         }
     }
-    Ok(())
+    Ok(cells)
 }
 
-/// Adds a term for each local.
-fn push_terms(bytes: &mut Vec<u8>) -> Result<(), AllocError> {
-    for local in 16..24u8 {
-        bytes.extend_from_slice(&[0, local, 0, 0, 0, 1])?;
+/// A term for each local.
+fn all_terms(alloc: Global) -> Result<Vec<Term>, AllocError> {
+    let mut terms = Vec::new(alloc);
+    for location in 16..24 {
+        terms.push(Term {
+            location,
+            coefficient: 1,
+        })?;
     }
-    Ok(())
+    Ok(terms)
 }
 
-/// Adds a row's block, with 64 cells and 8 terms or without.
-fn push_row_block(
-    bytes: &mut Vec<u8>,
+/// A block with 64 cells and 8 terms.
+fn annotated(alloc: Global, block: Block) -> Result<Block, AllocError> {
+    Ok(Block {
+        cells: Items::new(all_cells(alloc)?),
+        terms: Items::new(all_terms(alloc)?),
+        ..block
+    })
+}
+
+/// A row's block, with annotations or without.
+fn row_block(
+    alloc: Global,
     address: u32,
-    fuel: u32,
+    fuel: i64,
     is_annotated: bool,
-) -> Result<(), AllocError> {
+) -> Result<Block, AllocError> {
+    let block = bare(alloc, address, fuel);
     if is_annotated {
-        push_block(bytes, address, (64, 8), fuel)?;
-        push_cells(bytes)?;
-        push_terms(bytes)
+        annotated(alloc, block)
     } else {
-        push_block(bytes, address, (0, 0), fuel)
+        Ok(block)
     }
 }
 
-/// Adds a function with a frame of so many bytes: a first block of so many words, a block for each row, and one past them.
-fn push_row_function(
-    bytes: &mut Vec<u8>,
-    frame: u32,
+/// A first block of so many words, a block for each row, and one past them.
+fn row_blocks(
+    alloc: Global,
     first: u8,
     rows: u16,
-) -> Result<(), AllocError> {
-    let head = Head {
-        entry: CODE,
-        frame,
-        stack_room: frame,
-        budget: BUDGET,
-        blocks: rows.saturating_add(2),
-    };
-    push_function(bytes, &head)?;
-    push_block(bytes, CODE, (0, 0), BUDGET)?;
+    is_annotated: bool,
+) -> Result<Vec<Block>, AllocError> {
+    let mut blocks = vec![in alloc; bare(alloc, CODE, i64::from(BUDGET))]?;
     for done in 0..=rows {
         let address = CODE + 4 * (u32::from(first) + 15 * u32::from(done));
-        let fuel = 64 * (u32::from(rows.saturating_sub(done)) + 1);
-        push_row_block(bytes, address, fuel, frame > 0)?;
+        let fuel = 64 * (i64::from(rows) - i64::from(done) + 1);
+        blocks.push(row_block(alloc, address, fuel, is_annotated)?)?;
     }
-    Ok(())
+    Ok(blocks)
 }
 
-/// Adds a leaf function of so many blocks, at least two. Each but the first and the last ends with a branch to the last one.
-pub fn push_branches(bytes: &mut Vec<u8>, count: u16) -> Result<(), AllocError> {
+/// A leaf function of so many blocks, at least two. Each but the first and the last ends with a branch to the last one.
+pub fn branches(alloc: Global, count: u16) -> Result<Parts, AllocError> {
     let rows = count.saturating_sub(2);
-    push_header(bytes, 3 + 15 * u32::from(rows), 1)?;
-    push_words(bytes, &ROW[..1])?;
-    push_rows(bytes, rows)?;
-    push_data(bytes)?;
-    push_row_function(bytes, 0, 1, rows)
+    let mut words = vec![in alloc; ROW[0]]?;
+    add_rows(&mut words, rows)?;
+    words.extend_from_slice(&EXIT)?;
+    let blocks = row_blocks(alloc, 1, rows, false)?;
+    let function = leaf(alloc, CODE, u64::from(BUDGET), blocks);
+    whole(alloc, words, vec![in alloc; function]?)
 }
 
 /// The same with a frame, and with 64 cells and 8 terms in each block but the first.
-pub fn push_annotated(bytes: &mut Vec<u8>, count: u16) -> Result<(), AllocError> {
+pub fn cells(alloc: Global, count: u16) -> Result<Parts, AllocError> {
     let rows = count.saturating_sub(2);
-    push_header(bytes, 67 + 15 * u32::from(rows), 1)?;
-    push_opening(bytes)?;
-    push_rows(bytes, rows)?;
-    push_data(bytes)?;
-    push_row_function(bytes, FRAME, 65, rows)
+    let mut words = opening(alloc)?;
+    add_rows(&mut words, rows)?;
+    words.extend_from_slice(&EXIT)?;
+    let blocks = row_blocks(alloc, 65, rows, true)?;
+    let function = framed(leaf(alloc, CODE, u64::from(BUDGET), blocks), FRAME, FRAME);
+    whole(alloc, words, vec![in alloc; function]?)
 }

@@ -1,9 +1,9 @@
 //! The shapes of the images that are verified.
 ghost use Rattle.std.specs.Prelude.{◌≤◌};
 
-use crate::callers::push_callers;
-use crate::rows::{push_annotated, push_branches, push_straight};
-use sbx_image::{Image, ImageFault, parse};
+use crate::callers::callers;
+use crate::rows::{branches, cells, straight};
+use sbx_image::{Image, ImageFault, Parts};
 use std::alloc::{AllocError, Global};
 
 /// What an image is made of.
@@ -20,22 +20,24 @@ pub enum Shape {
 }
 
 impl Shape {
-    /// Adds the bytes of an image of so many of the shape's parts.
-    fn push(self, bytes: &mut Vec<u8>, count: u16) -> Result<(), AllocError> {
+    fn parts(self, alloc: Global, count: u16) -> Result<Parts, AllocError> {
         match self {
-            Shape::Straight => push_straight(bytes, count),
-            Shape::Branches => push_branches(bytes, count),
-            Shape::Cells => push_annotated(bytes, count),
-            Shape::Calls => push_callers(bytes, count),
+            Shape::Straight => straight(alloc, count),
+            Shape::Branches => branches(alloc, count),
+            Shape::Cells => cells(alloc, count),
+            Shape::Calls => callers(alloc, count),
         }
     }
 
     /// An image of the shape, of so many of its parts.
     pub fn image(self, alloc: Global, count: u16) -> Result<Image, ImageFault> {
-        let mut bytes = Vec::new(alloc);
-        match self.push(&mut bytes, count) {
-            Ok(()) => parse(alloc, &bytes),
-            Err(error) => Err(ImageFault::from(error)),
+        let parts = match self.parts(alloc, count) {
+            Ok(parts) => parts,
+            Err(error) => return Err(ImageFault::from(error)),
+        };
+        match Image::from_parts(parts) {
+            Ok(image) => Ok(image),
+            Err((_parts, fault)) => Err(fault),
         }
     }
 
