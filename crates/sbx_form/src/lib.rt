@@ -7,6 +7,3 @@ mod terms;
 
 pub use least::{least_term, least_terms, plus};
 pub use terms::{FormTerm, add_term, add_terms};
-
-#[cfg(test)]
-mod tests;

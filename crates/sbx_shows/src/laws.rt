@@ -28,17 +28,3 @@ pub fn saves_overflow()
 pub fn restores_underflow()
     ensures { RestoresUnderflow }
 {}
-
-#[cfg(test)]
-mod tests {
-    use super::*;
-
-    #[test]
-    fn laws_return(_rt: HostRuntime) {
-        registers_read_the_same();
-        user_turns_keep_what_is_shown();
-        annulled_turns_keep_what_is_shown();
-        saves_overflow();
-        restores_underflow();
-    }
-}

@@ -4,6 +4,3 @@
 mod walk;
 
 pub use walk::first_fault;
-
-#[cfg(test)]
-mod tests;

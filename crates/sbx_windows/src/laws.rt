@@ -7,13 +7,3 @@ ghost use Rattle.sbx_windows.specs.Runs.{RunsToItsEnd};
 pub fn runs_to_its_end()
     ensures { RunsToItsEnd }
 {}
-
-#[cfg(test)]
-mod tests {
-    use super::*;
-
-    #[test]
-    fn law_returns(_rt: HostRuntime) {
-        runs_to_its_end();
-    }
-}

@@ -17,15 +17,3 @@ pub fn get_gives_the_next_byte()
 pub fn put_puts_the_low_byte_out()
     ensures { PutLaw }
 {}
-
-#[cfg(test)]
-mod tests {
-    use super::*;
-
-    #[test]
-    fn laws_return(_rt: HostRuntime) {
-        exit_stops_the_machine();
-        get_gives_the_next_byte();
-        put_puts_the_low_byte_out();
-    }
-}
