@@ -95,6 +95,6 @@ fn main(rt: HostRuntime) -> ExitCode {
     };
     match status {
         Ok(status) => ExitCode::from(status),
-        Err(stop) => ExitCode::from(stop.report(&mut rt.stderr())),
+        Err(stop) => ExitCode::from(stop.report(&mut rt.stderr()).status),
     }
 }

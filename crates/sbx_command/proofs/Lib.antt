@@ -5,3 +5,4 @@ pub mod Streamed
 pub mod Pieces
 pub mod Sources
 pub mod Safe
+pub mod Lines

@@ -1,5 +1,6 @@
 -- What a command tells when it stops, and its exit status.
-use Rattle.std.specs.Prelude.{◌≡◌, ℕ, List, ◌++◌, codes, Ok, Err}
+use Rattle.std.specs.Prelude.{◌≡◌, ℕ, Bool, true, false, List, [], ◌∷◌, ◌++◌, codes, Ok, Err, Option}
+use Rattle.std.specs.Io.KnownBytes.{Appends}
 use Rattle.sbx_image.specs.Faults as images
 use Rattle.sbx_asm.specs.Faults as sources
 use Rattle.sbx_rules.specs.Causes as rules
@@ -12,6 +13,7 @@ use Rattle.sbx_asm.specs.declared.fault.AsmFault.{AsmFault}
 use Rattle.sbx_asm.specs.Meaning.{source_image}
 use Rattle.sbx_stream.specs.RunFault.{RunFault}
 use Rattle.sbx_stream.specs.RunFault.TheVariants as runs
+use Rattle.sbx_put.specs.Fronts.{WroteSome}
 use Rattle.sbx_rules.specs.Verdicts.{IsFirst}
 use Rattle.sbx_image.specs.Parts.{Parts}
 use Rattle.sbx_command.specs.declared.stops.Full.{Full}
@@ -87,6 +89,14 @@ line_of Input = codes "input"
 line_of Output = codes "output"
 line_of (Memory want) = codes "memory"
 line_of (NoRoom full) = codes "memory"
+
+abbrev pub whole_line : Stop → List ℕ
+whole_line stop = line_of stop ++ 10 ∷ []
+
+-- Standard error got the line of a stop: the whole line where it took all, else the first bytes.
+abbrev pub Told : Stop → Bool → Option (List ℕ) → Option (List ℕ) → Type 0
+Told stop true old new = Appends old new (whole_line stop)
+Told stop false old new = WroteSome old new (whole_line stop)
 
 -- want of memory is told as such, whichever part met it
 abbrev pub stop_of_image : ImageFault → Stop

@@ -1,12 +1,13 @@
 //! A command from its job to its exit status.
-ghost use Rattle.std.specs.Prelude.{◌≡◌, ◌<◌, ◌≤◌, IfErr, IfOk, IfSome};
+ghost use Rattle.std.specs.Prelude.{◌≡◌, ◌<◌, ◌≤◌, IfErr, IfOk, IfSome, true};
+ghost use Rattle.sbx_command.specs.Stops.{Told};
 ghost use Rattle.sbx_command.specs.Verdicts.{Deserves, Gave, IsBefore, IsTold, LeftBy, StopsFor};
 
 use crate::assembling::assemble_file;
 use crate::jobs::Job;
 use crate::listing::list_file;
 use crate::running::run_file;
-use crate::stops::Stop;
+use crate::stops::{Ended, Stop};
 use crate::tracing::trace_file;
 use crate::verifying::verify_file;
 use std::alloc::Global;
@@ -51,7 +52,7 @@ fn perform<F: Read, I: Read, O: Write>(
     }
 }
 
-/// Does a job and gives its exit status; what the system opened for it is passed in: the file that the job reads,
+/// Does a job and gives its exit status, and whether a stop was told on standard error; what the system opened for it is passed in: the file that the job reads,
 /// standard input, where its result goes, and standard error. The result of an assembly goes to a writer in memory, so
 /// that the object file is opened only where the status is 0.
 pub fn command<F: Read, I: Read, O: Write, E: Write>(
@@ -61,29 +62,31 @@ pub fn command<F: Read, I: Read, O: Write, E: Write>(
     input: &mut I,
     out: &mut O,
     err: &mut E,
-) -> u8
-    ensures range { result < 6 }
+) -> Ended
+    ensures range { result.status < 6 }
 
     // A job is done only with bytes that deserve it.
-    ensures done { result < 2 → IfSome (F.remaining file.old) (Deserves job.now) }
+    ensures done { result.status < 2 → IfSome (F.remaining file.old) (Deserves job.now) }
 
     // A run puts out what its image does on the bytes that it has read of the input, whatever comes after them, and has the status of its
     // exit word: a law says what that is on an input that is known whole. A trace puts out the lines of the image's turns on the input.
-    ensures ran { result < 2 → Gave job.now (F.remaining file.old) (I.remaining input.old) (I.remaining input.new)
-        (O.contents out.old) (O.contents out.new) result }
+    ensures ran { result.status < 2 → Gave job.now (F.remaining file.old) (I.remaining input.old) (I.remaining input.new)
+        (O.contents out.old) (O.contents out.new) result.status }
 
-    // Any other status is that of a stop that tells what is so. Bytes that are refused don't deserve the job, and a refusal takes
+    // Any other status is that of a stop that tells what is so, and whose line is on standard error: all of it, or the first bytes where
+    // standard error failed. Bytes that are refused don't deserve the job, and a refusal takes
     // no input and puts nothing out. A job that stops otherwise has put out the first bytes of what it puts out when it is done, a run
     // those of what its image puts out on every input that begins with the bytes read.
-    ensures stopped { 2 ≤ result → StopsFor job.now (F.remaining file.old) ((input.new ≡ input.old) × (out.new ≡ out.old))
-        (LeftBy job.now (F.remaining file.old) (I.remaining input.old) (I.remaining input.new) (O.contents out.old) (O.contents out.new))
-        result }
+    ensures stopped { 2 ≤ result.status → StopsFor job.now (F.remaining file.old) ((input.new ≡ input.old) × (out.new ≡ out.old))
+        (λ stop. LeftBy job.now (F.remaining file.old) (I.remaining input.old) (I.remaining input.new)
+        (O.contents out.old) (O.contents out.new) stop × Told stop result.told (E.contents err.old) (E.contents err.new))
+        result.status }
 
     // A job that is done says nothing on standard error.
-    ensures quiet { result < 2 → err.new ≡ err.old }
+    ensures quiet { result.status < 2 → (err.new ≡ err.old) × (result.told ≡ true) }
 {
     match perform(alloc, job, file, input, out) {
-        Ok(status) => status,
+        Ok(status) => Ended { status, told: true },
         Err(stop) => stop.report(err),
     }
 }

@@ -20,4 +20,4 @@ pub use counts::Windows;
 pub use images::image_in;
 pub use jobs::{Job, MOST_TURNS, decimal, turns, window_count};
 pub use reading::{ReadFault, read_whole};
-pub use stops::{Full, Stop};
+pub use stops::{Ended, Full, Stop};

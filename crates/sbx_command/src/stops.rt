@@ -1,11 +1,14 @@
 //! Why a command stops, its line on standard error and its exit status.
-ghost use Rattle.std.specs.Prelude.{◌≡◌, ◌≢◌, ◌↔◌, ◌++◌, ◌∷◌, [], IsSome, OnOk, Some};
+ghost use Rattle.std.specs.Prelude.{◌≡◌, ◌≢◌, ◌↔◌, IsSome, OnErr, OnOk, Some};
 ghost use Rattle.std.specs.Io.KnownBytes.{Appends};
 ghost use Rattle.std.specs.IoError.{error_kind};
-ghost use Rattle.sbx_command.specs.Stops.{HasNoRoom, line_of, status_of, stop_of_image, stop_of_run, stop_of_source};
+ghost use Rattle.sbx_put.specs.Fronts.{WroteSome};
+ghost use Rattle.sbx_command.specs.Stops.{HasNoRoom, Told, line_of, status_of, stop_of_image, stop_of_run, stop_of_source, whole_line};
 
+use arrayvec::ArrayString;
 use sbx_asm::{AsmFault, Cause};
 use sbx_image::ImageFault;
+use sbx_put::put_all;
 use sbx_stream::{Refusal, RunFault};
 use std::fmt::{self, Display, Formatter, Write};
 use std::io::{self, ErrorKind};
@@ -31,6 +34,18 @@ pub enum Stop {
     /// There was no room for a file or a stream.
     NoRoom(Full),
 }
+
+/// How a command ended.
+#[derive(Clone, Copy, Debug, PartialEq, Eq)]
+pub struct Ended {
+    /// The exit status.
+    pub status: u8,
+    /// Whether standard error took all that was told: nothing of a job that is done, the whole line of a stop.
+    pub told: bool,
+}
+
+/// Room for the longest line of a stop.
+type Line = ArrayString<64>;
 
 /// The evidence that there was no room for a file or a stream. It is made of an error of the kind `OutOfMemory`, and of nothing else.
 #[derive(Clone, Copy, Debug, PartialEq, Eq)]
@@ -73,19 +88,28 @@ impl Stop {
         }
     }
 
-    /// Writes its line.
+    /// Writes its line. Where the writer fails it has the first bytes.
     pub fn tell<E: io::Write>(self, err: &mut E) -> io::Result<()>
-        ensures { OnOk result (Appends (E.contents err.old) (E.contents err.new) (line_of self ++ 10 ∷ [])) }
+        ensures whole { OnOk result (Appends (E.contents err.old) (E.contents err.new) (whole_line self)) }
+        ensures part { OnErr result (WroteSome (E.contents err.old) (E.contents err.new) (whole_line self)) }
     {
-        writeln!(err, "{self}")
+        let mut line = Line::new();
+        match writeln!(line, "{self}") {
+            Ok(()) => put_all(err, line.as_str().as_bytes()),
+            Err(error) => Err(io::Error::from(error)),
+        }
     }
 
-    /// Tells it on standard error, whose own faults change nothing, and gives the exit status.
-    pub fn report<E: io::Write>(self, err: &mut E) -> u8
-        ensures { result ≡ status_of self }
+    /// Tells it on standard error, whose own faults don't change the exit status.
+    pub fn report<E: io::Write>(self, err: &mut E) -> Ended
+        ensures status { result.status ≡ status_of self }
+        ensures told { Told self result.told (E.contents err.old) (E.contents err.new) }
     {
-        let _ = self.tell(err);
-        self.status()
+        let told = self.tell(err).is_ok();
+        Ended {
+            status: self.status(),
+            told,
+        }
     }
 }
 

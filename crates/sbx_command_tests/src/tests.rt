@@ -1,10 +1,13 @@
 //! Commands on bytes that are or aren't images, over readers and writers that fail at one call.
 mod chain;
 mod sources;
+mod stops;
 mod streams;
 
 use arrayvec::ArrayVec;
-use sbx_command::{Job, ReadFault, Windows, command, decimal, read_whole, turns, window_count};
+use sbx_command::{
+    Ended, Job, ReadFault, Windows, command, decimal, read_whole, turns, window_count,
+};
 use std::alloc::Global;
 use std::io::{self, Read, Write};
 
@@ -158,10 +161,10 @@ struct Case<'a> {
     err: &'a [u8],
 }
 
-/// What a command told: its status and its two outputs.
+/// What a command told: how it ended, and its two outputs.
 #[derive(Drop)]
 struct Told {
-    status: u8,
+    ended: Ended,
     out: Writer,
     err: Writer,
 }
@@ -174,12 +177,12 @@ impl Told {
         let mut input = Reader::new(b"abc", input_fails);
         let mut out = Writer::new(out_fails);
         let mut err = Writer::new(0);
-        let status = command(alloc, job, &mut file, &mut input, &mut out, &mut err);
-        Told { status, out, err }
+        let ended = command(alloc, job, &mut file, &mut input, &mut out, &mut err);
+        Told { ended, out, err }
     }
 
     fn is_want_of_memory(&self) -> bool {
-        self.status == 5 && self.err.kept.as_slice() == MEMORY
+        self.ended.status == 5 && self.err.kept.as_slice() == MEMORY
     }
 }
 
@@ -202,8 +205,13 @@ fn answer_of(alloc: Global, job: &Job<'_>, file: &[u8], fails: [usize; 3]) -> To
 /// Whether the command answers as it has to; where its job is done, what it put out has to be flushed.
 fn is_answered(alloc: Global, case: &Case<'_>) -> bool {
     let told = answer_of(alloc, case.job, case.file, case.fails);
-    told.status == case.status
-        && (told.status > 1 || told.out.flushed)
+    let Ended {
+        status,
+        told: is_whole,
+    } = told.ended;
+    status == case.status
+        && is_whole
+        && (status > 1 || told.out.flushed)
         && told.out.kept.as_slice() == case.out
         && told.err.kept.as_slice() == case.err
 }

@@ -47,7 +47,7 @@ struct Done {
 fn performed(rt: &HostRuntime, job: &Job<'_>, mut file: &[u8], mut input: &[u8]) -> Done {
     let mut out = Vec::new(rt.alloc());
     let mut err = Vec::new(rt.alloc());
-    let status = command(rt.alloc(), job, &mut file, &mut input, &mut out, &mut err);
+    let status = command(rt.alloc(), job, &mut file, &mut input, &mut out, &mut err).status;
     Done { status, out, err }
 }
 

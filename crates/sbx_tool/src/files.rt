@@ -23,7 +23,7 @@ pub fn done_on<I: Read, O: Write>(
     out: &mut O,
 ) -> Result<u8, Stop> {
     let mut file = opened(rt, path)?;
-    Ok(command(rt.alloc(), job, &mut file, input, out, &mut rt.stderr()))
+    Ok(command(rt.alloc(), job, &mut file, input, out, &mut rt.stderr()).status)
 }
 
 /// Whether two paths have the same plain file.

@@ -56,7 +56,7 @@ fn done(alloc: Global, job: &Job<'_>, file: &[u8]) -> Option<Vec<u8>> {
     let mut input: &[u8] = b"";
     let mut out = Vec::new(alloc);
     let mut err = Vec::new(alloc);
-    match command(alloc, job, &mut file, &mut input, &mut out, &mut err) {
+    match command(alloc, job, &mut file, &mut input, &mut out, &mut err).status {
         0 => Some(out),
         _ => None,
     }

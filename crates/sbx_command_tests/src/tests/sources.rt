@@ -74,7 +74,7 @@ fn is_full_told(alloc: Global) -> bool {
     let mut file = Reader::new(SOURCE, 0);
     let mut input = Reader::new(b"", 0);
     let mut err = Writer::new(0);
-    let status = command(alloc, &ASM, &mut file, &mut input, &mut Full, &mut err);
+    let status = command(alloc, &ASM, &mut file, &mut input, &mut Full, &mut err).status;
     status == 5 && err.kept.as_slice() == MEMORY
 }
 

@@ -107,7 +107,7 @@ fn conversed(alloc: Global) -> (u8, usize) {
     };
     let mut out = Ear { heard: &heard };
     let mut err = Writer::new(0);
-    let status = command(alloc, &RUN, &mut file, &mut input, &mut out, &mut err);
+    let status = command(alloc, &RUN, &mut file, &mut input, &mut out, &mut err).status;
     (status, heard.get())
 }
 

@@ -15,4 +15,5 @@ pub returns-in-Ok-clause-stopped : goal.returns-in-Ok-clause-stopped
 returns-in-Ok-clause-stopped g c = search rules
 
 pub returns-in-Err-clause-stopped : goal.returns-in-Err-clause-stopped
-returns-in-Err-clause-stopped g c = λ late. stops_for _ _ _ _ c.in-Err.stop _ c.report.ensures (search rules) (search rules) c.in-Err.ensures.left
+returns-in-Err-clause-stopped g c = λ late. stops_for _ _ _ _ c.in-Err.stop _ c.report.ensures.status (search rules) (search rules)
+    (c.in-Err.ensures.left, c.report.ensures.told)
