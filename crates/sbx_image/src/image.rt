@@ -1,10 +1,10 @@
 //! Parts that keep every limit and order of the format.
 ghost use Rattle.std.specs.Prelude.{◌≡◌, ◌≤◌, length, All, Ok, Err, IfOk, IfErr};
 ghost use Rattle.sbx_image.specs.Spelling.{IsCountedFunction, IsTyped};
-ghost use Rattle.sbx_parts.specs.Regions.{IsSized, byte_count, holds, page_rights};
+ghost use Rattle.sbx_parts.specs.Regions.{IsSized, byte_count, holds, page_rights, start_of};
 ghost use Rattle.sbx_parts.specs.Rules.{parts_keep};
 
-use sbx_parts::{Function, ImageFault, Parts, Region, Services, byte_count, holds};
+use sbx_parts::{Function, ImageFault, Parts, Region, Services, byte_count, holds, start_of};
 use std::marker::Model;
 
 /// An image: parts that keep every limit and order of the format. Contracts see the parts.
@@ -106,6 +106,13 @@ impl Image {
         ensures sizes { All IsSized self.now.regions }
     {
         self.parts.regions.as_slice()
+    }
+
+    /// The address of the first byte of the region with a number, counted from 0; nothing where there are not so many regions.
+    pub fn region_start(&self, index: usize) -> Option<u32>
+        ensures { result ≡ start_of self.now.regions index }
+    {
+        start_of(self.parts.regions.as_slice(), index)
     }
 
     /// Whether one region has all bytes from the address `low` up to but not at `high`, and may be written where `writes` is set.

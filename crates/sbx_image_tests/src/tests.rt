@@ -620,6 +620,55 @@ fn parts_of_data(rt: HostRuntime) {
     }
 }
 
+/// Sizes of regions, and the addresses where they begin: the first with the data, each next one behind the last page before it.
+const STARTS: [(&[(usize, bool)], &[u32]); 5] = [
+    (&[], &[]),
+    (&[(8, false), (8, true)], &[0x80000, 0x81000]),
+    (
+        &[(4096, true), (4104, false), (8, true)],
+        &[0x80000, 0x81000, 0x83000],
+    ),
+    (&[(258_048, true), (4096, false)], &[0x80000, 0xBF000]),
+    (
+        &[(32_768, false); 8],
+        &[
+            0x80000, 0x88000, 0x90000, 0x98000, 0xA0000, 0xA8000, 0xB0000, 0xB8000,
+        ],
+    ),
+];
+
+/// Whether the regions of an image begin at these addresses, and no region stands behind them.
+fn begin_at(image: &Image, starts: &[u32]) -> bool {
+    starts
+        .iter()
+        .enumerate()
+        .all(|(index, start)| image.region_start(index) == Some(*start))
+        && image.region_start(starts.len()).is_none()
+        && image.region_start(usize::MAX).is_none()
+}
+
+/// Whether regions of these sizes begin at these addresses. Where a growth was refused, they are made once more.
+fn are_begun(alloc: Global, sizes: &[(usize, bool)], starts: &[u32]) -> bool {
+    let made = match parts_with_data(alloc, 2, 0, sizes) {
+        Ok(parts) => Ok(parts),
+        Err(_) => parts_with_data(alloc, 2, 0, sizes),
+    };
+    let Ok(parts) = made else {
+        return false;
+    };
+    match Image::from_parts(parts) {
+        Ok(image) => begin_at(&image, starts),
+        Err((_parts, _fault)) => false,
+    }
+}
+
+#[test]
+fn regions_begin_with_pages(rt: HostRuntime) {
+    for (sizes, starts) in STARTS {
+        assert!(rt; are_begun(rt.alloc(), sizes, starts), "{sizes:?}");
+    }
+}
+
 /// Two regions of 8 bytes, of which the first may be read alone.
 const REGIONS: [u8; 116] = [
     0x53, 0x42, 0x58, 0x38, 0, 2, 0, 5, 0, 0, 0, 7, 0, 2, 0, 1, 0, 1, // header

@@ -47,6 +47,14 @@ placed_from start (r ∷ rs) = record { address = start; bytes = r.bytes; writab
 abbrev pub placed : List Region → List Placed
 placed regions = placed_from data_start regions
 
+-- the address of the first byte of the region with a number, counted from 0
+abbrev pub start_in : Option Placed → Option ℕ
+start_in None = None
+start_in (Some r) = Some r.address
+
+abbrev pub start_of : List Region → ℕ → Option ℕ
+start_of regions index = start_in (slice_get (placed regions) index)
+
 -- ---- the byte at an address, which is a region's own
 
 abbrev pub or_else : Option ℕ → Option ℕ → Option ℕ

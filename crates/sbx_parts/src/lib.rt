@@ -16,5 +16,5 @@ pub use fault::ImageFault;
 pub use items::Items;
 pub use order::{Next, admits, is_coefficient, is_fuel};
 pub use parts::{Block, Cell, Function, Kind, Parts, Range, Region, Term};
-pub use regions::{behind, byte_count, holds, is_length_behind, pages_for};
+pub use regions::{behind, byte_count, holds, is_length_behind, pages_for, start_of};
 pub use services::{Services, services_of};

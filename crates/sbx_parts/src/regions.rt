@@ -1,6 +1,6 @@
 //! Where the regions of data lie, and what they hold.
 ghost use Rattle.std.specs.Prelude.{◌≡◌, ◌≤◌, length};
-ghost use Rattle.sbx_parts.specs.Regions.{behind, byte_count, holds, page_rights, pages_for, region_holds};
+ghost use Rattle.sbx_parts.specs.Regions.{behind, byte_count, holds, page_rights, pages_for, region_holds, start_of};
 ghost use Rattle.sbx_parts.specs.Rules.{is_length_behind};
 
 use crate::parts::Region;
@@ -53,6 +53,23 @@ pub fn holds(regions: &[Region], low: i64, high: i64, writes: bool) -> bool
         start = behind(start, region);
     }
     false
+}
+
+/// The address of the first byte of the region with a number, counted from 0; nothing where there are not so many regions.
+pub fn start_of(regions: &[Region], index: usize) -> Option<u32>
+    requires { length (page_rights regions.now) ≤ 64 }
+    ensures { result ≡ start_of regions.now index }
+{
+    let mut start = DATA_START;
+    let mut before = index;
+    for region in regions {
+        if before == 0 {
+            return Some(start);
+        }
+        start = behind(start, region);
+        before -= 1;
+    }
+    None
 }
 
 /// How many bytes all regions have.
