@@ -1,4 +1,5 @@
 pub mod Turns
+pub mod LateRows
 pub use Rattle.v8_mmu.proofs.RamLemmas
 pub use Rattle.v8_mmu.proofs.RamNumbers
 pub use Rattle.v8_mmu.proofs.RamMore

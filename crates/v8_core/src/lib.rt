@@ -3,6 +3,7 @@
 
 mod access;
 mod execution;
+mod late;
 mod machine;
 mod step;
 mod turn;
