@@ -1,5 +1,5 @@
 -- The stages give what a source means.
-use Rattle.std.proofs.Common.{◌≡◌, ℕ, ◌+◌, Bool, true, false, cond, List, [], ◌∷◌, ◌++◌, length, map, Option, None, Some, Result, Ok, Err, refl, sym, ap, ◌∙◌, arith}
+use Rattle.std.proofs.Common.{◌≡◌, ℕ, ◌+◌, Bool, true, false, cond, List, [], ◌∷◌, length, map, Option, None, Some, Result, Ok, Err, refl, sym, ap, ◌∙◌, arith}
 use Rattle.std.specs.Option.{is_some}
 use Rattle.std.specs.List.{fold}
 use Rattle.std.proofs.lemmas.Bool.{true≢false}
@@ -7,7 +7,6 @@ use Rattle.std.proofs.lemmas.List.{length-map}
 use Rattle.sbx_text.specs.declared.Token.{Token}
 use Rattle.sbx_text.specs.declared.fault.TextFault.{TextFault}
 use Rattle.sbx_text.specs.Tokens.{tokens_of}
-use Rattle.sbx_image.specs.Parts.{Parts}
 use Rattle.sbx_asm.specs.declared.fault.AsmFault.{AsmFault}
 use Rattle.sbx_asm.specs.declared.draft.Draft.{Draft}
 use Rattle.sbx_asm.specs.Faults.{is_earlier, told}
@@ -16,7 +15,7 @@ use Rattle.sbx_asm.specs.Items.{Item, read_line, item_of, numbered, each, all_li
 use Rattle.sbx_asm.specs.Addresses.{all_labels, values_of}
 use Rattle.sbx_asm.specs.Rules.{Values, duplicates, faults_at, faults_of, least_of}
 use Rattle.sbx_asm.specs.Images.{version_with, image_of}
-use Rattle.sbx_asm.specs.Meaning.{judged, meaning_of, source_image}
+use Rattle.sbx_asm.specs.Meaning.{judged, source_image}
 use Rattle.sbx_asm.specs.Stages.Drafts.{draft_line, draft_tokens, behind_labels, numbered_line, empty_draft, closed}
 use Rattle.sbx_asm.specs.Stages.Whole.{labels_in, draft_in, parts_in, image_made}
 use Rattle.sbx_asm.proofs.Labelling.{labels_are, labels_told, fold_append}

@@ -25,7 +25,7 @@ use Rattle.sbx_image.specs.Services.{Services}
 use Rattle.sbx_image.specs.Region.{Region}
 use Rattle.sbx_image.specs.Regions.{AreBytes}
 use Rattle.sbx_image.specs.Rules.{parts_keep}
-use Rattle.sbx_image.specs.Spelling.{IsTyped, IsTypedRange, IsTypedCell, IsTypedTerm, IsTypedBlock, IsTypedFunction, IsTypedRegion, IsBytes}
+use Rattle.sbx_image.specs.Spelling.{IsTyped, IsTypedRange, IsTypedCell, IsTypedTerm, IsTypedBlock, IsTypedFunction, IsTypedRegion}
 use Rattle.sbx_directives.specs.declared.directive.Width.{Width}
 use Rattle.sbx_directives.specs.declared.directive.Keyword.{Keyword}
 use Rattle.sbx_directives.specs.declared.directive.Keyword.TheVariants as keywords
@@ -53,7 +53,7 @@ use Rattle.sbx_asm.specs.Lines.{lines_of}
 use Rattle.sbx_asm.specs.Items.{all_lines}
 use Rattle.sbx_asm.specs.Images.{filled, region_with, version_with}
 use Rattle.sbx_asm.specs.Addresses.{padding_of, section_room}
-use Rattle.sbx_asm.specs.Meaning.{kept, judged, source_image}
+use Rattle.sbx_asm.specs.Meaning.{kept, judged}
 use Rattle.sbx_asm.specs.Stages.Whole.{labels_in, draft_in, parts_in, image_made}
 use Rattle.sbx_asm.specs.Laws.{MeantImagesFitTheirFields}
 use Rattle.sbx_asm.proofs.Wholes.{append_all, copies_all, fold_all}

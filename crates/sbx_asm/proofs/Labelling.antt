@@ -1,16 +1,14 @@
 -- What labels are worth, as the stages find it: the address of the first label of a name.
-use Rattle.std.proofs.Common.{◌≡◌, ℕ, zero, suc, ◌+◌, ◌*◌, Bool, true, false, cond, List, [], ◌∷◌, ◌++◌, drop, map, Option, None, Some, Result, Ok, Err, refl, sym, ap, ◌∙◌, arith, append_assoc, subst}
+use Rattle.std.proofs.Common.{◌≡◌, ℕ, ◌*◌, Bool, true, false, cond, List, [], ◌∷◌, ◌++◌, drop, map, Option, None, Some, Result, Ok, Err, refl, sym, ap, ◌∙◌, append_assoc}
 use Rattle.std.specs.Prelude.{◌||◌}
 use Rattle.std.specs.Option.{is_some}
 use Rattle.std.specs.List.{fold, list_any}
-use Rattle.std.specs.Map.{update}
 use Rattle.std.specs.Str.{bytes_eq}
 use Rattle.std.proofs.lemmas.List.{append-nil}
 use Rattle.std.proofs.lemmas.Slice.Eq.{bytes_eq-Decides}
 use Rattle.sbx_text.specs.declared.Token.{Token}
 use Rattle.sbx_text.specs.declared.fault.TextFault.{TextFault}
 use Rattle.sbx_text.specs.Tokens.{tokens_of}
-use Rattle.sbx_directives.specs.declared.directive.Name.{Name}
 use Rattle.sbx_directives.specs.declared.directive.Directive.TheVariants as directives
 use Rattle.sbx_directives.specs.declared.directive.Statement.{Statement}
 use Rattle.sbx_directives.specs.declared.directive.Statement.TheVariants as statements
@@ -20,12 +18,11 @@ use Rattle.sbx_asm.specs.declared.fault.AsmFault.{AsmFault}
 use Rattle.sbx_asm.specs.declared.fault.Cause.TheVariants as causes
 use Rattle.sbx_asm.specs.declared.place.Place.{Place}
 use Rattle.sbx_asm.specs.Faults.{told, at}
-use Rattle.sbx_asm.specs.Lines.{lines_of}
-use Rattle.sbx_asm.specs.Items.{Item, Said, label_names, read_line, item_of, each, all_lines, items_of}
-use Rattle.sbx_asm.specs.Addresses.{Label, code_address, address_in_section, section_after, name_or_none, names_said, labelled, labels_at, all_labels, worth_in, values_of}
+use Rattle.sbx_asm.specs.Items.{Item, label_names, read_line, item_of, each, all_lines, items_of}
+use Rattle.sbx_asm.specs.Addresses.{Label, code_address, address_in_section, section_after, names_said, labelled, labels_at, all_labels, worth_in, values_of}
 use Rattle.sbx_asm.specs.Rules.{Values, is_called, told_again, duplicates, least_of}
-use Rattle.sbx_asm.specs.Stages.Places.{address, with_code, place_after}
-use Rattle.sbx_asm.specs.Stages.Labels.{Labels, with_label, added_to, add, add_here, names_of, survey_statement, survey_tokens, survey_line, no_lines}
+use Rattle.sbx_asm.specs.Stages.Places.{address, place_after}
+use Rattle.sbx_asm.specs.Stages.Labels.{Labels, with_label, added_to, add, add_here, names_of, survey_statement, survey_tokens, survey_line}
 use Rattle.sbx_asm.specs.Stages.Whole.{labels_in}
 use Rattle.sbx_asm.proofs.Tables.{same_values}
 use Rattle.sbx_asm.proofs.Standing.{place_of, stands, in_section}

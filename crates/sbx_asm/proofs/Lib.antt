@@ -18,5 +18,8 @@ mod Making
 mod Agreement
 mod Meanings
 mod Numbering
+mod ValueCounts
+mod Lying
+mod Beginning
 mod Worked
 pub mod Fitting

@@ -1,14 +1,14 @@
 -- What the stages make of lines without faults is the image of the lines.
-use Rattle.std.proofs.Common.{◌≡◌, ℕ, ◌+◌, ◌*◌, Bool, true, false, cond, ltb, leb, ℤ, pos, List, [], ◌∷◌, ◌++◌, length, map, Option, None, Some, Result, Ok, Err, refl, sym, ap, ◌∙◌, append_assoc, arith}
-use Rattle.std.specs.Prelude.{not, ◌&&◌, ◌||◌, nat_lt, nat_le, replicate, if◌then◌else◌}
+use Rattle.std.proofs.Common.{◌≡◌, ℕ, ◌*◌, Bool, true, false, cond, ℤ, pos, List, [], ◌∷◌, ◌++◌, length, map, Option, None, Some, Result, Ok, Err, refl, sym, ap, ◌∙◌, append_assoc}
+use Rattle.std.specs.Prelude.{not, ◌||◌, nat_lt, nat_le, replicate}
 use Rattle.std.specs.Option.{is_some, unwrap_or}
 use Rattle.std.specs.List.{fold, list_any, flat_map}
-use Rattle.std.proofs.lemmas.List.{append-nil, map-append}
+use Rattle.std.proofs.lemmas.List.{append-nil}
 use Rattle.sbx_text.specs.declared.Token.{Token}
 use Rattle.v8_formats.specs.declared.instr.Instr.{Instr}
 use Rattle.v8_formats.specs.Spelling.{spelling}
 use Rattle.v8_syntax.specs.declared.fault.SyntaxFault.{SyntaxFault}
-use Rattle.v8_syntax.specs.Statements.{source_meaning, statement_length}
+use Rattle.v8_syntax.specs.Statements.{source_meaning}
 use Rattle.sbx_image.specs.Range.{Range}
 use Rattle.sbx_image.specs.Cell.{Cell}
 use Rattle.sbx_image.specs.Term.{Term}
@@ -25,15 +25,14 @@ use Rattle.sbx_directives.specs.declared.directive.Statement.TheVariants as stat
 use Rattle.sbx_directives.specs.declared.fault.DataFault.{DataFault}
 use Rattle.sbx_directives.specs.declared.fault.DataFault.TheVariants as data_faults
 use Rattle.sbx_directives.specs.Data.{data_of, bytes_of_width}
-use Rattle.sbx_asm.specs.declared.fault.AsmFault.{AsmFault}
 use Rattle.sbx_asm.specs.declared.fault.Cause.{Cause}
 use Rattle.sbx_asm.specs.declared.fault.Cause.TheVariants as causes
 use Rattle.sbx_asm.specs.declared.opening.Head.{Head}
 use Rattle.sbx_asm.specs.declared.draft.Draft.{Draft}
-use Rattle.sbx_asm.specs.Faults.{told, at}
-use Rattle.sbx_asm.specs.Items.{Item, Said, each, up_to, ends_function, is_region, is_block, ends_block, in_function, begins_block, params, results, cells, terms}
+use Rattle.sbx_asm.specs.Faults.{at}
+use Rattle.sbx_asm.specs.Items.{Item, Said, each, up_to, ends_function, is_region, ends_block, in_function, params, results, cells, terms}
 use Rattle.sbx_asm.specs.Addresses.{code_address, data_offset, padding_of, fits_behind, section_after, section_room}
-use Rattle.sbx_asm.specs.Rules.{Values, when, is_code, in_place, range_rules, cell_rules, term_rules, data_rules, value_rules, block_rules, another_block, takes_annotations, takes_ranges, has_fuel, line_rules, own_faults, empty_block, empty_region, faults_at}
+use Rattle.sbx_asm.specs.Rules.{Values, when, is_code, in_place, data_rules, block_rules, takes_annotations, takes_ranges, has_fuel, line_rules, own_faults, empty_block, empty_region, faults_at}
 use Rattle.sbx_asm.specs.Images.{first_or, fuels, block_with, block_at, function_at, words_meant, bytes_meant, filled, region_with, words_at, bytes_at, region_at, services, stacks}
 use Rattle.sbx_asm.specs.Stages.Places.{has_room}
 use Rattle.sbx_asm.specs.Stages.Drafts as stages
@@ -45,10 +44,10 @@ use Rattle.sbx_asm.proofs.Turning.{item_does, item_stands, item_follows}
 
 -- ---- lists
 
-cons_nil : {A B : Type 0} {x : A} {xs : List A} → x ∷ xs ≡ [] → B
+pub cons_nil : {A B : Type 0} {x : A} {xs : List A} → x ∷ xs ≡ [] → B
 cons_nil h = absurd (cc)
 
-nil_left : {A : Type 0} (xs ys : List A) → xs ++ ys ≡ [] → xs ≡ []
+pub nil_left : {A : Type 0} (xs ys : List A) → xs ++ ys ≡ [] → xs ≡ []
 nil_left [] ys h = refl
 nil_left (x ∷ xs) ys h = cons_nil h
 
@@ -56,7 +55,7 @@ pub nil_right : {A : Type 0} (xs ys : List A) → xs ++ ys ≡ [] → ys ≡ []
 nil_right [] ys h = h
 nil_right (x ∷ xs) ys h = cons_nil h
 
-nil_map : {A B : Type 0} (f : A → B) (xs : List A) → map f xs ≡ [] → xs ≡ []
+pub nil_map : {A B : Type 0} (f : A → B) (xs : List A) → map f xs ≡ [] → xs ≡ []
 nil_map f [] h = refl
 nil_map f (x ∷ xs) h = cons_nil h
 

@@ -14,15 +14,15 @@ use Rattle.sbx_image.specs.ImageFault.{ImageFault}
 use Rattle.sbx_image.specs.Parts.{Parts}
 use Rattle.sbx_image.specs.Rules.{parts_keep}
 use Rattle.sbx_directives.specs.declared.directive.Statement.TheVariants as statements
-use Rattle.sbx_directives.specs.Lines.{label_count, labels_first}
+use Rattle.sbx_directives.specs.Lines.{labels_first}
 use Rattle.sbx_directives.specs.Directives.{statement_of}
 use Rattle.sbx_asm.specs.declared.fault.AsmFault.{AsmFault}
 use Rattle.sbx_asm.specs.declared.fault.Cause.TheVariants as causes
 use Rattle.sbx_asm.specs.declared.opening.Head.{Head}
 use Rattle.sbx_asm.specs.declared.place.Place.{Place}
 use Rattle.sbx_asm.specs.declared.draft.Draft.{Draft}
-use Rattle.sbx_asm.specs.Faults.{at, told, is_earlier, rank}
-use Rattle.sbx_asm.specs.Items.{Item, Said, label_names, read_line, item_of, items_of, each, behind}
+use Rattle.sbx_asm.specs.Faults.{at, told, is_earlier}
+use Rattle.sbx_asm.specs.Items.{Item, Said, label_names, read_line, items_of, each, behind}
 use Rattle.sbx_asm.specs.Addresses.{Label, labels_at, all_labels, worth_in, values_of, code_address, address_in_section, section_after, labelled, names_said}
 use Rattle.sbx_asm.specs.Rules.{Values, when, is_called, told_again, duplicates, faults_of, least_of}
 use Rattle.sbx_asm.specs.Images.{words_at, image_of}
@@ -45,7 +45,7 @@ kept_parts : (n : ℕ) (p parts : Parts) (r : Result (Unit {0}) ImageFault) → 
 kept_parts n p parts (Ok u) h = cc
 kept_parts n p parts (Err f) h = absurd (cc)
 
-judged_parts : (n : ℕ) (o : Option AsmFault) (p parts : Parts) → judged n o p ≡ Ok parts → (o ≡ None) × (p ≡ parts)
+pub judged_parts : (n : ℕ) (o : Option AsmFault) (p parts : Parts) → judged n o p ≡ Ok parts → (o ≡ None) × (p ≡ parts)
 judged_parts n (Some f) p parts h = absurd (cc)
 judged_parts n None p parts h = (refl, kept_parts n p parts (parts_keep p) h)
 

@@ -37,11 +37,11 @@ abbrev FitSome : Option Directive → Type 0
 FitSome o = IfSome o Fits
 
 -- one step after another, with what the first one gives, or whatever that is
-then_all : {A B : Type 0} (P : A → Type 0) (Q : B → Type 0) (o : Option A) (f : A → Option B) → IfSome o P → ((x : A) → P x → IfSome (f x) Q) → IfSome (o >>= f) Q
+pub then_all : {A B : Type 0} (P : A → Type 0) (Q : B → Type 0) (o : Option A) (f : A → Option B) → IfSome o P → ((x : A) → P x → IfSome (f x) Q) → IfSome (o >>= f) Q
 then_all P Q (Some x) f h go = go x h
 then_all P Q None f h go = tt
 
-then_any : {A B : Type 0} (Q : B → Type 0) (o : Option A) (f : A → Option B) → ((x : A) → IfSome (f x) Q) → IfSome (o >>= f) Q
+pub then_any : {A B : Type 0} (Q : B → Type 0) (o : Option A) (f : A → Option B) → ((x : A) → IfSome (f x) Q) → IfSome (o >>= f) Q
 then_any Q o f go = then_all (λ _. Unit {0}) Q o f (whatever o) (λ x _. go x)
 
 -- ---- numbers

@@ -5,9 +5,7 @@ use Rattle.std.proofs.lemmas.Bool.{cond_both, leb-true, leb-false}
 use Rattle.v8_map.specs.declared.TheConstants.{CODE_START}
 use Rattle.sbx_text.specs.declared.Token.{Token}
 use Rattle.v8_syntax.specs.Statements.{statement_length}
-use Rattle.sbx_directives.specs.declared.directive.Directive.{Directive}
 use Rattle.sbx_directives.specs.declared.directive.Directive.TheVariants as directives
-use Rattle.sbx_directives.specs.declared.directive.Statement.{Statement}
 use Rattle.sbx_directives.specs.declared.directive.Statement.TheVariants as statements
 use Rattle.sbx_directives.specs.Data.{bytes_of_width}
 use Rattle.sbx_image.specs.Regions.{pages_for}
@@ -15,7 +13,7 @@ use Rattle.sbx_asm.specs.declared.place.Section.{Section}
 use Rattle.sbx_asm.specs.declared.place.Section.TheVariants.{Code, Data}
 use Rattle.sbx_asm.specs.declared.place.Place.{Place}
 use Rattle.sbx_asm.specs.Items.{Item, Said}
-use Rattle.sbx_asm.specs.Addresses.{code_length, data_length, padding_of, code_size, data_size, section_room, up_to_room, last_start, start_behind, start_with, region_start, code_address, data_offset, section_after, address_in_section}
+use Rattle.sbx_asm.specs.Addresses.{padding_of, code_size, data_size, section_room, up_to_room, last_start, start_behind, start_with, region_start, code_address, data_offset, section_after, address_in_section}
 use Rattle.sbx_asm.specs.Stages.Places.{moved_on, with_code, with_data, address_in, place_after}
 
 -- what some lines, the nearest first, make of the place
@@ -75,7 +73,7 @@ low_with start size (Ok (statements.Directive _)) h = h
 low_with start size (Ok _) h = h
 low_with start size (Err f) h = h
 
-low : (before : List Item) → region_start before ≤ last_start
+pub low : (before : List Item) → region_start before ≤ last_start
 low [] = omega arith
 low (i ∷ before) = low_with (region_start before) (data_offset before) i.said (low before)
 

@@ -3,7 +3,7 @@ use Rattle.std.proofs.Common.{◌≡◌, ℕ, ◌+◌, ◌-◌, ◌*◌, Bool, t
 use Rattle.std.specs.Prelude.{not, ◌&&◌, ◌||◌, nat_lt, nat_le, if◌then◌else◌}
 use Rattle.std.specs.Option.{is_some}
 use Rattle.std.specs.List.{fold, list_any, flat_map}
-use Rattle.std.proofs.lemmas.List.{map-append, append-nil, length-append}
+use Rattle.std.proofs.lemmas.List.{map-append}
 use Rattle.v8_map.specs.declared.TheConstants.{CODE_START, CODE_END}
 use Rattle.sbx_text.specs.declared.Token.{Token}
 use Rattle.v8_formats.specs.declared.instr.Instr.{Instr}
@@ -14,10 +14,8 @@ use Rattle.sbx_image.specs.Cell.{Cell}
 use Rattle.sbx_image.specs.Term.{Term}
 use Rattle.sbx_image.specs.Kind.{Kind}
 use Rattle.sbx_image.specs.Services.{Services}
-use Rattle.sbx_directives.specs.declared.directive.Name.{Name}
 use Rattle.sbx_directives.specs.declared.directive.Keyword.TheVariants as keywords
 use Rattle.sbx_directives.specs.declared.directive.Directive.TheVariants as directives
-use Rattle.sbx_directives.specs.declared.directive.Statement.{Statement}
 use Rattle.sbx_directives.specs.declared.directive.Statement.TheVariants as statements
 use Rattle.sbx_directives.specs.declared.fault.DataFault.{DataFault}
 use Rattle.sbx_directives.specs.declared.fault.DataFault.TheVariants as data_faults
@@ -26,18 +24,17 @@ use Rattle.sbx_asm.specs.declared.fault.AsmFault.{AsmFault}
 use Rattle.sbx_asm.specs.declared.fault.Cause.{Cause}
 use Rattle.sbx_asm.specs.declared.fault.Cause.TheVariants as causes
 use Rattle.sbx_asm.specs.declared.opening.Head.{Head}
-use Rattle.sbx_asm.specs.declared.place.Place.{Place}
 use Rattle.sbx_asm.specs.declared.draft.Draft.{Draft}
 use Rattle.sbx_asm.specs.Faults.{told, at}
-use Rattle.sbx_asm.specs.Items.{Item, Said, up_to, count, starts_function, ends_function, is_data, is_region, leaves, leaves_region, has_bytes, is_block, ends_block, in_function, begins_block, block_count, params, results, cells, terms, ends, divides}
-use Rattle.sbx_asm.specs.Addresses.{code_offset, data_offset, data_length, padding_of, code_address, fits_behind, section_after, section_room}
-use Rattle.sbx_asm.specs.Rules.{Values, when, acts, is_code, is_unknown, takes_annotations, takes_ranges, has_fuel, last_cell, last_term, is_services, is_stack, in_place, range_rules, cell_rules, term_rules, value_rules, statement_rules, data_rules, another_region, another_block, block_rules, line_rules, empty_block}
+use Rattle.sbx_asm.specs.Items.{Item, Said, up_to, count, starts_function, ends_function, is_data, is_region, leaves, leaves_region, has_bytes, ends_block, in_function, block_count, params, results, cells, terms, ends, divides}
+use Rattle.sbx_asm.specs.Addresses.{code_offset, data_offset, padding_of, fits_behind, section_after, section_room}
+use Rattle.sbx_asm.specs.Rules.{Values, when, acts, is_code, takes_annotations, takes_ranges, has_fuel, is_services, is_stack, in_place, range_rules, cell_rules, term_rules, value_rules, statement_rules, data_rules, another_region, another_block, block_rules, line_rules}
 use Rattle.sbx_asm.specs.Stages.Places.{has_room, code_end}
 use Rattle.sbx_asm.specs.Stages.Drafts as stages
 use Rattle.sbx_asm.specs.Stages.Drafts.{close_block, close_headed, close_function, headed, open_block, begin_function, begin_block_of, begin_block, param_if, add_param, result_if, add_result, cell_if, add_cell, term_if, add_term, fuel_if, fuel_by, add_fuel, services_by, add_services, stack_by, add_stack, noted, noted_where, begun, leave_region, close_region, choose_data, begin_region, with_bytes, data_checked, with_data, with_zeros, add_values, add_zeros, instruction_checked, with_words, instruction_does, statement_does}
 use Rattle.sbx_asm.proofs.Labelling.{fold_append}
 use Rattle.sbx_asm.proofs.Standing.{item, place_of}
-use Rattle.sbx_asm.proofs.Following.{said_does, Follows, bit, capped, capped_room, capped_least, and_true, and_false, one_longer, same_annotations, same_ranges}
+use Rattle.sbx_asm.proofs.Following.{said_does, Follows, bit, capped_room, capped_least, one_longer, same_annotations, same_ranges}
 
 pub joined : (o : Option AsmFault) (n : ℕ) (cs ds : List Cause) → fold told o (map (at n) (cs ++ ds)) ≡ fold told (fold told o (map (at n) cs)) (map (at n) ds)
 joined o n cs ds = ap (fold told o) (map-append (at n) cs ds) ∙ fold_append told o (map (at n) cs) (map (at n) ds)

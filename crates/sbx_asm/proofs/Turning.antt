@@ -1,5 +1,5 @@
 -- The block that is open, from line to line: where no line of it acts, its fault is told where it began.
-use Rattle.std.proofs.Common.{◌≡◌, ◌⊎◌, inl, inr, ⊎_elim, ℕ, ◌+◌, ◌*◌, Bool, true, false, List, [], ◌∷◌, ◌++◌, map, Option, None, Some, Result, Ok, Err, refl, sym, ap, ◌∙◌, append_assoc}
+use Rattle.std.proofs.Common.{◌≡◌, ◌⊎◌, inl, inr, ℕ, ◌*◌, Bool, true, false, List, [], ◌∷◌, ◌++◌, map, Option, None, Some, Result, Ok, Err, refl, sym, ap, ◌∙◌, append_assoc}
 use Rattle.std.specs.Prelude.{not, ◌&&◌, ◌||◌, ℤ, length, nat_lt, nat_le}
 use Rattle.std.specs.Option.{is_some}
 use Rattle.std.specs.List.{fold, list_any}
@@ -27,7 +27,7 @@ use Rattle.sbx_asm.specs.declared.opening.Head.{Head}
 use Rattle.sbx_asm.specs.declared.draft.Draft.{Draft}
 use Rattle.sbx_asm.specs.Faults.{told, at}
 use Rattle.sbx_asm.specs.Items.{Item, Said, each, up_to, leaves_region, has_bytes, ends_block, in_function}
-use Rattle.sbx_asm.specs.Rules.{Values, when, acts, is_unknown, line_rules, own_faults, empty_block, empty_region, faults_at}
+use Rattle.sbx_asm.specs.Rules.{Values, when, acts, is_unknown, line_rules, empty_block, empty_region, faults_at}
 use Rattle.sbx_asm.specs.Addresses.{padding_of, section_room}
 use Rattle.sbx_asm.specs.Stages.Places.{has_room}
 use Rattle.sbx_asm.specs.Stages.Drafts as stages

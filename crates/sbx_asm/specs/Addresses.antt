@@ -1,6 +1,5 @@
 -- Where the lines of a source stand, and what their labels are worth: the start of a section and the lengths before them.
-use Rattle.std.specs.Prelude.{ℕ, ◌+◌, ◌-◌, ◌*◌, ◌%◌, Bool, nat_lt, nat_le, ◌==◌, if◌then◌else◌, List, [], ◌∷◌, ◌++◌, map, Option, Some, None, Result, Ok, Err}
-use Rattle.std.specs.List.{list_any}
+use Rattle.std.specs.Prelude.{ℕ, ◌+◌, ◌-◌, ◌*◌, ◌%◌, Bool, nat_le, ◌==◌, if◌then◌else◌, List, [], ◌∷◌, ◌++◌, map, Option, Some, None, Ok, Err}
 use Rattle.std.specs.Str.{bytes_eq}
 use Rattle.v8_map.specs.declared.TheConstants.{CODE_START, DATA_START}
 use Rattle.v8_syntax.specs.Statements.{statement_length}
@@ -109,6 +108,10 @@ abbrev pub address_in_section : List Item → Section → ℕ
 address_in_section before Code = code_address before
 address_in_section before Data = data_address before
 
+-- where the next line's labels point
+abbrev pub label_address : List Item → ℕ
+label_address before = address_in_section before (section_after before)
+
 -- ---- labels
 
 -- a name, where it stands, and the line's number
@@ -134,7 +137,7 @@ labelled line address name = record { name = name; address = address; line = lin
 -- the labels of an item
 abbrev pub labels_at : List Item → Item → List Item → List Label
 labels_at before i after =
-    map (labelled i.number (address_in_section before (section_after before))) i.labels ++ map (labelled i.number (code_address before)) (names_said i.bytes i.said)
+    map (labelled i.number (label_address before)) i.labels ++ map (labelled i.number (code_address before)) (names_said i.bytes i.said)
 
 abbrev pub all_labels : List Item → List Label
 all_labels items = each labels_at [] items

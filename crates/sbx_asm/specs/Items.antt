@@ -1,6 +1,5 @@
 -- The lines of a source as items: the labels of each, and the statement or the directive behind them.
-use Rattle.std.specs.Prelude.{ℕ, zero, suc, ◌+◌, ◌*◌, Bool, true, false, not, ◌||◌, ◌&&◌, nat_lt, if◌then◌else◌, List, [], ◌∷◌, ◌++◌, drop, map, Option, Some, None, Result, Ok, Err}
-use Rattle.std.specs.List.{list_any}
+use Rattle.std.specs.Prelude.{ℕ, zero, suc, ◌+◌, ◌*◌, Bool, true, false, ◌||◌, ◌&&◌, nat_lt, if◌then◌else◌, List, [], ◌∷◌, ◌++◌, drop, map, Result, Ok, Err}
 use Rattle.sbx_text.specs.declared.Token.{Token}
 use Rattle.sbx_text.specs.declared.fault.TextFault.{TextFault}
 use Rattle.sbx_text.specs.Tokens.{tokens_of}
@@ -8,14 +7,11 @@ use Rattle.v8_syntax.specs.Words.{bytes_between}
 use Rattle.sbx_image.specs.Range.{Range}
 use Rattle.sbx_image.specs.Cell.{Cell}
 use Rattle.sbx_image.specs.Term.{Term}
-use Rattle.sbx_directives.specs.declared.directive.Name.{Name}
-use Rattle.sbx_directives.specs.declared.directive.Keyword.{Keyword}
 use Rattle.sbx_directives.specs.declared.directive.Keyword.TheVariants as keywords
-use Rattle.sbx_directives.specs.declared.directive.Directive.{Directive}
 use Rattle.sbx_directives.specs.declared.directive.Directive.TheVariants as directives
 use Rattle.sbx_directives.specs.declared.directive.Statement.{Statement}
 use Rattle.sbx_directives.specs.declared.directive.Statement.TheVariants as statements
-use Rattle.sbx_directives.specs.Lines.{text_of, label_count}
+use Rattle.sbx_directives.specs.Lines.{label_count}
 use Rattle.sbx_directives.specs.Directives.{statement_of}
 use Rattle.sbx_asm.specs.Lines.{lines_of}
 

@@ -1,17 +1,17 @@
 -- What holds of the meaning of sources, as anyone knows assemblers.
-use Rattle.std.specs.Prelude.{◌≡◌, ℕ, ◌+◌, ◌≤◌, ◌⊎◌, Bool, false, List, [], ◌∷◌, ◌++◌, length, map, Option, None, Result, Ok, Err}
+use Rattle.std.specs.Prelude.{◌≡◌, ℕ, ◌+◌, ◌≤◌, ◌⊎◌, true, false, List, [], ◌∷◌, ◌++◌, length, map, slice_get, None, Some, Ok, Err}
 use Rattle.std.specs.List.{AllByRecursion}
 use Rattle.sbx_text.specs.Tokens.{tokens_of}
 use Rattle.sbx_image.specs.Parts.{Parts}
+use Rattle.sbx_image.specs.Regions.{data_at, start_of}
 use Rattle.sbx_image.specs.Spelling.{IsTyped}
 use Rattle.sbx_directives.specs.declared.directive.Statement.TheVariants as statements
 use Rattle.sbx_asm.specs.declared.fault.AsmFault.{AsmFault}
 use Rattle.sbx_asm.specs.Faults.{at, is_earlier}
-use Rattle.sbx_asm.specs.Lines.{lines_of}
-use Rattle.sbx_asm.specs.Items.{Item, item_of, items_of, each, behind}
-use Rattle.sbx_asm.specs.Addresses.{Label, all_labels, worth_in, values_of}
+use Rattle.sbx_asm.specs.Items.{Item, item_of, items_of, each, behind, count, is_region}
+use Rattle.sbx_asm.specs.Addresses.{Label, label_address, worth_in, values_of}
 use Rattle.sbx_asm.specs.Rules.{duplicates, faults_of, least_of}
-use Rattle.sbx_asm.specs.Images.{words_at, image_of}
+use Rattle.sbx_asm.specs.Images.{words_at, bytes_at, image_of}
 use Rattle.sbx_asm.specs.Meaning.{source_image, whole_cause}
 
 -- each of its numbers is one that its field can hold, and its regions have bytes
@@ -22,6 +22,19 @@ MeantImagesFitTheirFields = (source : List ℕ) (parts : Parts) → source_image
 abbrev pub CodeIsItsStatements : Type 0
 CodeIsItsStatements = (source : List ℕ) (parts : Parts) → source_image source ≡ Ok parts
     → (faults_of (items_of source) ≡ []) × (parts.words ≡ each (words_at (values_of (items_of source))) [] (items_of source))
+
+-- The data of a source without faults lie in its image where the labels say: the bytes of each line are those of the image from the address on
+-- that the line's labels have.
+abbrev pub DataLieWhereLabelsSay : Type 0
+DataLieWhereLabelsSay = (source : List ℕ) (parts : Parts) → source_image source ≡ Ok parts
+    → (front after : List Item) (i : Item) (k b : ℕ) → items_of source ≡ front ++ i ∷ after
+    → slice_get (bytes_at (values_of (items_of source)) (behind [] front) i after) k ≡ Some b → data_at parts.regions (label_address (behind [] front) + k) ≡ Some b
+
+-- So do its regions: a `.region` begins the one with its number, counted from 0, and a label right behind it points to the first byte.
+abbrev pub RegionsBeginWhereLabelsSay : Type 0
+RegionsBeginWhereLabelsSay = (source : List ℕ) (parts : Parts) → source_image source ≡ Ok parts
+    → (front after : List Item) (i : Item) → items_of source ≡ front ++ i ∷ after → is_region i ≡ true
+    → start_of parts.regions (count is_region front) ≡ Some (label_address (i ∷ behind [] front))
 
 -- Two sources that begin with the same lines, and whose labels are worth the same, begin with the same words: those that these lines mean
 -- with the labels' worth, whatever follows.

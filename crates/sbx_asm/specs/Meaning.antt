@@ -10,7 +10,6 @@ use Rattle.sbx_asm.specs.declared.fault.AsmFault.{AsmFault}
 use Rattle.sbx_asm.specs.declared.fault.Cause.{Cause}
 use Rattle.sbx_asm.specs.declared.fault.Cause.TheVariants as causes
 use Rattle.sbx_asm.specs.Faults.{at}
-use Rattle.sbx_asm.specs.Lines.{lines_of}
 use Rattle.sbx_asm.specs.Items.{Item, items_of}
 use Rattle.sbx_asm.specs.Rules.{faults_of, least_of}
 use Rattle.sbx_asm.specs.Images.{image_of}

@@ -1,5 +1,5 @@
 -- The faults of a source: what is wrong at each line, a case a rule. The lines before one are given nearest first.
-use Rattle.std.specs.Prelude.{ℕ, ◌+◌, ◌*◌, Bool, true, false, not, ◌&&◌, ◌||◌, nat_lt, nat_le, if◌then◌else◌, List, [], ◌∷◌, ◌++◌, length, map, Result, Ok, Err, Option, Some, None}
+use Rattle.std.specs.Prelude.{ℕ, ◌*◌, Bool, true, false, not, ◌&&◌, ◌||◌, nat_lt, nat_le, if◌then◌else◌, List, [], ◌∷◌, ◌++◌, length, map, Result, Ok, Err, Option, None}
 use Rattle.std.specs.List.{list_any, flat_map, fold}
 use Rattle.std.specs.Str.{bytes_eq}
 use Rattle.v8_formats.specs.declared.instr.Instr.{Instr}
@@ -8,7 +8,6 @@ use Rattle.v8_syntax.specs.declared.fault.SyntaxFault.TheVariants.{UnknownSymbol
 use Rattle.v8_syntax.specs.Statements.{source_meaning, statement_length}
 use Rattle.sbx_image.specs.Cell.{Cell}
 use Rattle.sbx_image.specs.Term.{Term}
-use Rattle.sbx_directives.specs.declared.directive.Width.{Width}
 use Rattle.sbx_directives.specs.declared.directive.Keyword.{Keyword}
 use Rattle.sbx_directives.specs.declared.directive.Keyword.TheVariants as keywords
 use Rattle.sbx_directives.specs.declared.directive.Directive.{Directive}

@@ -1,5 +1,5 @@
 //! What holds of the source meaning itself. Each law is the contract of a function that does nothing.
-ghost use Rattle.sbx_asm.specs.Laws.{MeantImagesFitTheirFields, CodeIsItsStatements, WordsLookAheadByLabelsAlone, BlankLinesSayNothing, BlankLinesChangeNothing, NumbersShowInFaultsAlone, LabelsMayBeRenamed, TheLeastFaultIsTold};
+ghost use Rattle.sbx_asm.specs.Laws.{MeantImagesFitTheirFields, CodeIsItsStatements, DataLieWhereLabelsSay, RegionsBeginWhereLabelsSay, WordsLookAheadByLabelsAlone, BlankLinesSayNothing, BlankLinesChangeNothing, NumbersShowInFaultsAlone, LabelsMayBeRenamed, TheLeastFaultIsTold};
 ghost use Rattle.sbx_asm.specs.Examples.{KnownSourcesHaveTheirMeanings};
 
 /// Of each image that a source means, each number is one that its field can hold, and its regions have bytes.
@@ -11,6 +11,18 @@ pub fn meant_images_fit_their_fields()
 #[tactic(auto, using(crate::proofs::Meanings::code_is))]
 pub fn code_is_its_statements()
     ensures { CodeIsItsStatements }
+{}
+
+/// The data of an image lie where the source's labels say.
+#[tactic(auto, using(crate::proofs::Lying::data_lie))]
+pub fn data_lie_where_labels_say()
+    ensures { DataLieWhereLabelsSay }
+{}
+
+/// The regions of an image begin where the source's labels say.
+#[tactic(auto, using(crate::proofs::Beginning::regions_begin))]
+pub fn regions_begin_where_labels_say()
+    ensures { RegionsBeginWhereLabelsSay }
 {}
 
 /// What follows a line changes its words by the labels' worth alone.

@@ -1,5 +1,5 @@
 -- The stages one after the other: the labels of all lines, the draft of all lines, and its parts.
-use Rattle.std.specs.Prelude.{ℕ, ◌+◌, List, length, Option, Some, None, Result, Ok, Err}
+use Rattle.std.specs.Prelude.{ℕ, ◌+◌, List, length, Result}
 use Rattle.std.specs.Option.{unwrap_or}
 use Rattle.std.specs.List.{fold}
 use Rattle.sbx_image.specs.Parts.{Parts}

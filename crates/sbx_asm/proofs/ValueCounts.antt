@@ -1,0 +1,168 @@
+-- A list of values has as many bytes as its directive says.
+use Rattle.std.proofs.Common.{◌≡◌, ℕ, suc, ◌+◌, ◌*◌, Bool, true, false, cond, ℤ, List, [], ◌∷◌, length, map, drop, Option, None, Some, IfSome, Result, Ok, Err, refl, ap, ◌∙◌, arith}
+use Rattle.std.specs.Prelude.{not, ◌&&◌}
+use Rattle.std.specs.Option.{is_none}
+use Rattle.std.specs.List.{AllByRecursion, flat_map, list_all}
+use Rattle.std.proofs.lemmas.Bool.{cond_both}
+use Rattle.std.proofs.lemmas.List.{length-append}
+use Rattle.sbx_text.specs.declared.Token.{Token}
+use Rattle.sbx_text.specs.declared.Kind.{Kind}
+use Rattle.sbx_text.specs.declared.Kind.TheVariants as kinds
+use Rattle.sbx_text.specs.declared.fault.TextFault.{TextFault}
+use Rattle.sbx_text.specs.Tokens.{tokens_of}
+use Rattle.sbx_directives.specs.declared.directive.Width.{Width}
+use Rattle.sbx_directives.specs.declared.directive.Width.TheVariants as widths
+use Rattle.sbx_directives.specs.declared.directive.Keyword.{Keyword}
+use Rattle.sbx_directives.specs.declared.directive.Keyword.TheVariants as keywords
+use Rattle.sbx_directives.specs.declared.directive.Directive.{Directive}
+use Rattle.sbx_directives.specs.declared.directive.Directive.TheVariants as directives
+use Rattle.sbx_directives.specs.declared.directive.Statement.TheVariants as statements
+use Rattle.sbx_directives.specs.declared.fault.DataFault.TheVariants as data_faults
+use Rattle.sbx_directives.specs.declared.operand.Operand.{Operand}
+use Rattle.sbx_directives.specs.Lines.{text_of, label_count}
+use Rattle.sbx_directives.specs.Operands.{◌>>=◌, operands_of, natural_in, plain_name, location, none, one, two, four, five, range_of, coefficient}
+use Rattle.sbx_directives.specs.Directives.{is_alignment, is_expression, services_of, frames_of, right_named, value_count, function_of, cell_of, term_of, ranged, numbered, fuel_of, directive_of, told, keyed, keyword_named, begun, statement_of}
+use Rattle.sbx_directives.specs.Data.{bytes_of_width, fits_some, spelled, spelled_some, value_of, is_known, is_fit, bytes_of, listed, data_of}
+use Rattle.sbx_asm.specs.Items.{Item, Said, read_line, item_of, items_of, all_lines}
+use Rattle.sbx_asm.specs.Rules.{Values, value_rules}
+use Rattle.sbx_asm.specs.Images.{bytes_meant}
+use Rattle.sbx_asm.proofs.Numbers.{then_all, then_any}
+use Rattle.sbx_asm.proofs.Making.{cons_nil}
+
+-- ---- what a directive says of its values
+
+abbrev Counts : List Operand → Directive → Type 0
+Counts os (directives.Values w n) = value_count os ≡ Some n
+Counts os _ = Unit {0}
+
+abbrev CountsSome : List Operand → Option Directive → Type 0
+CountsSome os o = IfSome o (Counts os)
+
+given : {A : Type 0} (o : Option A) → IfSome o (λ x. o ≡ Some x)
+given (Some x) = refl
+given None = tt
+
+values_count : (os : List Operand) (w : Width) → CountsSome os (value_count os >>= λ n. Some (directives.Values w n))
+values_count os w = then_all (λ n. value_count os ≡ Some n) (Counts os) (value_count os) _ (given (value_count os)) (λ n h. h)
+
+directive_counts : (line : List ℕ) (k : Keyword) (os : List Operand) → CountsSome os (directive_of line k os)
+unfolding directive_of function_of cell_of term_of
+directive_counts line keywords.Text os = then_any (Counts os) (none os) _ (λ _. tt)
+directive_counts line keywords.Data os = then_any (Counts os) (none os) _ (λ _. tt)
+directive_counts line keywords.Region os = then_any (Counts os) (one os >>= plain_name) _ (λ x. then_any (Counts os) (right_named (text_of line x)) _ (λ writable. tt))
+directive_counts line keywords.Services os = then_any (Counts os) (services_of line os) _ (λ _. tt)
+directive_counts line keywords.Stack os = then_any (Counts os) (numbered 1 16 os) _ (λ _. tt)
+directive_counts line keywords.Function os =
+    then_any (Counts os) (five os) _ (λ x. then_any (Counts os) (plain_name x.0) _ (λ name. then_any (Counts os) (frames_of line x.1) _ (λ kind. then_any (Counts os) (natural_in 0 4096 x.2) _ (λ frame.
+    then_any (Counts os) (natural_in 0 65536 x.3) _ (λ room. then_any (Counts os) (natural_in 0 1099511627775 x.4) _ (λ budget. tt))))))
+directive_counts line keywords.Param os = then_any (Counts os) (ranged os) _ (λ _. tt)
+directive_counts line keywords.Result os = then_any (Counts os) (ranged os) _ (λ _. tt)
+directive_counts line keywords.Block os = then_any (Counts os) (one os >>= plain_name) _ (λ _. tt)
+directive_counts line keywords.Cell os =
+    then_any (Counts os) (four os) _ (λ x. then_any (Counts os) (location line x.0) _ (λ place. then_any (Counts os) (range_of x.1 x.2 x.3) _ (λ _. tt)))
+directive_counts line keywords.Fuel os = then_any (Counts os) (fuel_of os) _ (λ _. tt)
+directive_counts line keywords.Term os = then_any (Counts os) (two os) _ (λ x. then_any (Counts os) (location line x.0) _ (λ place. then_any (Counts os) (coefficient x.1) _ (λ _. tt)))
+directive_counts line keywords.Word os = values_count os widths.Word
+directive_counts line keywords.Half os = values_count os widths.Half
+directive_counts line keywords.Byte os = values_count os widths.Byte
+directive_counts line keywords.Skip os = then_any (Counts os) (numbered 0 18446744073709551615 os) _ (λ _. tt)
+directive_counts line keywords.Align os =
+    then_any (Counts os) (numbered 2 8 os) _ (λ n. cond_both (is_alignment n) (Some (directives.Align n)) None (CountsSome os) (λ _. tt) (λ _. tt))
+
+-- ---- what a line says of them
+
+-- the operands behind its first token are as many
+abbrev pub SaysCount : List ℕ → List Token → Said → Type 0
+SaysCount line ts (Ok (statements.Directive d)) = Counts (operands_of line (drop 1 ts)) d
+SaysCount line ts _ = Unit {0}
+
+abbrev pub ItemCounts : Item → Type 0
+ItemCounts i = SaysCount i.bytes i.tokens i.said
+
+told_counts : (line : List ℕ) (first : Token) (rest : List Token) (k : Keyword) (o : Option Directive) → CountsSome (operands_of line rest) o → SaysCount line (first ∷ rest) (Ok (told k (operands_of line rest) o))
+told_counts line first rest k (Some d) h = h
+told_counts line first rest k None h = tt
+
+keyed_counts : (line : List ℕ) (first : Token) (o : Option Keyword) (rest : List Token) → SaysCount line (first ∷ rest) (Ok (keyed line o rest))
+keyed_counts line first (Some k) rest = told_counts line first rest k _ (directive_counts line k (operands_of line rest))
+keyed_counts line first None rest = tt
+
+begun_counts : (line : List ℕ) (kind : Kind) (first : Token) (rest : List Token) → SaysCount line (first ∷ rest) (Ok (begun line kind first rest))
+begun_counts line kinds.Name first rest = keyed_counts line first (keyword_named _) rest
+begun_counts line kinds.Percent first rest = tt
+begun_counts line (kinds.Number n) first rest = tt
+begun_counts line kinds.Sign first rest = tt
+
+statement_counts : (line : List ℕ) (ts : List Token) → SaysCount line ts (Ok (statement_of line ts))
+unfolding statement_of
+statement_counts line [] = tt
+statement_counts line (first ∷ rest) = begun_counts line first.kind first rest
+
+read_counts : (number : ℕ) (line : List ℕ) (r : Result (List Token) TextFault) → ItemCounts (read_line number line r)
+read_counts number line (Ok ts) = statement_counts line (drop (2 * label_count line ts) ts)
+read_counts number line (Err f) = tt
+
+lines_count : (xs : List (ℕ × List ℕ)) → AllByRecursion ItemCounts (map item_of xs)
+lines_count [] = tt
+lines_count (x ∷ xs) = (read_counts x.0 x.1 (tokens_of x.1), lines_count xs)
+
+pub items_count : (source : List ℕ) → AllByRecursion ItemCounts (items_of source)
+items_count source = lines_count (all_lines source)
+
+-- ---- so many bytes
+
+as_many : (os : List Operand) (n : ℕ) → value_count os ≡ Some n → length os ≡ n
+unfolding value_count
+as_many [] n h = absurd (cc)
+as_many (o ∷ os) n h = by (list_all is_expression (o ∷ os)) h
+  where
+    by : (t : Bool) → cond t (Some (length (o ∷ os))) None ≡ Some n → length (o ∷ os) ≡ n
+    by true k = cc
+    by false k = absurd (cc)
+
+spelled_length : (w : Width) (z : ℤ) → length (spelled w z) ≡ bytes_of_width w
+spelled_length widths.Byte z = refl
+spelled_length widths.Half z = refl
+spelled_length widths.Word z = refl
+
+one_length : (w : Width) (o : Option ℤ) → fits_some w o ≡ true → length (spelled_some w o) ≡ bytes_of_width w
+one_length w (Some z) h = spelled_length w z
+one_length w None h = absurd (cc)
+
+one_more : (w : Width) (n : ℕ) → bytes_of_width w + bytes_of_width w * n ≡ bytes_of_width w * suc n
+one_more widths.Byte n = omega arith
+one_more widths.Half n = omega arith
+one_more widths.Word n = omega arith
+
+no_more : (w : Width) → 0 ≡ bytes_of_width w * 0
+no_more widths.Byte = refl
+no_more widths.Half = refl
+no_more widths.Word = refl
+
+module _ (values : Values) (line : List ℕ) (w : Width) where
+  fitting_length : (os : List Operand) → list_all (is_fit values line w) os ≡ true → length (flat_map (bytes_of values line w) os) ≡ bytes_of_width w * length os
+  fitting_length [] h = no_more w
+  fitting_length (o ∷ os) h = by (is_fit values line w o) refl h (fitting_length os)
+    where
+      by : (t : Bool) → is_fit values line w o ≡ t → (t && list_all (is_fit values line w) os) ≡ true → (list_all (is_fit values line w) os ≡ true → length (flat_map (bytes_of values line w) os) ≡ bytes_of_width w * length os)
+          → length (flat_map (bytes_of values line w) (o ∷ os)) ≡ bytes_of_width w * length (o ∷ os)
+      by true e rest more =
+          length-append (bytes_of values line w o) (flat_map (bytes_of values line w) os)
+          ∙ ap (λ (n : ℕ). n + length (flat_map (bytes_of values line w) os)) (one_length w (value_of values line o) e)
+          ∙ ap (λ (n : ℕ). bytes_of_width w + n) (more rest) ∙ one_more w (length os)
+      by false e rest more = absurd (cc)
+
+  listed_length : (os : List Operand) (n : ℕ) → value_count os ≡ Some n → value_rules (listed values line w os) ≡ [] → length (bytes_meant (listed values line w os)) ≡ bytes_of_width w * n
+  unfolding listed
+  listed_length os n count clean = by (is_none (value_count os)) (not (list_all (is_known values line) os)) (list_all (is_fit values line w) os) refl clean
+    where
+      by : (a b c : Bool) → list_all (is_fit values line w) os ≡ c
+          → value_rules (cond a (Err data_faults.Malformed) (cond b (Err data_faults.UnknownSymbol) (cond (not c) (Err data_faults.Malformed) (Ok (flat_map (bytes_of values line w) os))))) ≡ []
+          → length (bytes_meant (cond a (Err data_faults.Malformed) (cond b (Err data_faults.UnknownSymbol) (cond (not c) (Err data_faults.Malformed) (Ok (flat_map (bytes_of values line w) os)))))) ≡ bytes_of_width w * n
+      by true b c e k = cons_nil k
+      by false true c e k = cons_nil k
+      by false false false e k = cons_nil k
+      by false false true e k = fitting_length os e ∙ ap (λ (m : ℕ). bytes_of_width w * m) (as_many os n count)
+
+  pub values_length : (ts : List Token) (n : ℕ) → value_count (operands_of line (drop 1 ts)) ≡ Some n → value_rules (data_of values line w ts) ≡ [] → length (bytes_meant (data_of values line w ts)) ≡ bytes_of_width w * n
+  values_length ts n count clean = listed_length (operands_of line (drop 1 ts)) n count clean
