@@ -1,5 +1,5 @@
 -- What is read stands in front of what it leaves: of an item that is read, the rest of the bytes is their end.
-use Rattle.std.proofs.Common.{◌≡◌, ℕ, zero, suc, ◌+◌, ◌-◌, ◌≤◌, Bool, true, false, List, [], ◌∷◌, ◌++◌, length, take, drop, Result, Ok, Err, refl, sym, ap, subst, ◌∙◌, arith, inl, inr}
+use Rattle.std.proofs.Common.{◌≡◌, ℕ, zero, suc, ◌+◌, ◌-◌, ◌≤◌, Bool, true, false, List, [], ◌++◌, length, take, drop, Result, Ok, Err, refl, sym, ap, subst, ◌∙◌, arith, inl, inr}
 use Rattle.std.specs.Prelude.{◌==◌, if◌then◌else◌}
 use Rattle.std.specs.Int.{Width, w8, w16, w32, w64, byte_len}
 use Rattle.std.proofs.lemmas.Bool.{cases_lt, lt-ltb, le-ltb}
@@ -9,9 +9,8 @@ use Rattle.sbx_image.specs.ImageFault.{ImageFault}
 use Rattle.sbx_image.specs.ImageFault.TheVariants as fault
 use Rattle.sbx_image.specs.Next.{Next}
 use Rattle.sbx_image.specs.Rules.{◌>>=◌, wants, between, admits, in_order, is_fuel, is_coefficient, is_known, is_version, is_data_length, is_length_behind, Place}
-use Rattle.sbx_image.specs.Reading.{number_at, number_in, signed_at, bytes_at, items_at, range_at, location_at, cell_at, term_at, block_head_at, block_at, kind_at, counts_at, bounds_at, function_head_at, services_at, data_length_at, data_count_at, header_at, shape_at, shape_of, shapes_at, regions_at}
+use Rattle.sbx_image.specs.Reading.{number_at, number_in, signed_at, bytes_at, items_at, range_at, location_at, cell_at, term_at, block_head_at, block_at, kind_at, counts_at, bounds_at, function_head_at, services_at, data_length_at, data_count_at, header_at, shape_at, shape_of, shapes_at}
 use Rattle.sbx_image.specs.declared.heads.Header.{Header}
-use Rattle.sbx_image.specs.declared.heads.Shape.{Shape}
 
 -- So many bytes or more stand in front of the rest.
 pub record Behind (least : ℕ) (bytes rest : List ℕ) : Type 0 where
@@ -76,11 +75,11 @@ number_leaves least w small bytes =
       | inr le ↦ rw (le-ltb _ _ le) (λ y p. subst (λ z. Behind least bytes z.1) (done_is _ y p) (taken least (byte_len w) bytes small le))
     ]
 
-bytes_leave : (count : ℕ) (bytes : List ℕ) → Leaves 0 after bytes (bytes_at count bytes)
-bytes_leave count bytes =
+pub bytes_leave : (least count : ℕ) → least ≤ count → (bytes : List ℕ) → Leaves least after bytes (bytes_at count bytes)
+bytes_leave least count small bytes =
     elim (cases_lt (length bytes) count) [
-      | inl lt ↦ rw (lt-ltb _ _ lt) (failed_leaves 0 after bytes fault.Short)
-      | inr le ↦ rw (le-ltb _ _ le) (λ y p. subst (λ z. Behind 0 bytes z.1) (done_is _ y p) (taken 0 count bytes (omega arith) le))
+      | inl lt ↦ rw (lt-ltb _ _ lt) (failed_leaves least after bytes fault.Short)
+      | inr le ↦ rw (le-ltb _ _ le) (λ y p. subst (λ z. Behind least bytes z.1) (done_is _ y p) (taken least count bytes small le))
     ]
 
 number_in_leaves : (least : ℕ) (w : Width) → least ≤ byte_len w → (low high : ℕ) (bad : ImageFault) (bytes : List ℕ) → Leaves least after bytes (number_in w low high bad bytes)
@@ -137,9 +136,6 @@ behind_cursor c = c.1
 
 pub ranges_leave : (n : ℕ) (bytes : List ℕ) → Leaves 0 after bytes (items_at range_at n bytes)
 ranges_leave n bytes = items_leave all_of range_at range_leaves n bytes
-
-pub words_leave : (n : ℕ) (bytes : List ℕ) → Leaves 0 after bytes (items_at (number_at w32) n bytes)
-words_leave n bytes = items_leave all_of (number_at w32) word_leaves n bytes
 
 -- ---- items
 
@@ -231,13 +227,6 @@ lengths_leave false n bytes = then_leaves 0 after_cursor after bytes _ _ (items_
 pub shapes_leave : (h : Header) (bytes : List ℕ) → Leaves 0 after bytes (shapes_at h bytes)
 unfolding shapes_at
 shapes_leave h bytes = lengths_leave (h.version == 1) h.data_count bytes
-
-pub regions_leave : (shapes : List Shape) (bytes : List ℕ) → Leaves 0 after bytes (regions_at shapes bytes)
-unfolding regions_at
-regions_leave [] bytes = done_leaves after _
-regions_leave (s ∷ shapes) bytes =
-    then_leaves 0 after after bytes _ _ (bytes_leave s.bytes bytes) (λ own.
-    then_leaves 0 after after own.1 _ _ (regions_leave shapes own.1) (λ others. done_leaves after _))
 
 -- ---- what that says of lengths
 

@@ -17,14 +17,14 @@ use Rattle.sbx_image.specs.declared.heads.Header.{Header}
 use Rattle.sbx_image.specs.declared.heads.Shape.{Shape}
 use Rattle.sbx_image.specs.declared.heads.FunctionHead.{FunctionHead}
 use Rattle.sbx_image.specs.Rules.{◌>>=◌, wants, Place, code_start}
-use Rattle.sbx_image.specs.Reading.{number_at, items_at, range_at, block_at, function_head_at, function_at, header_at, shapes_at, shape_bytes, regions_at, parts_at, reading}
+use Rattle.sbx_image.specs.Reading.{number_at, bytes_at, items_at, range_at, block_at, function_head_at, function_at, header_at, shapes_at, shape_bytes, regions_at, parts_at, reading}
 use Rattle.want.specs.Wants.{refused}
 use Rattle.sbx_reader.specs.declared.stages.Stage.{Stage}
-use Rattle.sbx_reader.specs.declared.stages.Stage.TheVariants.{Front, Functions, Blocks}
+use Rattle.sbx_reader.specs.declared.stages.Stage.TheVariants.{Front, Body, Functions, Blocks}
 use Rattle.sbx_reader.specs.Fronts.{lasting, told, front}
 use Rattle.sbx_reader.specs.Stages.{functions_end, rest_of, lasting_of, IsWhole, IsItem, GoesOn, IsResumed}
-use Rattle.sbx_reader.proofs.Lasting.{Lasts, longer, done_lasts, then_lasts, items_last, number_lasts, ranges_last, block_lasts, function_head_lasts, header_lasts, shapes_last, regions_last}
-use Rattle.sbx_reader.proofs.Leaving.{Leaves, done_leaves, then_leaves, words_leave, ranges_leave, block_leaves, function_head_leaves, header_leaves, shapes_leave, regions_leave, behind_drop}
+use Rattle.sbx_reader.proofs.Lasting.{Lasts, done_lasts, then_lasts, ranges_last, block_lasts, function_head_lasts, header_lasts, shapes_last, bytes_last}
+use Rattle.sbx_reader.proofs.Leaving.{Leaves, done_leaves, then_leaves, bytes_leave, ranges_leave, block_leaves, function_head_leaves, header_leaves, shapes_leave, behind_drop}
 
 pub then_then : {A B C : Type 0} (r : Result A ImageFault) (f : A → Result B ImageFault) (g : B → Result C ImageFault) → ((r >>= f) >>= g) ≡ (r >>= λ x. f x >>= g)
 then_then (Ok x) f g = refl
@@ -222,7 +222,7 @@ unfolding rest_of functions_end items_at
 more_behind end left total next bytes none some kept =
     (λ short. absurd cc, λ ne more. rw (none, ne_eqb (length (bytes ++ more)) 0 (λ e. eqb-false (length bytes) 0 some (omega (arith, e, length-append bytes more)))) refl)
 
--- ---- header, lengths and kinds, words and data
+-- ---- header, lengths and kinds
 
 tested : (b : Bool) (parts : Parts) → ((wants b fault.Trailing >>= λ _. Ok parts) >>= λ _. Ok tt) ≡ wants b fault.Trailing
 tested true parts = refl
@@ -242,34 +242,6 @@ front_then bytes = closed (parts_at bytes) ∙
     (header_at bytes) (λ v. shapes_at v.0 v.1) (λ v x. items_at (number_at w32) v.0.words x.1) (λ v x y. regions_at x.0 y.1) (λ v x y z. items_at (function_at (code_start + 4 * v.0.words)) v.0.functions ((Exactly code_start, 0), z.1))
     (λ v x y z w. (record { version = v.0.version; services = v.0.services; words = y.0; regions = z.0; stack_pages = v.0.stack_pages; functions = w.0 }, w.1.1))
     (λ x. wants (length x.1 == 0) fault.Trailing)
-
--- all before the functions, as the header
-unfoldable pub front_item : List ℕ → Result (Header × List ℕ) ImageFault
-front_item bytes = do
-  header ← header_at bytes
-  shapes ← shapes_at header.0 header.1
-  words ← items_at (number_at w32) header.0.words shapes.1
-  regions ← regions_at shapes.0 words.1
-  Ok (header.0, regions.1)
-
-pub front_reads : Reads Front (λ h. Functions (code_start + 4 * h.words) h.functions (Exactly code_start) 0) front_item
-unfolding front_item
-front_reads = record {
-  same = λ bytes. front_then bytes ∙ sym
-      (then_4 {H = Header × List ℕ} {P = List Shape × List ℕ} {R = List ℕ × List ℕ} {B = List Region × List ℕ} {F = Header × List ℕ}
-      (header_at bytes) (λ x. shapes_at x.0 x.1) (λ x y. items_at (number_at w32) x.0.words y.1) (λ x y z. regions_at y.0 z.1) (λ x y z w. (x.0, w.1))
-      (λ x. rest_of (Functions (code_start + 4 * x.0.words) x.0.functions (Exactly code_start) 0) x.1));
-  lasts = λ more bytes.
-      then_lasts _ _ _ _ _ (header_lasts more bytes) (λ header.
-      then_lasts _ _ _ _ _ (shapes_last more header.0 header.1) (λ shapes.
-      then_lasts _ _ _ _ _ (items_last (longer more) (number_at w32) (number_lasts more w32) header.0.words shapes.1) (λ words.
-      then_lasts _ _ _ _ _ (regions_last more shapes.0 words.1) (λ regions. done_lasts _ _))));
-  leaves = λ bytes.
-      then_leaves 1 rest_at rest_at bytes _ _ (header_leaves bytes) (λ header.
-      then_leaves 0 rest_at rest_at header.1 _ _ (shapes_leave header.0 header.1) (λ shapes.
-      then_leaves 0 rest_at rest_at shapes.1 _ _ (words_leave header.0.words shapes.1) (λ words.
-      then_leaves 0 rest_at rest_at words.1 _ _ (regions_leave shapes.0 words.1) (λ regions. done_leaves rest_at _))));
-}
 
 -- Words have no faults of their own.
 words_skip : (n : ℕ) (bytes : List ℕ) → 4 * n ≤ length bytes → (words : List ℕ) × (items_at (number_at w32) n bytes ≡ Ok (words, drop (4 * n) bytes))
@@ -311,24 +283,59 @@ regions_lack (s ∷ shapes) bytes lt =
       | inr le ↦ rw (le-ltb _ _ le, regions_lack shapes (drop s.bytes bytes) (omega (arith, lt, le, length-drop s.bytes bytes))) refl
     ]
 
-pub front_ok : (bytes : List ℕ) (h : Header) (behind : List ℕ) (shapes : List Shape) (rest : List ℕ) → header_at bytes ≡ Ok (h, behind) → shapes_at h behind ≡ Ok (shapes, rest) → 4 * h.words + shape_bytes shapes ≤ length rest
-    → front_item bytes ≡ Ok (h, drop (shape_bytes shapes) (drop (4 * h.words) rest))
-unfolding front_item
-front_ok bytes h behind shapes rest e s le =
-    let words = words_skip h.words rest (omega (arith, le)) in
-    let regions = regions_skip shapes (drop (4 * h.words) rest) (omega (arith, le, length-drop (4 * h.words) rest)) in
-    rw (e, s, words.1, regions.1) refl
-
-pub front_lacks : (bytes : List ℕ) (h : Header) (behind : List ℕ) (shapes : List Shape) (rest : List ℕ) → header_at bytes ≡ Ok (h, behind) → shapes_at h behind ≡ Ok (shapes, rest) → length rest < 4 * h.words + shape_bytes shapes → front_item bytes ≡ Err fault.Short
-unfolding front_item
-front_lacks bytes h behind shapes rest e s lt =
-    elim (cases_lt (length rest) (4 * h.words)) [
-      | inl few ↦ rw (e, s, words_lack h.words rest few) refl
+-- So they are so many bytes.
+body_then : (n : ℕ) (shapes : List Shape) (end left : ℕ) (bytes : List ℕ)
+    → (items_at (number_at w32) n bytes >>= λ w. regions_at shapes w.1 >>= λ d. rest_of (Functions end left (Exactly code_start) 0) d.1) ≡ rest_of (Body (4 * n + shape_bytes shapes) end left) bytes
+unfolding rest_of
+body_then n shapes end left bytes =
+    elim (cases_lt (length bytes) (4 * n + shape_bytes shapes)) [
+      | inl lacks ↦
+          elim (cases_lt (length bytes) (4 * n)) [
+            | inl few ↦ rw (words_lack n bytes few, lt-ltb _ _ lacks) refl
+            | inr le ↦
+                let words = words_skip n bytes le in
+                let lack : length (drop (4 * n) bytes) < shape_bytes shapes = omega (arith, lacks, le, length-drop (4 * n) bytes) in
+                rw (words.1, regions_lack shapes (drop (4 * n) bytes) lack, lt-ltb _ _ lacks) refl
+          ]
       | inr le ↦
-          let words = words_skip h.words rest le in
-          let lack : length (drop (4 * h.words) rest) < shape_bytes shapes = omega (arith, lt, le, length-drop (4 * h.words) rest) in
-          rw (e, s, words.1, regions_lack shapes (drop (4 * h.words) rest) lack) refl
+          let words = words_skip n bytes (omega (arith, le)) in
+          let regions = regions_skip shapes (drop (4 * n) bytes) (omega (arith, le, length-drop (4 * n) bytes)) in
+          rw (words.1, regions.1, le-ltb _ _ le, drop-drop (shape_bytes shapes) (4 * n) bytes) refl
     ]
+
+-- header, lengths and kinds
+unfoldable pub front_item : List ℕ → Result ((Header × List Shape) × List ℕ) ImageFault
+front_item bytes = do
+  header ← header_at bytes
+  shapes ← shapes_at header.0 header.1
+  Ok ((header.0, shapes.0), shapes.1)
+
+abbrev after_front : Header × List Shape → Stage
+after_front h = Body (4 * h.0.words + shape_bytes h.1) (code_start + 4 * h.0.words) h.0.functions
+
+then_same : {X Y : Type 0} (r : Result X ImageFault) (f g : X → Result Y ImageFault) → ((x : X) → f x ≡ g x) → (r >>= f) ≡ (r >>= g)
+then_same (Ok x) f g h = h x
+then_same (Err e) f g h = refl
+
+pub front_reads : Reads Front after_front front_item
+unfolding front_item
+front_reads = record {
+  same = λ bytes. front_then bytes
+      ∙ then_same (header_at bytes) _ _ (λ h. then_same (shapes_at h.0 h.1) _ _ (λ s. body_then h.0.words s.0 (code_start + 4 * h.0.words) h.0.functions s.1))
+      ∙ sym
+      (then_2 {R = Header × List ℕ} {B = List Shape × List ℕ} {F = (Header × List Shape) × List ℕ}
+      (header_at bytes) (λ x. shapes_at x.0 x.1) (λ x y. ((x.0, y.0), y.1)) (λ x. rest_of (after_front x.0) x.1));
+  lasts = λ more bytes.
+      then_lasts _ _ _ _ _ (header_lasts more bytes) (λ header.
+      then_lasts _ _ _ _ _ (shapes_last more header.0 header.1) (λ shapes. done_lasts _ _));
+  leaves = λ bytes.
+      then_leaves 1 rest_at rest_at bytes _ _ (header_leaves bytes) (λ header.
+      then_leaves 0 rest_at rest_at header.1 _ _ (shapes_leave header.0 header.1) (λ shapes. done_leaves rest_at _));
+}
+
+pub front_ok : (bytes : List ℕ) (h : Header) (behind : List ℕ) (shapes : List Shape) (rest : List ℕ) → header_at bytes ≡ Ok (h, behind) → shapes_at h behind ≡ Ok (shapes, rest) → front_item bytes ≡ Ok ((h, shapes), rest)
+unfolding front_item
+front_ok bytes h behind shapes rest e s = rw (e, s) refl
 
 pub front_err : (bytes : List ℕ) (e : ImageFault) → header_at bytes ≡ Err e → front_item bytes ≡ Err e
 unfolding front_item
@@ -338,13 +345,31 @@ pub shapes_err : (bytes : List ℕ) (h : Header) (behind : List ℕ) (e : ImageF
 unfolding front_item
 shapes_err bytes h behind e eh p = rw (eh, p) refl
 
--- Of the rest behind the lengths and kinds, words and data are so many bytes.
-pub front_count : (bytes : List ℕ) (h : Header) (behind : List ℕ) (shapes : List Shape) (rest : List ℕ) → header_at bytes ≡ Ok (h, behind) → shapes_at h behind ≡ Ok (shapes, rest) → (a b : ℕ) → a + b ≤ length rest
-    → (length bytes - length rest) + (a + b) ≡ length bytes - length (drop b (drop a rest))
-front_count bytes h behind shapes rest e s a b le =
-    let left = behind_drop 1 bytes behind (header_leaves bytes (h, behind) e) in
-    let right = behind_drop 0 behind rest (shapes_leave h behind (shapes, rest) s) in
-    omega (arith, left.0, right.0, le, length-drop a rest, length-drop b (drop a rest))
+-- ---- words and data
+
+body_reads : (count end left : ℕ) → 0 < count → Reads (Body count end left) (λ _. Functions end left (Exactly code_start) 0) (bytes_at count)
+unfolding rest_of
+body_reads count end left some = record {
+  same = λ bytes. refl;
+  lasts = λ more bytes. bytes_last more count bytes;
+  leaves = λ bytes. bytes_leave 1 count (omega (arith, some)) bytes;
+}
+
+pub body_lacks : (count end left : ℕ) (bytes : List ℕ) → 0 < count → length bytes < count → IsWhole (Body count end left) bytes (Err fault.Short)
+body_lacks count end left bytes some lt = whole_err _ _ _ (body_reads count end left some) bytes fault.Short (λ _. rw (lt-ltb _ _ lt) refl)
+
+pub body_whole : (count end left : ℕ) (bytes : List ℕ) → 0 < count → count ≤ length bytes → IsWhole (Body count end left) bytes (Ok (Functions end left (Exactly code_start) 0, count))
+body_whole count end left bytes some le =
+    whole_ok _ _ _ (body_reads count end left some) bytes (take count bytes) (drop count bytes) count (rw (le-ltb _ _ le) refl) (omega (arith, le, length-drop count bytes))
+
+no_body : (end left : ℕ) (bytes : List ℕ) → rest_of (Functions end left (Exactly code_start) 0) bytes ≡ rest_of (Body 0 end left) bytes
+unfolding rest_of
+no_body end left bytes = let none : 0 ≤ length bytes = omega arith in rw (le-ltb _ _ none) refl
+
+pub behind_body : (count end left : ℕ) (stage : Stage) (bytes : List ℕ) (r : Result (Stage × ℕ) ImageFault) → stage ≡ Body count end left → count ≡ 0
+    → IsWhole (Functions end left (Exactly code_start) 0) bytes r → IsWhole stage bytes r
+behind_body count end left stage bytes r is none p =
+    rw (is, none) (alike (Functions end left (Exactly code_start) 0) (Body 0 end left) (no_body end left) bytes r p)
 
 -- ---- from a stage on
 

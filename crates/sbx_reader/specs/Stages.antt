@@ -3,10 +3,11 @@ use Rattle.std.specs.Prelude.{◌≡◌, ◌≢◌, ℕ, ◌≤◌, ◌<◌, Lis
 use Rattle.sbx_image.specs.ImageFault.{ImageFault}
 use Rattle.sbx_image.specs.ImageFault.TheVariants as fault
 use Rattle.want.specs.Wants.{refused}
-use Rattle.sbx_image.specs.Rules.{◌>>=◌, wants, Place}
-use Rattle.sbx_image.specs.Reading.{items_at, block_at, function_at, reading}
+use Rattle.sbx_image.specs.Next.TheVariants.{Exactly}
+use Rattle.sbx_image.specs.Rules.{◌>>=◌, wants, Place, code_start}
+use Rattle.sbx_image.specs.Reading.{bytes_at, items_at, block_at, function_at, reading}
 use Rattle.sbx_reader.specs.declared.stages.Stage.{Stage}
-use Rattle.sbx_reader.specs.declared.stages.Stage.TheVariants.{Front, Functions, Blocks}
+use Rattle.sbx_reader.specs.declared.stages.Stage.TheVariants.{Front, Body, Functions, Blocks}
 use Rattle.sbx_reader.specs.Fronts.{lasting, front}
 
 -- so many functions, and the end of the bytes
@@ -15,9 +16,11 @@ functions_end end left place bytes = do
   functions ← items_at (function_at end) left (place, bytes)
   wants (length functions.1.1 == 0) fault.Trailing
 
--- The bytes behind what was read, to their end: the whole image, so many functions, or so many blocks and then functions.
+-- The bytes behind what was read, to their end: the whole image, so many bytes and then functions, so many functions, or so many blocks and then
+-- functions.
 unfoldable pub rest_of : Stage → List ℕ → Result (Unit {0}) ImageFault
 rest_of Front bytes = reading bytes >>= λ _. Ok tt
+rest_of (Body count end left) bytes = bytes_at count bytes >>= λ body. functions_end end left (Exactly code_start, 0) body.1
 rest_of (Functions end left next total) bytes = functions_end end left (next, total) bytes
 rest_of (Blocks end left next total blocks) bytes = do
   read ← items_at (block_at end) blocks (next, bytes)

@@ -1,6 +1,6 @@
 //! What comes next in an image's bytes, behind each whole item that was read.
-ghost use Rattle.std.specs.Prelude.{◌≡◌, ◌-◌, suc, length};
-ghost use Rattle.sbx_reader.specs.declared.stages.Stage.TheVariants.{Front, Functions, Blocks};
+ghost use Rattle.std.specs.Prelude.{◌≡◌, ◌-◌, ◌<◌, suc, length};
+ghost use Rattle.sbx_reader.specs.declared.stages.Stage.TheVariants.{Front, Body, Functions, Blocks};
 ghost use Rattle.sbx_reader.specs.Stages.{IsWhole, IsItem};
 
 use sbx_image::{
@@ -13,8 +13,10 @@ use v8_map::CODE_START;
 /// `total` how many blocks the functions have up to that one.
 #[derive(Clone, Copy)]
 pub enum Stage {
-    /// Header, the regions' lengths and kinds, words and data.
+    /// Header, and the regions' lengths and kinds.
     Front,
+    /// So many bytes of words and data, the first number, behind which functions come, the last number.
+    Body(usize, u32, u16),
     /// A function, its head and ranges first; behind the last one the end.
     Functions(u32, u16, Next, u16),
     /// So many blocks of a function, the last number.
@@ -28,20 +30,27 @@ fn read_of(bytes: &[u8], rest: &[u8]) -> usize
     bytes.len().saturating_sub(rest.len())
 }
 
-/// Header, the regions' lengths and kinds, words and data. A word or a byte of data has no fault of its own, so both are
-/// skipped at once.
+/// Header, and the regions' lengths and kinds.
 fn front_item(alloc: Global, bytes: &[u8]) -> Result<(Stage, usize), ImageFault>
     ensures { IsWhole Front bytes.now result }
 {
     let (header, rest) = header_of(bytes)?;
     let (shapes, rest) = shapes_of(alloc, header, rest)?;
     let count = 4 * header.words as usize + shape_bytes(shapes.as_slice()) as usize;
-    if rest.len() < count {
+    let stage = Stage::Body(count, CODE_START + 4 * header.words, header.functions);
+    Ok((stage, read_of(bytes, rest)))
+}
+
+/// Words and data: a word or a byte of data has no fault of its own, so all are skipped at once.
+fn body_item(count: usize, end: u32, left: u16, bytes: &[u8]) -> Result<(Stage, usize), ImageFault>
+    requires { 0 < count }
+    ensures { IsWhole (Body count end left) bytes.now result }
+{
+    if bytes.len() < count {
         return Err(ImageFault::Short);
     }
-    let end = CODE_START + 4 * header.words;
-    let stage = Stage::Functions(end, header.functions, Next::Exactly(CODE_START), 0);
-    Ok((stage, read_of(bytes, rest) + count))
+    let stage = Stage::Functions(end, left, Next::Exactly(CODE_START), 0);
+    Ok((stage, count))
 }
 
 /// A function's head and ranges.
@@ -68,6 +77,13 @@ fn whole_item(alloc: Global, stage: Stage, bytes: &[u8]) -> Result<(Stage, usize
 {
     match stage {
         Stage::Front => front_item(alloc, bytes),
+        Stage::Body(count, end, left) => {
+            if count > 0 {
+                body_item(count, end, left, bytes)
+            } else {
+                function_or_end(alloc, end, left, (Next::Exactly(CODE_START), 0), bytes)
+            }
+        }
         Stage::Functions(end, left, next, total) => {
             function_or_end(alloc, end, left, (next, total), bytes)
         }
