@@ -9,37 +9,26 @@ mod policy;
 
 use bitflags::Flags;
 use policy::{Policy, admit};
-use sbx_image::{Image, Services};
-use sbx_run::{Accepted, budget, run_accepted};
+use sbx_run::{Accepted, Services, budget, run_accepted};
 use std::io::{self, Read, Write};
 use std::process::ExitCode;
 use std::{env, fs};
 
-/// What this host grants: to read, to write and to end, and the turns of some two tenths of a second.
+/// What this host grants: to read, to write and to end, and the turns of an eighth of a second.
 const POLICY: Policy = Policy {
     services: Services(7),
     turns: 5_000_000,
 };
 
-/// Tells what an image asks for.
-fn show(rt: &HostRuntime, image: &Image) -> io::Result<()> {
+/// Shows what an admitted image asks for, runs it on standard input, hands its output on, and gives the status.
+fn run(rt: &HostRuntime, accepted: &Accepted) -> io::Result<u8> {
+    let image = accepted.image();
     write!(rt.stderr(), "services:")?;
-    for (service, name) in [
-        (Services::EXIT, "exit"),
-        (Services::GET, "get"),
-        (Services::PUT, "put"),
-    ] {
-        if image.services().contains(service) {
-            write!(rt.stderr(), " {name}")?;
-        }
+    for (name, _) in image.services().iter_names() {
+        write!(rt.stderr(), " {name}")?;
     }
     let (turns, pages) = (budget(image), image.stack_pages());
-    writeln!(rt.stderr(), "; turns: {turns}; stack pages: {pages}")
-}
-
-/// Runs an admitted image on standard input, hands its output on, and gives the status.
-fn run(rt: &HostRuntime, accepted: &Accepted) -> io::Result<u8> {
-    show(rt, accepted.image())?;
+    writeln!(rt.stderr(), "; turns: {turns}; stack pages: {pages}")?;
     let mut input = Vec::new(rt.alloc());
     rt.stdin().read_to_end(&mut input)?;
     let Ok(finished) = run_accepted::<8>(rt.alloc(), accepted, input.as_slice()) else {
@@ -52,9 +41,13 @@ fn run(rt: &HostRuntime, accepted: &Accepted) -> io::Result<u8> {
     Ok(u8::from(status != 0))
 }
 
-/// Runs the image of a file, where the policy admits it, and gives the status.
-fn host(rt: &HostRuntime, path: &str) -> io::Result<u8> {
-    let bytes = fs::read(rt, path)?;
+/// Runs the image that the words name, where the policy admits it, and gives the status.
+fn host(rt: &HostRuntime) -> io::Result<u8> {
+    let Some(path) = env::args(rt)?.nth(1) else {
+        writeln!(rt.stderr(), "host: its argument is an image's path")?;
+        return Ok(3);
+    };
+    let bytes = fs::read(rt, path.as_str())?;
     match admit(rt.alloc(), POLICY, bytes.as_slice()) {
         Ok(accepted) => run(rt, &accepted),
         Err(denial) => {
@@ -64,19 +57,8 @@ fn host(rt: &HostRuntime, path: &str) -> io::Result<u8> {
     }
 }
 
-/// Runs the image that the words name.
-fn host_words(rt: &HostRuntime) -> io::Result<u8> {
-    match env::args(rt)?.nth(1) {
-        Some(path) => host(rt, path.as_str()),
-        None => {
-            writeln!(rt.stderr(), "host: its argument is an image's path")?;
-            Ok(3)
-        }
-    }
-}
-
 fn main(rt: HostRuntime) -> ExitCode {
-    match host_words(&rt) {
+    match host(&rt) {
         Ok(status) => ExitCode::from(status),
         Err(_error) => {
             let _ = writeln!(rt.stderr(), "host: a file or a stream failed");

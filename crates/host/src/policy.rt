@@ -3,11 +3,9 @@ ghost use Rattle.std.specs.Prelude.{IfErr, IfOk};
 ghost use Rattle.host.specs.Policies.{Explains, IsAdmitted};
 
 use bitflags::Flags;
-use sbx_image::{ImageFault, Services, parse};
-use sbx_run::{Accepted, Cause, Refusal, budget, verify};
+use sbx_run::{Accepted, ImageFault, Refusal, Services, budget, parse, verify};
 use std::alloc::Global;
 use std::fmt::{self, Display, Formatter, Write};
-use want::Want;
 
 /// What a host grants an image: the services that it may ask for, and the turns that it may take.
 #[derive(Clone, Copy)]
@@ -16,19 +14,13 @@ pub struct Policy {
     pub turns: u64,
 }
 
-/// Why an image isn't run.
+/// Why an image isn't run: the bytes are none, it breaks a rule (both tell want of memory, too), or it asks for more than is granted.
 #[derive(Clone, Copy)]
 pub enum Denial {
-    /// The bytes are no image.
     Image(ImageFault),
-    /// The image breaks a rule.
     Refused(Refusal),
-    /// It declares these services, and one of them isn't granted.
     Services(Services),
-    /// It declares so many turns, more than are granted.
     Turns(u64),
-    /// Memory was refused.
-    Memory(Want),
 }
 
 impl Display for Denial {
@@ -38,7 +30,6 @@ impl Display for Denial {
             Denial::Refused(refusal) => write!(f, "{refusal}"),
             Denial::Services(_) => f.write_str("it asks for a service that isn't granted"),
             Denial::Turns(turns) => write!(f, "it asks for {turns} turns"),
-            Denial::Memory(_) => f.write_str("memory"),
         }
     }
 }
@@ -48,23 +39,12 @@ pub fn admit(alloc: Global, policy: Policy, bytes: &[u8]) -> Result<Accepted, De
     ensures admitted { IfOk result (IsAdmitted policy bytes.now) }
     ensures denied { IfErr result (Explains policy bytes.now) }
 {
-    let image = match parse(alloc, bytes) {
-        Ok(image) => image,
-        Err(ImageFault::Memory(want)) => return Err(Denial::Memory(want)),
-        Err(fault) => return Err(Denial::Image(fault)),
-    };
-    let accepted = match verify(alloc, image) {
-        Ok(accepted) => accepted,
-        Err((_image, refusal)) => match refusal.cause {
-            Cause::NoMemory(want) => return Err(Denial::Memory(want)),
-            _ => return Err(Denial::Refused(refusal)),
-        },
-    };
-    let services = accepted.image().services();
+    let image = parse(alloc, bytes).map_err(Denial::Image)?;
+    let accepted = verify(alloc, image).map_err(|back| Denial::Refused(back.1))?;
+    let (services, turns) = (accepted.image().services(), budget(accepted.image()));
     if !policy.services.contains(services) {
         return Err(Denial::Services(services));
     }
-    let turns = budget(accepted.image());
     if turns > policy.turns {
         return Err(Denial::Turns(turns));
     }

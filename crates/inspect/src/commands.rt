@@ -97,20 +97,29 @@ pub fn run_image<F: Read, I: Read, O: Write, P: Progress>(
 }
 
 /// Runs the image of a file on the input, which is read whole first, on so many windows, up to so many turns, and tells each turn.
-pub fn trace_image<F: Read, I: Read, O: Write>(
+pub fn trace_image<F: Read, I: Read, O: Write, P: Progress>(
     alloc: Global,
     windows: Windows,
     limit: u64,
     file: &mut F,
     input: &mut I,
     out: &mut O,
+    progress: &mut P,
 ) -> Result<(), Stop>
     ensures traced { OnOk result (Traced windows limit (F.remaining file.old) (I.remaining input.old) (O.contents out.old) (O.contents out.new)) }
     ensures stop { IfErr result (λ stop. IfSome (F.remaining file.old) (IsTrueOfImage stop)) }
 {
     let image = image_in(alloc, file)?;
     let bytes = input_of(alloc, input)?;
-    watch_windows(alloc, windows.count(), &image, bytes.as_slice(), limit, out)?;
+    watch_windows(
+        alloc,
+        windows.count(),
+        &image,
+        bytes.as_slice(),
+        limit,
+        out,
+        progress,
+    )?;
     Ok(())
 }
 

@@ -55,6 +55,7 @@ fn perform(rt: &HostRuntime, job: Job<'_>) -> Result<(), Stop> {
             &mut file,
             &mut rt.stdin(),
             &mut out,
+            &mut Lines::new(rt),
         ),
         Job::Why { .. } => {
             explain_image(rt.alloc(), &mut file, &mut out)?;

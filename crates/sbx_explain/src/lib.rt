@@ -1,6 +1,7 @@
 //! Why an image is refused, in words.
 #![tactic(auto)]
 
+mod folded;
 mod rules;
 mod why;
 

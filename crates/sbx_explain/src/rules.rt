@@ -22,7 +22,7 @@ pub fn rule_text(cause: Cause) -> &'static str
         Cause::Misaligned =>
             "the address isn't shown to be a multiple of 2, 4 or 8, as the access asks for",
         Cause::OutOfBounds =>
-            "the access isn't shown to lie in one region of data (`rw` for a store) or in its function's frame words",
+            "the access isn't shown to lie in one region of data (`rw` for a store) or its function's frame words",
         Cause::ZeroDivisor => "the divisor may be 0",
         Cause::TagOverflow =>
             "an operand isn't shown to be a multiple of 4, or the tagged result may overflow",

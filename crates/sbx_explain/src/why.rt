@@ -6,6 +6,7 @@ ghost use Rattle.sbx_inspect.specs.Sights.{IsSeen};
 ghost use Rattle.sbx_verify.specs.Refusals.{IsRefusal};
 ghost use Rattle.sbx_explain.specs.Refusals.{IsTold, Tells, head_text};
 
+use crate::folded::push_lines;
 use crate::rules::rule_text;
 use arrayvec::ArrayString;
 use sbx_asked::{push_arrivals, push_fuel, push_room};
@@ -118,6 +119,15 @@ fn push_reasons(
     }
 }
 
+/// What explains a refusal, in lines that fit.
+fn reasons_of(alloc: Global, image: &Image, refusal: Refusal) -> Result<String, AllocError> {
+    let mut reasons = String::new(alloc);
+    push_reasons(alloc, &mut reasons, image, refusal)?;
+    let mut lines = String::new(alloc);
+    push_lines(&mut lines, reasons.as_str())?;
+    Ok(lines)
+}
+
 /// A refusal explained.
 fn explain(
     alloc: Global,
@@ -127,8 +137,7 @@ fn explain(
 ) -> Result<(), AllocError>
     ensures { OnOk result (IsTold refusal (string_bytes out.old) (string_bytes out.new)) }
 {
-    let mut reasons = String::new(alloc);
-    push_reasons(alloc, &mut reasons, image, refusal)?;
+    let reasons = reasons_of(alloc, image, refusal)?;
     push_head(out, refusal)?;
     out.push_str(reasons.as_str())?;
     Ok(())

@@ -121,29 +121,39 @@ fn three_mebibytes_are_told(rt: HostRuntime) {
     assert!(rt; is_told_at_length(rt.alloc()));
 }
 
-/// Whether the turns of an image's run on no input are told. Where memory was refused, they are asked for once more; the sheet takes all,
-/// so there is no other fault.
-fn is_watched(alloc: Global, windows: u32, image: &Image, limit: u64, sheet: &mut Sheet) -> bool
+/// Whether the turns of an image's run on no input are told. Where memory was refused, they are asked for once more, and counted anew;
+/// the sheet takes all, so there is no other fault.
+fn is_watched(
+    alloc: Global,
+    windows: u32,
+    image: &Image,
+    limit: u64,
+    sheet: &mut Sheet,
+    count: &mut Count,
+) -> bool
     requires { (4 ≤ windows) × (windows ≤ 32) }
 {
-    match watch_windows(alloc, windows, image, b"", limit, sheet) {
+    match watch_windows(alloc, windows, image, b"", limit, sheet, count) {
         Ok(()) => true,
         Err(RunFault::Memory(_)) => {
             *sheet = Sheet::new(usize::MAX);
-            watch_windows(alloc, windows, image, b"", limit, sheet).is_ok()
+            count.0 = 0;
+            watch_windows(alloc, windows, image, b"", limit, sheet, count).is_ok()
         }
         Err(_) => false,
     }
 }
 
-/// Whether the turns of HELLO are told as they have to be, and flushed.
+/// Whether the turns of HELLO are told as they have to be, and flushed; they are too few to say how far the run has come.
 fn are_turns_told(alloc: Global) -> bool {
     let mut sheet = Sheet::new(usize::MAX);
+    let mut count = Count(0);
     match image_of(alloc, HELLO) {
         Some(image) => {
-            is_watched(alloc, 8, &image, 100_000, &mut sheet)
+            is_watched(alloc, 8, &image, 100_000, &mut sheet, &mut count)
                 && sheet.front() == TURNS.as_bytes()
                 && sheet.flushed
+                && count.0 == 0
         }
         None => false,
     }
@@ -154,14 +164,16 @@ fn turns_are_told(rt: HostRuntime) {
     assert!(rt; are_turns_told(rt.alloc()));
 }
 
-/// Whether 200,000 turns have as many lines or more, none longer than 100 columns.
+/// Whether 524,289 turns have as many lines or more, none longer than 100 columns, and say twice how far they have come.
 fn has_lines_that_fit(alloc: Global) -> bool {
     let mut sheet = Sheet::new(usize::MAX);
+    let mut count = Count(0);
     match image_of(alloc, FOREVER) {
         Some(image) => {
-            is_watched(alloc, 32, &image, 200_000, &mut sheet)
+            is_watched(alloc, 32, &image, 524_289, &mut sheet, &mut count)
                 && sheet.longest <= 100
-                && sheet.lines >= 200_000
+                && sheet.lines >= 524_289
+                && count.0 == 2
         }
         None => false,
     }

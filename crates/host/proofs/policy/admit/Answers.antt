@@ -7,5 +7,8 @@ returns-clause-admitted g = search rules
 pub returns-then-turns-policy-clause-denied : goal.returns-then-turns-policy-clause-denied
 returns-then-turns-policy-clause-denied g = search rules
 
-pub returns-in-Err-clause-denied : goal.returns-in-Err-clause-denied
-returns-in-Err-clause-denied g = search rules
+pub returns-in_err-image-clause-denied : goal.returns-in_err-image-clause-denied
+returns-in_err-image-clause-denied g = search rules
+
+pub returns-in_err-accepted-clause-denied : goal.returns-in_err-accepted-clause-denied
+returns-in_err-accepted-clause-denied g = search rules

@@ -1,0 +1,32 @@
+! The loop's block declares fuel by eight counters: what `why` tells of it is longer than a line.
+.services exit
+.function main,leaf,0,0,30
+.fuel 30
+    mov 1000,%g1
+    mov 1000,%g2
+    mov 1000,%g3
+    mov 1000,%g4
+    mov 1000,%g5
+    mov 1000,%g6
+    mov 1000,%g7
+    mov 1000,%o1
+.block loop
+.cell %g1,1,1000,0
+.cell %g2,1,1000,0
+.cell %g3,1,1000,0
+.cell %g4,1,1000,0
+.cell %g5,1,1000,0
+.cell %g6,1,1000,0
+.cell %g7,1,1000,0
+.cell %o1,1,1000,0
+.fuel 4
+.term %g1,1000000
+.term %g2,1000000
+.term %g3,1000000
+.term %g4,1000000
+.term %g5,1000000
+.term %g6,1000000
+.term %g7,1000000
+.term %o1,1000000
+    mov 0,%o0
+    ta 0
