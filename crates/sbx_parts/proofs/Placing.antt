@@ -1,9 +1,9 @@
 -- Where regions lie: each on pages of its own, one behind the other, and their bytes so in the data's pages.
 use Rattle.std.proofs.Common.{◌≡◌, ℕ, ◌+◌, ◌≤◌, ◌<◌, ℤ, Bool, true, false, ◌||◌, List, ◌∷◌, length, drop, get_or, sym, ap, ◌∙◌}
-use Rattle.std.specs.Prelude.{replicate}
+use Rattle.std.specs.Prelude.{Option, None, replicate, slice_get}
 use Rattle.std.proofs.lemmas.List.{length-append, length-replicate, drop_more, drop_all}
 use Rattle.sbx_parts.specs.declared.parts.Region.{Region}
-use Rattle.sbx_parts.specs.Regions.{behind, byte_count, one_holds, page_rights, pages_for, placed_from, region_holds}
+use Rattle.sbx_parts.specs.Regions.{behind, byte_count, one_holds, page_rights, pages_for, placed_from, region_holds, start_in}
 
 -- a region's pages, and those of the regions behind it
 pub page_count : (r : Region) (rs : List Region) → length (page_rights (r ∷ rs)) ≡ pages_for (length r.bytes) + length (page_rights rs)
@@ -36,6 +36,11 @@ module _ (low high : ℤ) (writes : Bool) where
 
   pub is_done : (rs : List Region) (i start : ℕ) (total : Bool) → length rs ≤ i → from start (drop i rs) ≡ total → false ≡ total
   is_done rs i start total le so_far = sym (ap (from start) (drop_all i rs le)) ∙ so_far
+
+-- ---- looking for the region with a number, as a loop does
+
+pub starts_nowhere : (rs : List Region) (i start before : ℕ) (whole : Option ℕ) → length rs ≤ i → start_in (slice_get (placed_from start (drop i rs)) before) ≡ whole → None ≡ whole
+starts_nowhere rs i start before whole le so_far = sym (ap (λ xs. start_in (slice_get (placed_from start xs) before)) (drop_all i rs le)) ∙ so_far
 
 -- ---- counting bytes, as a loop does
 

@@ -1,4 +1,5 @@
+use Rattle.sbx_parts.proofs.Placing.{starts_nowhere}
 use Rattle.sbx_parts.proofs.regions.start_of.Goals as goal
 
 pub returns : goal.returns
-returns c = search rules
+returns c = starts_nowhere c.args.regions.now c.loop-region.region-index c.loop-region.start c.loop-region.before _ c.loop-region-test.false c.loop-region.invariant.0
