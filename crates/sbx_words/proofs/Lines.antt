@@ -177,11 +177,11 @@ pub refused_by : (words : List Text) (error : Error) (usage : Usage) → HasKind
 refused_by words error (Told text) (inl memory) told = absurd (told tt memory)
 refused_by words error (Told text) (inr among) told = λ job asked. subst (λ (kinds : Kinds). IsAmong (kind_of error) kinds) asked.0 among
 refused_by words error (Memory want) kind told = tt
-refused_by words error NoRoom kind told = tt
+refused_by words error (NoRoom starved) kind told = tt
 
 -- by what they lack
 pub lacking : (words : List Text) (usage : Usage) (found : Option (Text × List Row)) → found ≡ subcommand_of sandbox_app words
     → ((job : Job) → Means found job → ⊥) → IsTrueOfWords usage words
 lacking words (Told text) found is none = λ job asked. none job (subst (λ (f : Option (Text × List Row)). Means f job) (sym is) asked.1)
 lacking words (Memory want) found is none = tt
-lacking words NoRoom found is none = tt
+lacking words (NoRoom starved) found is none = tt

@@ -107,10 +107,10 @@ AskFor words job = (fault_of sandbox_app words ≡ []) × Means (subcommand_of s
 abbrev pub IsText : Usage → Type 0
 IsText (Told text) = Unit {0}
 IsText (Memory want) = ⊥
-IsText NoRoom = ⊥
+IsText (NoRoom starved) = ⊥
 
 -- words that are refused ask for no job; want of memory tells nothing of them
 abbrev pub IsTrueOfWords : Usage → List Text → Type 0
 IsTrueOfWords (Told text) words = (job : Job) → AskFor words job → ⊥
 IsTrueOfWords (Memory want) words = Unit {0}
-IsTrueOfWords NoRoom words = Unit {0}
+IsTrueOfWords (NoRoom starved) words = Unit {0}

@@ -8,10 +8,13 @@ ghost use Rattle.sbx_command.specs.Jobs.{IsInRange};
 ghost use Rattle.want.specs.Wants.{refused};
 ghost use Rattle.sbx_words.specs.Lines.{AskFor, HasLimit, HasPath, HasWindows, IsAlone, IsText, IsTrueOfWords, Means, MeansJob, asm_shape, bare_shape, image_rule, limit_rule, list_shape, number_rule, path_rule, run_shape, sandbox_app, trace_shape, verify_shape, windows_rule};
 
+mod starved;
+
 use clap::error::ErrorKind;
 use clap::{Arg, ArgAction, ArgMatches, Command, Error};
 pub use sbx_command::{Full, Job, Stop, Windows, command};
 use sbx_command::{turns, window_count};
+pub use starved::Starved;
 use std::alloc::{AllocError, Global};
 use std::convert::AsStr;
 use want::Want;
@@ -23,8 +26,8 @@ pub enum Usage {
     Text(String),
     /// Memory was refused.
     Memory(Want),
-    /// `clap` had no memory, as the kind of its error tells, which holds no evidence of that.
-    NoRoom,
+    /// `clap` had no memory.
+    NoRoom(Starved),
 }
 
 impl From<AllocError> for Usage {
@@ -52,8 +55,8 @@ enum Lack {
 fn usage_of(alloc: Global, error: &Error) -> Usage
     ensures { IsText result → kind_of error.now ≢ ErrorKind.OutOfMemory }
 {
-    if error.kind() == ErrorKind::OutOfMemory {
-        return Usage::NoRoom;
+    if let Some(starved) = Starved::of(error) {
+        return Usage::NoRoom(starved);
     }
     match format!(in alloc; "{error}") {
         Ok(text) => Usage::Text(text),
