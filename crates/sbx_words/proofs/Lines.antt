@@ -1,16 +1,18 @@
 -- From what `clap` finds to the job that the words ask for.
-use Rattle.std.proofs.Common.{◌∙◌, ◌≡◌, ◌≤◌, ◌≢◌, ℕ, List, [], ◌∷◌, Option, Some, None, Result, Ok, Err, refl, sym, ap, subst, inl, inr, rules, arith, true, false, slice_index}
+use Rattle.std.proofs.Common.{◌∙◌, ◌≡◌, ◌≤◌, ◌≢◌, ℕ, List, [], Option, Some, None, Result, Ok, Err, refl, sym, ap, ap₂, subst, inl, inr, arith, true, false, slice_index}
 use Rattle.std.specs.Prelude.{Box, IfOk, IfSome, IsErr, SomeIff, codes, option_map, unwrap_or}
 use Rattle.std.specs.Result.{result_ok}
 use Rattle.std.specs.Borrow.{Bor}
 use Rattle.std.specs.Str.Parse.{IsNumeral, digits_value}
 use Rattle.std.specs.Box.{box_value}
-use Rattle.clap.specs.Words.{Row, Text, fault_of, first_of, first_value, is_simple, kind_of, rows_of, subcommand_of, subcommand_rows}
-use Rattle.clap.specs.Words.{HasKind, IsAmong, Kinds, found_of, is_simple_and_free}
+use Rattle.clap.specs.Words.{AddsSubcommand, App, HasKind, HasMatchesOf, IsAmong, Kinds, Row, Shape, Text, app_of, fault_of, first_of, first_value}
+use Rattle.clap.specs.Words.{is_simple, is_simple_and_free, kind_of, rows_of, subcommand_of, subcommand_rows, subcommand_rows_of, with_subcommand}
+use Rattle.clap.specs.declared.builder.command.Command.{Command}
 use Rattle.clap.proofs.OnLiterals.{clap_on_literals}
 use Rattle.clap.proofs.WalkLemmas.{first_value-rows}
 use Rattle.clap.specs.declared.error.Error.{Error}
 use Rattle.clap.specs.declared.error.kind.ErrorKind.TheVariants.{OutOfMemory}
+use Rattle.clap.specs.declared.parser.matches.ArgMatches.{ArgMatches}
 use Rattle.clap.specs.declared.parser.matches.Found.{Found}
 use Rattle.clap.specs.declared.parser.matches.SubCommand.{SubCommand}
 use Rattle.clap.specs.declared.parser.matches.ArgMatches.TheViews.{out-SubCommand}
@@ -18,13 +20,31 @@ use Rattle.sbx_command.specs.declared.jobs.Job.{Job}
 use Rattle.sbx_command.specs.declared.jobs.Job.TheVariants.{Asm, Verify, Run, List as Listing, Trace}
 use Rattle.sbx_words.specs.declared.Usage.{Usage}
 use Rattle.sbx_words.specs.declared.Usage.TheVariants.{Text as Told, Memory, NoRoom}
-use Rattle.sbx_words.specs.Lines.{AskFor, HasLimit, HasPath, HasWindows, IsGiven, IsText, IsTrueOfWords, Means, MeansJob, sandbox_app}
+use Rattle.sbx_words.specs.Lines.{HasLimit, HasPath, HasWindows, IsAlone, IsGiven, IsText, IsTrueOfWords, Means, MeansJob, sandbox_app}
 
 -- ---- the command line is one of which `clap` says all
 
-pub line_is_simple : is_simple_and_free sandbox_app ≡ true
+pub line_is_simple : is_simple sandbox_app ≡ true
 unfolding clap_on_literals
 line_is_simple = refl
+
+pub line_is_free : is_simple_and_free sandbox_app ≡ true
+unfolding clap_on_literals
+line_is_free = refl
+
+-- a command more below it
+pub grown : (old below new : Command) (app : App) (shape : Shape) → AddsSubcommand old below new → app_of old ≡ app → IsAlone shape below
+    → app_of new ≡ with_subcommand app shape
+grown old below new app shape adds is alone = adds.shape alone.1 ∙ ap₂ with_subcommand is (ap (λ (a : App). a.top) alone.0)
+
+-- ---- what `clap` answers by it
+
+pub found_by : (app : App) (words : List Text) (matches : ArgMatches) → app ≡ sandbox_app
+    → (is_simple_and_free app ≡ true → fault_of app words ≡ []) → HasMatchesOf app words matches
+    → (fault_of sandbox_app words ≡ []) × (subcommand_rows_of matches ≡ subcommand_of sandbox_app words)
+found_by app words matches is free has =
+    (ap (λ (a : App). fault_of a words) (sym is) ∙ free (ap is_simple_and_free is ∙ line_is_free),
+    (has (ap is_simple is ∙ line_is_simple)).1 ∙ ap (λ (a : App). subcommand_of a words) is)
 
 -- ---- a path, and a number
 
@@ -178,6 +198,13 @@ refused_by words error (Told text) (inl memory) told = absurd (told tt memory)
 refused_by words error (Told text) (inr among) told = λ job asked. subst (λ (kinds : Kinds). IsAmong (kind_of error) kinds) asked.0 among
 refused_by words error (Memory want) kind told = tt
 refused_by words error (NoRoom starved) kind told = tt
+
+pub refused_on : (app : App) (words : List Text) (error : Error) (usage : Usage) → app ≡ sandbox_app
+    → (is_simple_and_free app ≡ true → HasKind (fault_of app words) error) → (IsText usage → kind_of error ≢ OutOfMemory)
+    → IsTrueOfWords usage words
+refused_on app words error usage is free told =
+    refused_by words error usage
+    (subst (λ (a : App). HasKind (fault_of a words) error) is (free (ap is_simple_and_free is ∙ line_is_free))) told
 
 -- by what they lack
 pub lacking : (words : List Text) (usage : Usage) (found : Option (Text × List Row)) → found ≡ subcommand_of sandbox_app words
