@@ -53,7 +53,7 @@ fn perform(rt: &HostRuntime, words: &[String]) -> Result<u8, Stop> {
             Ok(USAGE)
         }
         Err(Usage::Memory(want)) => Err(Stop::Memory(want)),
-        Err(Usage::NoRoom) => {
+        Err(Usage::NoRoom(_)) => {
             let _ = eprintln!(rt; "memory");
             Ok(MEMORY)
         }

@@ -4,7 +4,7 @@ ghost use Rattle.sbx_verdicts.specs.Runs.{BoardRunsSo, IsRun, counts_told};
 
 use crate::faults::LineFault;
 use crate::runs::{Counts, Run};
-use sbx_run::{Accepted, Finished, run_windows};
+use sbx_run::{Accepted, Finished, RunFault, run_windows};
 use std::alloc::Global;
 
 /// The counts of a run that has ended.
@@ -33,7 +33,8 @@ pub fn runs_on_board(alloc: Global, accepted: &Accepted, run: &Run) -> Result<bo
 {
     match run_windows(alloc, run.windows, accepted, run.input.as_slice()) {
         Some(Ok(finished)) => Ok(is_run(&finished, run)),
-        Some(Err(_fault)) => Err(LineFault::Memory),
-        None => Err(LineFault::NotRead),
+        Some(Err(RunFault::Memory(want))) => Err(LineFault::Memory(want)),
+        // (a board's port has no other fault, and an unknown count of windows no run)
+        Some(Err(RunFault::Reader | RunFault::Writer)) | None => Err(LineFault::NotRead),
     }
 }

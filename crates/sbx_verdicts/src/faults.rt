@@ -1,7 +1,7 @@
 //! Why a line isn't compared.
-use hex::FromHexError;
 use sbx_image::ImageFault;
 use std::alloc::{AllocError, AllocFailed};
+use want::Want;
 
 /// Why a line isn't compared.
 #[derive(Clone, Copy, Debug, PartialEq, Eq)]
@@ -9,34 +9,25 @@ pub enum LineFault {
     /// The line isn't of one of the two forms, or is about no image.
     NotRead,
     /// Memory was refused.
-    Memory,
+    Memory(Want),
 }
 
 impl From<AllocError> for LineFault {
-    fn from(_e: AllocError) -> LineFault {
-        LineFault::Memory
+    fn from(error: AllocError) -> LineFault {
+        LineFault::Memory(Want::from(error))
     }
 }
 
 impl<T: Drop> From<AllocFailed<T>> for LineFault {
-    fn from(_e: AllocFailed<T>) -> LineFault {
-        LineFault::Memory
-    }
-}
-
-impl From<FromHexError> for LineFault {
-    fn from(fault: FromHexError) -> LineFault {
-        match fault {
-            FromHexError::OutOfMemory => LineFault::Memory,
-            _ => LineFault::NotRead,
-        }
+    fn from(failed: AllocFailed<T>) -> LineFault {
+        LineFault::Memory(Want::from(failed))
     }
 }
 
 impl From<ImageFault> for LineFault {
     fn from(fault: ImageFault) -> LineFault {
         match fault {
-            ImageFault::Memory(_) => LineFault::Memory,
+            ImageFault::Memory(want) => LineFault::Memory(want),
             _ => LineFault::NotRead,
         }
     }

@@ -17,7 +17,11 @@ pub fn bytes(alloc: Global, field: &str) -> Result<Vec<u8>, LineFault>
     if field == "-" {
         return Ok(Vec::new(alloc));
     }
-    Ok(hex::decode(alloc, field)?)
+    let mut bytes = vec![in alloc; 0; field.len() / 2]?;
+    match hex::decode_to_slice(field, bytes.as_mut_slice()) {
+        Ok(()) => Ok(bytes),
+        Err(_) => Err(LineFault::NotRead),
+    }
 }
 
 /// The number of 64 bits that a field spells by digits of this base alone.

@@ -38,7 +38,7 @@ fn compare(rt: &HostRuntime, comparison: &mut Comparison, line: &str) -> io::Res
         Ok(true) => Ok(()),
         Ok(false) => println!(rt; "differs: {line}"),
         Err(LineFault::NotRead) => println!(rt; "not read: {line}"),
-        Err(LineFault::Memory) => println!(rt; "no memory: {line}"),
+        Err(LineFault::Memory(_)) => println!(rt; "no memory: {line}"),
     }
 }
 

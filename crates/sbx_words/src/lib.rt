@@ -1,13 +1,20 @@
 //! What the words of a command line ask for.
 #![tactic(auto)]
 
-ghost use Rattle.std.specs.Prelude.{IfOk};
+ghost use Rattle.std.specs.Prelude.{◌≡◌, ◌≢◌, ℕ, false, [], None, IfErr, IfOk, IsErr, codes, map};
+ghost use Rattle.clap.specs.Words.{app_of, fault_of, first_of, found_of, kind_of, rows_of, rule_of, subcommand_of, subcommand_rows_of};
+ghost use Rattle.sbx_command.specs.declared.jobs.Job.{Job};
 ghost use Rattle.sbx_command.specs.Jobs.{IsInRange};
+ghost use Rattle.want.specs.Wants.{refused};
+ghost use Rattle.sbx_words.specs.Lines.{AskFor, HasLimit, HasPath, HasWindows, IsAlone, IsText, IsTrueOfWords, Means, MeansJob, asm_shape, bare_shape, image_rule, limit_rule, list_shape, number_rule, path_rule, run_shape, sandbox_app, trace_shape, verify_shape, windows_rule};
+
+mod starved;
 
 use clap::error::ErrorKind;
 use clap::{Arg, ArgAction, ArgMatches, Command, Error};
 pub use sbx_command::{Full, Job, Stop, Windows, command};
 use sbx_command::{turns, window_count};
+pub use starved::Starved;
 use std::alloc::{AllocError, Global};
 use std::convert::AsStr;
 use want::Want;
@@ -19,11 +26,15 @@ pub enum Usage {
     Text(String),
     /// Memory was refused.
     Memory(Want),
-    /// `clap` had no memory, as the kind of its error tells, which holds no evidence of that.
-    NoRoom,
+    /// `clap` had no memory.
+    NoRoom(Starved),
 }
 
 impl From<AllocError> for Usage {
+    ghost use Rattle.sbx_words.specs.declared.Usage.{Usage};
+
+    ghost from_gives = { λ _ usage. usage ≡ Usage.Memory refused };
+
     fn from(error: AllocError) -> Usage {
         Usage::Memory(Want::from(error))
     }
@@ -41,9 +52,11 @@ enum Lack {
 }
 
 /// The text of what `clap` refused.
-fn usage_of(alloc: Global, error: &Error) -> Usage {
-    if error.kind() == ErrorKind::OutOfMemory {
-        return Usage::NoRoom;
+fn usage_of(alloc: Global, error: &Error) -> Usage
+    ensures { IsText result → kind_of error.now ≢ ErrorKind.OutOfMemory }
+{
+    if let Some(starved) = Starved::of(error) {
+        return Usage::NoRoom(starved);
     }
     match format!(in alloc; "{error}") {
         Ok(text) => Usage::Text(text),
@@ -65,7 +78,10 @@ fn usage_of_lack(alloc: Global, lack: Lack) -> Usage {
 }
 
 /// A path that has to be there.
-fn path<'a>(alloc: Global, name: &'a str, help: &'a str) -> Arg<'a> {
+fn path<'a>(alloc: Global, name: &'a str, help: &'a str) -> Arg<'a>
+    ensures rule { rule_of result ≡ path_rule name.entry.now }
+    ensures local { result.global ≡ false }
+{
     Arg::new(alloc, name)
         .help(help)
         .required(true)
@@ -73,12 +89,18 @@ fn path<'a>(alloc: Global, name: &'a str, help: &'a str) -> Arg<'a> {
 }
 
 /// The path of an image.
-fn image<'a>(alloc: Global) -> Arg<'a> {
+fn image<'a>(alloc: Global) -> Arg<'a>
+    ensures rule { rule_of result ≡ image_rule }
+    ensures local { result.global ≡ false }
+{
     path(alloc, "IMG", "The image file, as asm makes one")
 }
 
 /// A number that may be there.
-fn number<'a>(alloc: Global, name: &'a str, value: &'a str, help: &'a str) -> Arg<'a> {
+fn number<'a>(alloc: Global, name: &'a str, value: &'a str, help: &'a str) -> Arg<'a>
+    ensures rule { rule_of result ≡ number_rule name.entry.now }
+    ensures local { result.global ≡ false }
+{
     Arg::new(alloc, name)
         .long(name)
         .value_name(value)
@@ -87,7 +109,10 @@ fn number<'a>(alloc: Global, name: &'a str, value: &'a str, help: &'a str) -> Ar
 }
 
 /// A count of windows that may be there.
-fn windows<'a>(alloc: Global) -> Arg<'a> {
+fn windows<'a>(alloc: Global) -> Arg<'a>
+    ensures rule { rule_of result ≡ windows_rule }
+    ensures local { result.global ≡ false }
+{
     number(
         alloc,
         "windows",
@@ -97,7 +122,10 @@ fn windows<'a>(alloc: Global) -> Arg<'a> {
 }
 
 /// A limit of turns that may be there.
-fn limit<'a>(alloc: Global) -> Arg<'a> {
+fn limit<'a>(alloc: Global) -> Arg<'a>
+    ensures rule { rule_of result ≡ limit_rule }
+    ensures local { result.global ≡ false }
+{
     number(
         alloc,
         "limit",
@@ -107,7 +135,9 @@ fn limit<'a>(alloc: Global) -> Arg<'a> {
 }
 
 /// The command that assembles a source.
-fn asm<'a>(alloc: Global) -> Result<Command<'a>, AllocError> {
+fn asm<'a>(alloc: Global) -> Result<Command<'a>, AllocError>
+    ensures { IfOk result (IsAlone asm_shape) }
+{
     Command::new(alloc, "asm")
         .about(ASM)
         .arg(path(alloc, "SRC", "The source file"))?
@@ -134,14 +164,18 @@ const TRACE: &str =
     "Runs an image, accepted or not, on standard input, which is read whole first, and prints a line a turn";
 
 /// The command that verifies an image.
-fn verify<'a>(alloc: Global) -> Result<Command<'a>, AllocError> {
+fn verify<'a>(alloc: Global) -> Result<Command<'a>, AllocError>
+    ensures { IfOk result (IsAlone verify_shape) }
+{
     Command::new(alloc, "verify")
         .about(VERIFY)
         .arg(image(alloc))
 }
 
 /// The command that runs an image.
-fn run<'a>(alloc: Global) -> Result<Command<'a>, AllocError> {
+fn run<'a>(alloc: Global) -> Result<Command<'a>, AllocError>
+    ensures { IfOk result (IsAlone run_shape) }
+{
     Command::new(alloc, "run")
         .about(RUN)
         .arg(windows(alloc))?
@@ -149,12 +183,16 @@ fn run<'a>(alloc: Global) -> Result<Command<'a>, AllocError> {
 }
 
 /// The command that lists an image.
-fn list<'a>(alloc: Global) -> Result<Command<'a>, AllocError> {
+fn list<'a>(alloc: Global) -> Result<Command<'a>, AllocError>
+    ensures { IfOk result (IsAlone list_shape) }
+{
     Command::new(alloc, "list").about(LIST).arg(image(alloc))
 }
 
 /// The command that traces an image.
-fn trace<'a>(alloc: Global) -> Result<Command<'a>, AllocError> {
+fn trace<'a>(alloc: Global) -> Result<Command<'a>, AllocError>
+    ensures { IfOk result (IsAlone trace_shape) }
+{
     Command::new(alloc, "trace")
         .about(TRACE)
         .arg(windows(alloc))?
@@ -163,7 +201,9 @@ fn trace<'a>(alloc: Global) -> Result<Command<'a>, AllocError> {
 }
 
 /// The sandbox without its commands.
-fn bare<'a>(alloc: Global) -> Result<Command<'a>, AllocError> {
+fn bare<'a>(alloc: Global) -> Result<Command<'a>, AllocError>
+    ensures { IfOk result (IsAlone bare_shape) }
+{
     Command::new(alloc, "sandbox")
         .about("Assembles, verifies and runs sandboxed SPARC V8 programs")
         .no_binary_name(true)
@@ -171,93 +211,143 @@ fn bare<'a>(alloc: Global) -> Result<Command<'a>, AllocError> {
         .bin_name("sandbox")
 }
 
-/// A command with one more below it.
-fn with<'a>(
-    command: Command<'a>,
-    below: Result<Command<'a>, AllocError>,
-) -> Result<Command<'a>, AllocError> {
-    command.subcommand(below?)
+/// The whole command line.
+fn sandbox<'a>(alloc: Global) -> Result<Command<'a>, AllocError>
+    ensures { IfOk result (λ c. app_of c ≡ sandbox_app) }
+{
+    bare(alloc)?
+        .subcommand(asm(alloc)?)?
+        .subcommand(verify(alloc)?)?
+        .subcommand(run(alloc)?)?
+        .subcommand(list(alloc)?)?
+        .subcommand(trace(alloc)?)
 }
 
-/// The whole command line.
-fn sandbox<'a>(alloc: Global) -> Result<Command<'a>, AllocError> {
-    let command = with(bare(alloc)?, asm(alloc))?;
-    let command = with(command, verify(alloc))?;
-    let command = with(command, run(alloc))?;
-    let command = with(command, list(alloc))?;
-    with(command, trace(alloc))
+/// The path of this name.
+fn path_in<'a>(name: &str, found: &ArgMatches<'a>) -> Result<&'a str, Lack>
+    ensures there { IfOk result (λ path. HasPath name.now (rows_of (found_of found.now)) path.now) }
+    ensures missing { IsErr result → first_of name.now (rows_of (found_of found.now)) ≡ None }
+{
+    found.get_str(name).ok_or(Lack::Command)
+}
+
+/// The count of windows.
+fn windows_in(found: &ArgMatches<'_>) -> Result<Windows, Lack>
+    ensures given { IfOk result (HasWindows (rows_of (found_of found.now))) }
+    ensures other { IsErr result → (windows : ℕ) → HasWindows (rows_of (found_of found.now)) windows → ⊥ }
+{
+    window_count(found.get_str("windows")).ok_or(Lack::Windows)
+}
+
+/// The limit of turns.
+fn limit_in(found: &ArgMatches<'_>) -> Result<u64, Lack>
+    ensures given { IfOk result (HasLimit (rows_of (found_of found.now))) }
+    ensures other { IsErr result → (limit : ℕ) → HasLimit (rows_of (found_of found.now)) limit → ⊥ }
+{
+    turns(found.get_str("limit")).ok_or(Lack::Limit)
 }
 
 /// The job of `trace`.
-fn trace_job<'a>(image: &'a str, found: &ArgMatches<'a>) -> Result<Job<'a>, Lack>
-    ensures { IfOk result IsInRange }
+fn trace_job<'a>(found: &ArgMatches<'a>) -> Result<Job<'a>, Lack>
+    ensures job { IfOk result (MeansJob (codes "trace") (rows_of (found_of found.now))) }
+    ensures none { IsErr result → (job : Job) → MeansJob (codes "trace") (rows_of (found_of found.now)) job → ⊥ }
 {
-    let Some(windows) = window_count(found.get_str("windows")) else {
-        return Err(Lack::Windows);
-    };
-    match turns(found.get_str("limit")) {
-        Some(limit) => Ok(Job::Trace {
-            image,
-            windows,
-            limit,
-        }),
-        None => Err(Lack::Limit),
-    }
+    Ok(Job::Trace {
+        image: path_in("IMG", found)?,
+        windows: windows_in(found)?,
+        limit: limit_in(found)?,
+    })
 }
 
 /// The job of `run`.
-fn run_job<'a>(image: &'a str, found: &ArgMatches<'a>) -> Result<Job<'a>, Lack>
-    ensures { IfOk result IsInRange }
+fn run_job<'a>(found: &ArgMatches<'a>) -> Result<Job<'a>, Lack>
+    ensures job { IfOk result (MeansJob (codes "run") (rows_of (found_of found.now))) }
+    ensures none { IsErr result → (job : Job) → MeansJob (codes "run") (rows_of (found_of found.now)) job → ⊥ }
 {
-    match window_count(found.get_str("windows")) {
-        Some(windows) => Ok(Job::Run { image, windows }),
-        None => Err(Lack::Windows),
-    }
+    Ok(Job::Run {
+        image: path_in("IMG", found)?,
+        windows: windows_in(found)?,
+    })
 }
 
-/// The job of a subcommand on an image.
-fn image_job<'a>(name: &str, image: &'a str, found: &ArgMatches<'a>) -> Result<Job<'a>, Lack>
-    ensures { IfOk result IsInRange }
+/// The job of `asm`.
+fn asm_job<'a>(found: &ArgMatches<'a>) -> Result<Job<'a>, Lack>
+    ensures job { IfOk result (MeansJob (codes "asm") (rows_of (found_of found.now))) }
+    ensures none { IsErr result → (job : Job) → MeansJob (codes "asm") (rows_of (found_of found.now)) job → ⊥ }
+{
+    Ok(Job::Asm {
+        source: path_in("SRC", found)?,
+        object: path_in("OUT", found)?,
+    })
+}
+
+/// The job of `verify`.
+fn verify_job<'a>(found: &ArgMatches<'a>) -> Result<Job<'a>, Lack>
+    ensures job { IfOk result (MeansJob (codes "verify") (rows_of (found_of found.now))) }
+    ensures none { IsErr result → (job : Job) → MeansJob (codes "verify") (rows_of (found_of found.now)) job → ⊥ }
+{
+    Ok(Job::Verify {
+        image: path_in("IMG", found)?,
+    })
+}
+
+/// The job of `list`.
+fn list_job<'a>(found: &ArgMatches<'a>) -> Result<Job<'a>, Lack>
+    ensures job { IfOk result (MeansJob (codes "list") (rows_of (found_of found.now))) }
+    ensures none { IsErr result → (job : Job) → MeansJob (codes "list") (rows_of (found_of found.now)) job → ⊥ }
+{
+    Ok(Job::List {
+        image: path_in("IMG", found)?,
+    })
+}
+
+/// The job of a command with what was found for it.
+fn job_of<'a>(name: &str, found: &ArgMatches<'a>) -> Result<Job<'a>, Lack>
+    ensures job { IfOk result (MeansJob name.now (rows_of (found_of found.now))) }
+    ensures none { IsErr result → (job : Job) → MeansJob name.now (rows_of (found_of found.now)) job → ⊥ }
 {
     match name {
-        "verify" => Ok(Job::Verify { image }),
-        "run" => run_job(image, found),
-        "list" => Ok(Job::List { image }),
-        "trace" => trace_job(image, found),
+        "asm" => asm_job(found),
+        "verify" => verify_job(found),
+        "run" => run_job(found),
+        "list" => list_job(found),
+        "trace" => trace_job(found),
         _ => Err(Lack::Command),
     }
 }
 
-/// The job of a subcommand that has what it needs.
-fn job_of<'a>(name: &str, found: &ArgMatches<'a>) -> Result<Job<'a>, Lack>
-    ensures { IfOk result IsInRange }
+/// The job of all that was found.
+fn job_in<'a>(matches: &ArgMatches<'a>) -> Result<Job<'a>, Lack>
+    ensures job { IfOk result (Means (subcommand_rows_of matches.now)) }
+    ensures none { IsErr result → (job : Job) → Means (subcommand_rows_of matches.now) job → ⊥ }
 {
-    match (
-        name,
-        found.get_str("SRC"),
-        found.get_str("OUT"),
-        found.get_str("IMG"),
-    ) {
-        ("asm", Some(source), Some(object), _) => Ok(Job::Asm { source, object }),
-        (_, _, _, Some(image)) => image_job(name, image, found),
-        _ => Err(Lack::Command),
-    }
-}
-
-/// What the words, without the program's name, ask for.
-pub fn read_words<'a, S: AsStr>(alloc: Global, words: &'a [S]) -> Result<Job<'a>, Usage>
-    ensures { IfOk result IsInRange }
-{
-    let command = sandbox(alloc)?;
-    let matches = match command.try_get_matches_from(words) {
-        Ok(matches) => matches,
-        Err(error) => return Err(usage_of(alloc, &error)),
-    };
-    let job = match matches.subcommand() {
+    match matches.subcommand() {
         Some((name, found)) => job_of(name, found),
         None => Err(Lack::Command),
-    };
-    match job {
+    }
+}
+
+/// What `clap` finds in the words, where it finds no fault with them.
+fn matches_of<'a, S: AsStr>(alloc: Global, words: &'a [S]) -> Result<ArgMatches<'a>, Usage>
+    ensures found { IfOk result (λ m. (fault_of sandbox_app (map S.text words.entry.now) ≡ [])
+        × (subcommand_rows_of m ≡ subcommand_of sandbox_app (map S.text words.entry.now))) }
+    ensures refused { IfErr result (λ usage. IsTrueOfWords usage (map S.text words.entry.now)) }
+{
+    let command = sandbox(alloc)?;
+    match command.try_get_matches_from(words) {
+        Ok(matches) => Ok(matches),
+        Err(error) => Err(usage_of(alloc, &error)),
+    }
+}
+
+/// What the words, without the program's name, ask for: the job that they mean; or that they ask for none, or that memory was refused.
+pub fn read_words<'a, S: AsStr>(alloc: Global, words: &'a [S]) -> Result<Job<'a>, Usage>
+    ensures range { IfOk result IsInRange }
+    ensures asked { IfOk result (AskFor (map S.text words.entry.now)) }
+    ensures refused { IfErr result (λ usage. IsTrueOfWords usage (map S.text words.entry.now)) }
+{
+    let matches = matches_of(alloc, words)?;
+    match job_in(&matches) {
         Ok(job) => Ok(job),
         Err(lack) => Err(usage_of_lack(alloc, lack)),
     }

@@ -38,7 +38,7 @@ fn tried(alloc: Global, line: &str, job: Option<&Job<'_>>) -> Answer {
             _ => Answer::Other,
         },
         Err(Usage::Text(text)) if job.is_none() && !text.is_empty() => Answer::Wanted,
-        Err(Usage::Memory(_) | Usage::NoRoom) => Answer::WantOfMemory,
+        Err(Usage::Memory(_) | Usage::NoRoom(_)) => Answer::WantOfMemory,
         _ => Answer::Other,
     }
 }
