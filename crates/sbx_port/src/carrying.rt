@@ -36,12 +36,16 @@ fn tell_end<const N: usize>(board: &mut Board<N, Mailbox>)
     board.port_mut().end();
 }
 
-/// Takes away what a board has put out.
+/// Takes away what a board has put out. A port that is lent to be changed costs the board its translation cache, so it is asked first.
 fn take<const N: usize>(board: &mut Board<N, Mailbox>) -> Option<u8>
+    requires served { board.old.failed ≡ 0 }
     ensures byte { output_of result ≡ board.old.state.world.memory.device.output }
     ensures taken { board.new.state ≡ with_output board.old.state [] }
     ensures served { board.new.failed ≡ 0 }
 {
+    if board.port().is_empty() {
+        return None;
+    }
     board.port_mut().take()
 }
 
@@ -52,6 +56,7 @@ fn attempt<const N: usize>(board: &mut Board<N, Mailbox>) -> bool
     ensures made { result ≡ true → (turned N board.old.state).1 ≡ board.new.state }
     ensures stays { result ≡ false → board.new.state ≡ board.old.state }
     ensures lacks { result ≡ false → board.old.state.world.memory.device.input ≡ unknown }
+    ensures served { result ≡ true → board.new.failed ≡ 0 }
 {
     match board.step() {
         Ok(_turn) => true,
@@ -92,6 +97,7 @@ fn deliver<const N: usize, W: Write>(
     board: &mut Board<N, Mailbox>,
     writer: &mut W,
 ) -> Result<(), StreamFault>
+    requires served { board.old.failed ≡ 0 }
     ensures emptied { OnOk result (board.new.state ≡ with_output board.old.state []) }
     ensures served { OnOk result (board.new.failed ≡ 0) }
     ensures written { OnOk result (Appends (W.contents writer.old) (W.contents writer.new) board.old.state.world.memory.device.output) }
@@ -119,6 +125,7 @@ fn advance<const N: usize, R: Read>(
     requires empty { board.old.state.world.memory.device.output ≡ [] }
     requires ended { met ≡ true → board.old.state.world.memory.device.input ≡ [] }
     ensures ok { IfOk result (λ now_met. IsAdvanced N met now_met board.old.state board.new.state (R.remaining reader.old) (R.remaining reader.new)) }
+    ensures served { OnOk result (board.new.failed ≡ 0) }
     ensures halted { OnErr result (IsHalted N met board.old.state (R.remaining reader.old) (R.remaining reader.new)) }
     ensures fault { IfErr result (λ fault. fault ≡ StreamFault.Reader) }
 {

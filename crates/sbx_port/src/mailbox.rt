@@ -92,6 +92,14 @@ impl Mailbox {
         byte
     }
 
+    /// Whether it holds no byte of output.
+    pub fn is_empty(&self) -> bool
+        ensures empty { result ≡ true → self.now.output ≡ [] }
+        ensures full { result ≡ false → self.now.output ≢ [] }
+    {
+        self.slot.is_none()
+    }
+
     /// Whether it knows that the input has ended.
     pub fn has_ended(&self) -> bool
         ensures ended { result ≡ true → self.now.input ≡ [] }
