@@ -42,9 +42,10 @@ grown old below new app shape adds is alone = adds.shape alone.1 ∙ ap₂ with_
 pub found_by : (app : App) (words : List Text) (matches : ArgMatches) → app ≡ sandbox_app
     → (is_simple_and_free app ≡ true → fault_of app words ≡ []) → HasMatchesOf app words matches
     → (fault_of sandbox_app words ≡ []) × (subcommand_rows_of matches ≡ subcommand_of sandbox_app words)
-found_by app words matches is free has =
-    (ap (λ (a : App). fault_of a words) (sym is) ∙ free (ap is_simple_and_free is ∙ line_is_free),
-    (has (ap is_simple is ∙ line_is_simple)).1 ∙ ap (λ (a : App). subcommand_of a words) is)
+found_by app words matches is free has = (
+  ap (λ (a : App). fault_of a words) (sym is) ∙ free (ap is_simple_and_free is ∙ line_is_free),
+  (has (ap is_simple is ∙ line_is_simple)).1 ∙ ap (λ (a : App). subcommand_of a words) is,
+)
 
 -- ---- a path, and a number
 

@@ -20,6 +20,6 @@ pub use transfer::{
 };
 pub use v8_alu::{AluOut, Division, Op, TaggedOp, alu, divide, tagged_tv};
 pub use v8_formats::{
-    Branch, Operand, Three, Trap, Two, Upper, branch_of, bytes_in, displacement30, shift_of, three_of,
-    upper_of,
+    Branch, Operand, Three, Trap, Two, Upper, branch_of, bytes_in, displacement30, shift_of,
+    three_of, upper_of,
 };
