@@ -2,13 +2,14 @@
 use Rattle.std.specs.Prelude.{ℕ, ◌-◌, ◌/◌, ◌%◌, ◌==◌, nat_lt, if◌then◌else◌, List, ◌++◌, codes}
 use Rattle.std.specs.Fmt.{decimal, signed_decimal}
 use Rattle.sbx_image.specs.Range.{Range}
+use Rattle.v8_forms.specs.Registers.{frame_pointer, stack_pointer}
 use Rattle.v8_forms.specs.Text.{group_text}
 
 -- a register, or word k of the frame
 abbrev pub location_text : ℕ → List ℕ
 location_text l =
-    if l == 14 then codes "%sp"
-    else (if l == 30 then codes "%fp"
+    if l == stack_pointer then codes "%sp"
+    else (if l == frame_pointer then codes "%fp"
     else (if nat_lt l 32 then group_text (l / 8) ++ decimal (l % 8)
     else codes "slot " ++ decimal (l - 32)))
 

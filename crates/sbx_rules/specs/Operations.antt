@@ -1,5 +1,6 @@
 -- What the rules ask of an operation: its kind, the registers that it reads and writes, and the bytes that it reaches.
 use Rattle.std.specs.Prelude.{ℕ, ◌&&◌, ◌||◌, not, Bool, true, false, ◌==◌, nat_lt, nat_le, if◌then◌else◌, List, [], ◌∷◌, ◌++◌, Option, Some, None, ℤ}
+use Rattle.v8_word.specs.Registers.{call_address, caller_address, frame_pointer, stack_pointer}
 use Rattle.v8_word.specs.declared.Size.{Size}
 use Rattle.v8_word.specs.declared.Size.TheVariants as sizes
 use Rattle.v8_formats.specs.declared.instr.Operand.{Operand}
@@ -144,9 +145,9 @@ writes_of (Restore f) = f.rd ∷ []
 writes_of (TrapOnCondition t) = service_writes (service_of t)
 writes_of _ = []
 
--- %sp, %o7, %fp and %i7
+-- a program's own code may not write these
 abbrev pub is_reserved : ℕ → Bool
-is_reserved r = (r == 14) || (r == 15) || (r == 30) || (r == 31)
+is_reserved r = (r == stack_pointer) || (r == call_address) || (r == frame_pointer) || (r == caller_address)
 
 -- a leaf leaves locals and ins to its caller; RESTORE writes an out of the caller, %o0 to %o5, or nothing
 abbrev pub may_write : Function → Operation → ℕ → Bool

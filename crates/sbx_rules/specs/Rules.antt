@@ -3,6 +3,7 @@
 -- words of its own; a word that is annulled, or runs on no way, reads, writes and reaches nothing.
 use Rattle.std.specs.Prelude.{◌≡◌, ℕ, zero, suc, ◌+◌, ◌-◌, ◌*◌, ◌%◌, ◌^◌, ◌⊎◌, ◌&&◌, ◌||◌, not, Bool, true, false, IsTrue, ◌==◌, nat_lt, nat_le, if◌then◌else◌, List, [], ◌∷◌, length, Option, Some, None, ℤ, pos, negsuc, ◌+ℤ◌, int_lt, slice_get}
 use Rattle.std.specs.List.{list_any}
+use Rattle.v8_word.specs.Registers.{stack_pointer}
 use Rattle.v8_formats.specs.declared.instr.Instr.{Instr}
 use Rattle.v8_formats.specs.declared.instr.Instr.TheVariants.{Undefined}
 use Rattle.v8_formats.specs.declared.instr.Operand.{Operand}
@@ -45,7 +46,7 @@ is_minus frame (Register r) = false
 
 -- save %sp,-F,%sp
 abbrev pub is_save_of : ℕ → Operation → Bool
-is_save_of frame (Save f) = f.rd == 14 && f.rs1 == 14 && is_minus frame f.operand2
+is_save_of frame (Save f) = f.rd == stack_pointer && f.rs1 == stack_pointer && is_minus frame f.operand2
 is_save_of frame _ = false
 
 abbrev pub is_frame_size : ℕ → Bool

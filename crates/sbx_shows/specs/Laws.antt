@@ -5,6 +5,7 @@ use Rattle.v8_core.specs.Operation.{Operation}
 use Rattle.v8_core.specs.Operation.TheVariants.{Restore, Save}
 use Rattle.v8_core.specs.Windows.{reg_of}
 use Rattle.v8_core.specs.MmuRegs.{MmuRegs}
+use Rattle.v8_core.specs.Traps.{window_overflow, window_underflow}
 use Rattle.v8_core.specs.declared.turn.Event.TheVariants.{Trapped}
 use Rattle.v8_core.specs.Accesses.{World}
 use Rattle.v8_loaded.specs.Board.{Device, board}
@@ -62,7 +63,7 @@ abbrev pub SavesOverflow : Type 0
 SavesOverflow =
     (n : ℕ) (parts : Parts) (mmu : MmuRegs) (x : World n Device) (s : State) (r i : ℕ) (f : Three) →
     Stands n parts mmu x s r i → AsksFor parts.words i (Save f) → (IsWrong parts s → ⊥) → r + 1 ≡ n →
-    ((turn_at board n mmu 0 x).event ≡ Trapped 5) × Shows n parts (after board n mmu 24 x) s (r - 1) × Advances n parts mmu x s r 25 1 0 r
+    ((turn_at board n mmu 0 x).event ≡ Trapped window_overflow) × Shows n parts (after board n mmu 24 x) s (r - 1) × Advances n parts mmu x s r 25 1 0 r
 
 -- A RESTORE where one call has a window: window_underflow and the 23 turns of its handler, after which its caller has one; and the
 -- RESTORE again. It may stand in a delay slot.
@@ -70,4 +71,4 @@ abbrev pub RestoresUnderflow : Type 0
 RestoresUnderflow =
     (n : ℕ) (parts : Parts) (mmu : MmuRegs) (x : World n Device) (s : State) (i : ℕ) (f : Three) →
     Stands n parts mmu x s 1 i → AsksFor parts.words i (Restore f) → (IsWrong parts s → ⊥) →
-    ((turn_at board n mmu 0 x).event ≡ Trapped 6) × Shows n parts (after board n mmu 24 x) s 2 × Advances n parts mmu x s 1 25 0 1 1
+    ((turn_at board n mmu 0 x).event ≡ Trapped window_underflow) × Shows n parts (after board n mmu 24 x) s 2 × Advances n parts mmu x s 1 25 0 1 1

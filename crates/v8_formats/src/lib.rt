@@ -15,7 +15,7 @@ use fields::{alternate_of, trap_of, two_of};
 pub use fields::{branch_of, displacement30, shift_of, three_of, upper_of};
 pub use instr::{Alternate, Branch, Instr, Operand, Place, Three, Trap, Two, Upper};
 use v8_word::reg_at;
-pub use v8_word::{Cond, Icc, Reg, Size, TrapType, bits_of};
+pub use v8_word::{Cond, Icc, Reg, Size, TrapType, bits_of, bytes_in};
 
 /// The instruction of a minor opcode, else an undefined word.
 macro_rules! by_opcode {

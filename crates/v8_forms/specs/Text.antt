@@ -2,6 +2,7 @@
 use Rattle.std.specs.Prelude.{ℕ, ◌+◌, ◌-◌, ◌*◌, ◌/◌, ◌%◌, ◌^◌, ◌==◌, nat_lt, Bool, true, if◌then◌else◌, List, [], ◌∷◌, ◌++◌, get_or, Option, Some, None, codes}
 use Rattle.std.specs.List.{find}
 use Rattle.std.specs.Fmt.{decimal, digit_glyph}
+use Rattle.v8_word.specs.Registers.{frame_pointer, stack_pointer}
 use Rattle.v8_word.specs.Word.{bits_of, sign_extend}
 use Rattle.v8_formats.specs.declared.instr.Operand.{Operand}
 use Rattle.v8_formats.specs.declared.instr.Operand.TheVariants as operands
@@ -111,11 +112,10 @@ group_text k =
     else (if k == 2 then codes "%l"
     else codes "%i"))
 
--- r[14] is %sp and r[30] is %fp
 abbrev pub register_text : ℕ → List ℕ
 register_text r =
-    if r == 14 then codes "%sp"
-    else (if r == 30 then codes "%fp"
+    if r == stack_pointer then codes "%sp"
+    else (if r == frame_pointer then codes "%fp"
     else group_text (r / 8) ++ (48 + r % 8) ∷ [])
 
 abbrev pub special_text : Special → List ℕ

@@ -9,7 +9,7 @@ use Rattle.v8_core.specs.Transfer.{Transfer as Moving}
 use Rattle.v8_core.specs.Transfers.{writes_memory}
 use Rattle.v8_core.specs.MemoryOperand.{MemoryOperand}
 use Rattle.v8_core.specs.Space.TheVariants.{Normal}
-use Rattle.v8_core.specs.Traps.{entered, first_trap}
+use Rattle.v8_core.specs.Traps.{data_access_exception, entered, first_trap}
 use Rattle.v8_core.specs.declared.turn.Event.TheVariants.{Trapped}
 use Rattle.v8_core.specs.Memory.{fetches, status_of}
 use Rattle.v8_core.specs.Accesses.{World, faulted, place_of, world}
@@ -51,4 +51,4 @@ ForbiddenStoresTrap =
     RunsUser n g words mmu x i → AsksFor words i (Transfer t o) → o.space ≡ Normal → writes_memory t ≡ true → first_trap n x.cpu (Transfer t o) ≡ None →
     may_be_read g (place_of n x.cpu o) ≡ true → may_be_written g (place_of n x.cpu o) ≡ false →
     next board n mmu x ≡
-    (turn_of n x.cpu (Trapped 9) (Some (slice_index words i)) None, world n (entered n (faulted n x.cpu forbidden_store) 9) (code_marked i x.memory.ram) x.memory.device)
+    (turn_of n x.cpu (Trapped data_access_exception) (Some (slice_index words i)) None, world n (entered n (faulted n x.cpu forbidden_store) data_access_exception) (code_marked i x.memory.ram) x.memory.device)

@@ -12,7 +12,7 @@ mod transfer;
 pub use admitted::{is_admitted, is_ret, is_retl, is_service_call};
 pub use asked::{normal, operation_of};
 pub use direct::{Direct, direct_of};
-pub use moved::{bytes_in, odd_of, splits_pair};
+pub use moved::{odd_of, splits_pair};
 pub use operation::{Exchange, Loading, MemoryOperand, Operation, Space, StateRegister, Transfer};
 pub use spaces::{is_code_space, is_missing, is_normal, is_unknown, is_user_space};
 pub use transfer::{
@@ -20,6 +20,6 @@ pub use transfer::{
 };
 pub use v8_alu::{AluOut, Division, Op, TaggedOp, alu, divide, tagged_tv};
 pub use v8_formats::{
-    Branch, Operand, Three, Trap, Two, Upper, branch_of, displacement30, shift_of, three_of,
+    Branch, Operand, Three, Trap, Two, Upper, branch_of, bytes_in, displacement30, shift_of, three_of,
     upper_of,
 };

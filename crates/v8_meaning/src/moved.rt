@@ -1,21 +1,8 @@
 // Sizes and registers of what moves between memory and registers.
-ghost use Rattle.std.specs.Prelude.{◌≡◌, ◌<◌};
-ghost use Rattle.v8_meaning.specs.Transfers.{bytes_in, odd_of, splits_pair};
+ghost use Rattle.std.specs.Prelude.{◌≡◌};
+ghost use Rattle.v8_meaning.specs.Transfers.{odd_of, splits_pair};
 
 use v8_formats::{Reg, Size};
-
-/// How many bytes a number of this size has.
-pub fn bytes_in(size: Size) -> u32
-    ensures value { result ≡ bytes_in size }
-    ensures some { 0 < result }
-{
-    match size {
-        Size::Byte => 1,
-        Size::Half => 2,
-        Size::Word => 4,
-        Size::Double => 8,
-    }
-}
 
 /// The odd register of a register's pair.
 pub fn odd_of(rd: Reg) -> Reg

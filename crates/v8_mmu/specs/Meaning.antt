@@ -3,6 +3,7 @@ use Rattle.std.specs.Prelude.{ℕ, ◌^◌, Bool, List, Option, Some, None}
 use Rattle.v8_word.specs.declared.Size.{Size}
 use Rattle.v8_word.specs.declared.Size.TheVariants.{Byte, Half, Word, Double}
 use Rattle.v8_mmu.specs.declared.bus.Stop.{Stop}
+pub use Rattle.v8_word.specs.Sizes.{bytes_in}
 
 -- What a bus with devices of this type does. Nothing is changed where nothing answers.
 pub record Meaning (D : Type 0) : Type 0 where
@@ -17,13 +18,6 @@ pub record Meaning (D : Type 0) : Type 0 where
   pub swap : List ℕ → D → ℕ → Size → ℕ → Option (ℕ × List ℕ × D)
   -- device, place, size, whether it is a store or an exchange: whether an access there may call the port
   pub asks : D → ℕ → Size → Bool → Bool
-
--- how many bytes a number of this size has
-abbrev pub bytes_in : Size → ℕ
-bytes_in Byte = 1
-bytes_in Half = 2
-bytes_in Word = 4
-bytes_in Double = 8
 
 -- one more than the greatest number of this size
 abbrev pub limit_of : Size → ℕ

@@ -6,6 +6,7 @@ ghost use Rattle.std.specs.Prelude.{◌≡◌, ℕ, ◌+◌, ◌-◌, ◌*◌, �
 ghost use Rattle.std.specs.Option.{SomeIff};
 ghost use Rattle.v8_word.specs.Word.{bits_of, sign_extend};
 ghost use Rattle.v8_word.specs.Conditions.{code_of, cond_of, holds};
+ghost use Rattle.v8_word.specs.Sizes.{bytes_in};
 
 use std::marker::Model;
 
@@ -138,6 +139,19 @@ pub enum Size {
     Half,
     Word,
     Double,
+}
+
+/// How many bytes a number of this size has.
+pub fn bytes_in(size: Size) -> u32
+    ensures value { result ≡ bytes_in size }
+    ensures some { 0 < result }
+{
+    match size {
+        Size::Byte => 1,
+        Size::Half => 2,
+        Size::Word => 4,
+        Size::Double => 8,
+    }
 }
 
 /// The `width` bits of a word from bit `low` up, as a number. Bits that lie above bit 31 are 0.
