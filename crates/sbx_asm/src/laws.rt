@@ -14,13 +14,11 @@ pub fn code_is_its_statements()
 {}
 
 /// The data of an image lie where the source's labels say.
-#[tactic(auto, using(crate::proofs::Lying::data_lie))]
 pub fn data_lie_where_labels_say()
     ensures { DataLieWhereLabelsSay }
 {}
 
 /// The regions of an image begin where the source's labels say.
-#[tactic(auto, using(crate::proofs::Beginning::regions_begin))]
 pub fn regions_begin_where_labels_say()
     ensures { RegionsBeginWhereLabelsSay }
 {}
