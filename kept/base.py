@@ -28,9 +28,13 @@ def one(n):
     kit._belows[id(c)] = kit.below(cs[n]); kit._stamps[id(c)] = kit.stamp(cs[n])
     t = time.time()
     os.makedirs(f"{c.folder}/out", exist_ok=True)
-    with open(f"{log}/{n}", "w") as c.out:
-        try: status = c.build_rlib(["--jobs", "1"], anew=False)
-        except SystemExit: status = 2
+    import fcntl
+    with open(f"/work/log/lock.{os.path.basename(tree)}.{n}", "w") as held:
+        fcntl.flock(held, fcntl.LOCK_EX)
+        if c.is_built(): return 0
+        with open(f"{log}/{n}", "w") as c.out:
+            try: status = c.build_rlib(["--jobs", "1"], anew=False)
+            except SystemExit: status = 2
     print(time.strftime("%H:%M:%S"), n, "ok" if status == 0 else f"FAILED {status} see {log}/{n}", f"{time.time()-t:.0f}s", flush=True)
     return status
 given, failed, left, running = set(n for n in todo if n not in stale), set(), [n for n in todo if n in stale], {}
