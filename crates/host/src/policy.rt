@@ -14,12 +14,16 @@ pub struct Policy {
     pub turns: u64,
 }
 
-/// Why an image isn't run: the bytes are none, it breaks a rule (both tell want of memory, too), or it asks for more than is granted.
+/// Why an image isn't run. Want of memory is told as I9 or V19.
 #[derive(Clone, Copy)]
 pub enum Denial {
+    /// The bytes are no image.
     Image(ImageFault),
+    /// The image breaks a rule.
     Refused(Refusal),
+    /// It declares these services, and one of them isn't granted.
     Services(Services),
+    /// It declares so many turns, more than are granted.
     Turns(u64),
 }
 
