@@ -1,19 +1,12 @@
 //! The state registers as words, and booting (chapter 4).
 ghost use Rattle.std.specs.Prelude.{◌≡◌, ℕ, ◌+◌, ◌*◌, ◌/◌, ◌%◌, ◌^◌, ◌<◌, ◌≤◌, ◌↔◌, IsTrue, if◌then◌else◌, None, false};
-ghost use Rattle.v8_state.specs.Registers.{booted, cleared, flag_at, psr_codes, psr_modes, psr_of, psr_window, started_with, tbr_of, trap_base, with_psr, with_wim};
+ghost use Rattle.v8_state.specs.Registers.{booted, cleared, psr_codes, psr_modes, psr_of, psr_window, started_with, tbr_of, trap_base, with_psr, with_wim};
 ghost use Rattle.v8_windows.specs.Windows.{IsFile};
 
 use crate::state::{Control, Cpu};
 use v8_map::{CODE_START, STACK_START, TRAP_TABLE};
 use v8_windows::RegFile;
-use v8_word::{Icc, Reg, TrapType, bits_of};
-
-fn flag(word: u32, low: u32) -> bool
-    requires { low < 32 }
-    ensures { result ≡ flag_at word low }
-{
-    bits_of(word, low, 1) == 1
-}
+use v8_word::{Icc, Reg, TrapType, bits_of, flag_at};
 
 /// The trap base address that a word names.
 pub(crate) fn trap_base(word: u32) -> u32
@@ -142,15 +135,15 @@ impl<const N: usize> Cpu<N> {
             return false;
         }
         self.control.icc = Icc {
-            n: flag(word, 23),
-            z: flag(word, 22),
-            v: flag(word, 21),
-            c: flag(word, 20),
+            n: flag_at(word, 23),
+            z: flag_at(word, 22),
+            v: flag_at(word, 21),
+            c: flag_at(word, 20),
         };
         self.control.pil = bits_of(word, 8, 4) as u8;
-        self.control.s = flag(word, 7);
-        self.control.ps = flag(word, 6);
-        self.control.et = flag(word, 5);
+        self.control.s = flag_at(word, 7);
+        self.control.ps = flag_at(word, 6);
+        self.control.et = flag_at(word, 5);
         true
     }
 }

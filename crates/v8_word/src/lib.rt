@@ -2,9 +2,9 @@
 // conditions and condition codes (The SPARC Architecture Manual Version 8, chapters 4, 5 and 7, appendices B and F).
 #![tactic(auto)]
 
-ghost use Rattle.std.specs.Prelude.{◌≡◌, ℕ, ◌+◌, ◌-◌, ◌*◌, ◌/◌, ◌%◌, ◌^◌, ◌<◌, ◌≤◌, IsTrue, ◌↔◌, IfSome};
+ghost use Rattle.std.specs.Prelude.{◌≡◌, ℕ, ◌+◌, ◌-◌, ◌*◌, ◌/◌, ◌%◌, ◌^◌, ◌<◌, ◌≤◌, IfSome};
 ghost use Rattle.std.specs.Option.{SomeIff};
-ghost use Rattle.v8_word.specs.Word.{bits_of, sign_extend};
+ghost use Rattle.v8_word.specs.Word.{bits_of, flag_at, sign_extend};
 ghost use Rattle.v8_word.specs.Conditions.{code_of, cond_of, holds};
 ghost use Rattle.v8_word.specs.Sizes.{bytes_in};
 
@@ -189,7 +189,7 @@ pub fn simm13(word: u32) -> u32
 /// Whether bit `low` of a word is 1.
 pub fn flag_at(word: u32, low: u32) -> bool
     requires { low < 32 }
-    ensures { IsTrue result ↔ (bits_of word low 1 ≡ 1) }
+    ensures { result ≡ flag_at word low }
 {
     (word >> low) & 1 == 1
 }
