@@ -1,11 +1,6 @@
 //! Lines that fit 100 columns.
+use sbx_lines::{MARGIN, WIDTH};
 use std::alloc::AllocError;
-
-/// The columns of a line.
-const WIDTH: usize = 100;
-
-/// What a line begins with that goes on with another's items.
-const MARGIN: &str = "       ";
 
 /// Where a line is broken that has to fit into so many columns: at the last blank of these that stands before a `+`, a `=` or another
 /// blank, as before an arrow, or behind a comma; none where there is no such blank.

@@ -2,16 +2,11 @@
 ghost use Rattle.std.specs.Prelude.{◌≡◌, ◌++◌, ◌-◌, OnOk, length, string_bytes};
 ghost use Rattle.sbx_turns.specs.Heads.{padded_to};
 
+use sbx_lines::{MARGIN, WIDTH};
 use std::alloc::{AllocError, Global};
-
-/// The columns of a line.
-const WIDTH: usize = 100;
 
 /// The column from which items stand behind the text that a line begins with.
 const ITEMS: usize = 60;
-
-/// What a line begins with that goes on with another's items.
-const MARGIN: &str = "       ";
 
 /// Items that stand behind a text, each whole: where one doesn't fit the line, it goes on in the next.
 #[derive(Drop)]
