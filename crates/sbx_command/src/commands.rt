@@ -90,3 +90,19 @@ pub fn command<F: Read, I: Read, O: Write, E: Write>(
         Err(stop) => stop.report(err),
     }
 }
+
+/// Does a job as [`command`] does, and gives its exit status alone: for a caller that has nothing more to say of it, since what
+/// `command` promises is long.
+pub fn exit_status<F: Read, I: Read, O: Write, E: Write>(
+    alloc: Global,
+    job: &Job<'_>,
+    file: &mut F,
+    input: &mut I,
+    out: &mut O,
+    err: &mut E,
+) -> u8
+    ensures range { result < 6 }
+    ensures done { result < 2 → IfSome (F.remaining file.old) (Deserves job.now) }
+{
+    command(alloc, job, file, input, out, err).status
+}

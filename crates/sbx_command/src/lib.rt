@@ -15,7 +15,7 @@ mod streaming;
 mod tracing;
 mod verifying;
 
-pub use commands::command;
+pub use commands::{command, exit_status};
 pub use counts::Windows;
 pub use images::image_in;
 pub use jobs::{Job, MOST_TURNS, decimal, turns, window_count};

@@ -1,5 +1,5 @@
 //! Files by their paths.
-use sbx_words::{Job, Stop, command};
+use sbx_words::{Job, Stop, exit_status};
 use std::fs::File;
 use std::io::{Read, Write};
 use std::os::unix::fs::MetadataExt;
@@ -23,7 +23,7 @@ pub fn done_on<I: Read, O: Write>(
     out: &mut O,
 ) -> Result<u8, Stop> {
     let mut file = opened(rt, path)?;
-    Ok(command(rt.alloc(), job, &mut file, input, out, &mut rt.stderr()).status)
+    Ok(exit_status(rt.alloc(), job, &mut file, input, out, &mut rt.stderr()))
 }
 
 /// Whether two paths have the same plain file.

@@ -1,7 +1,7 @@
 //! The programs of `examples`: what the sandbox's commands do with them, in memory. Each command is printed, with what it tells and its
 //! status: a source is assembled, its image verified and run. Of an image that is kept beside its source it is told where it is another
 //! than the assembled one.
-use sbx_command::{Job, Windows, command};
+use sbx_command::{Job, Windows, exit_status};
 use std::{fs, io};
 
 /// Programs, whether there is an input for each, and whether its image is kept. The last six are those of the lessons.
@@ -54,7 +54,7 @@ struct Done {
 fn performed(rt: &HostRuntime, job: &Job<'_>, mut file: &[u8], mut input: &[u8]) -> Done {
     let mut out = Vec::new(rt.alloc());
     let mut err = Vec::new(rt.alloc());
-    let status = command(rt.alloc(), job, &mut file, &mut input, &mut out, &mut err).status;
+    let status = exit_status(rt.alloc(), job, &mut file, &mut input, &mut out, &mut err);
     Done { status, out, err }
 }
 

@@ -1,5 +1,5 @@
 //! A chain of calls that is deeper than any count of windows, from its source to its run and its trace.
-use sbx_command::{Job, Windows, command};
+use sbx_command::{Job, Windows, exit_status};
 use std::alloc::Global;
 use std::io::{self, Write};
 
@@ -56,7 +56,7 @@ fn done(alloc: Global, job: &Job<'_>, file: &[u8]) -> Option<Vec<u8>> {
     let mut input: &[u8] = b"";
     let mut out = Vec::new(alloc);
     let mut err = Vec::new(alloc);
-    match command(alloc, job, &mut file, &mut input, &mut out, &mut err).status {
+    match exit_status(alloc, job, &mut file, &mut input, &mut out, &mut err) {
         0 => Some(out),
         _ => None,
     }

@@ -1,6 +1,6 @@
 //! Sources that mean an image, and others.
 use super::{Case, HELLO, MEMORY, Reader, Writer, is_answered};
-use sbx_command::{Job, command};
+use sbx_command::{Job, exit_status};
 use std::alloc::Global;
 use std::io::{self, Write};
 
@@ -74,7 +74,7 @@ fn is_full_told(alloc: Global) -> bool {
     let mut file = Reader::new(SOURCE, 0);
     let mut input = Reader::new(b"", 0);
     let mut err = Writer::new(0);
-    let status = command(alloc, &ASM, &mut file, &mut input, &mut Full, &mut err).status;
+    let status = exit_status(alloc, &ASM, &mut file, &mut input, &mut Full, &mut err);
     status == 5 && err.kept.as_slice() == MEMORY
 }
 

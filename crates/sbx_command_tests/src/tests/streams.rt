@@ -1,6 +1,6 @@
 //! Runs over streams: faults where the program reads and where it writes, an input that answers, and one without end.
 use super::{Case, RUN, Writer, is_answered};
-use sbx_command::command;
+use sbx_command::exit_status;
 use std::alloc::Global;
 use std::cell::Cell;
 use std::io::{self, Read, Write};
@@ -107,7 +107,7 @@ fn conversed(alloc: Global) -> (u8, usize) {
     };
     let mut out = Ear { heard: &heard };
     let mut err = Writer::new(0);
-    let status = command(alloc, &RUN, &mut file, &mut input, &mut out, &mut err).status;
+    let status = exit_status(alloc, &RUN, &mut file, &mut input, &mut out, &mut err);
     (status, heard.get())
 }
 
