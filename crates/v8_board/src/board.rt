@@ -278,6 +278,6 @@ impl<const N: usize, P: Port> Board<N, P> {
         ensures failed { P.failed result.now ≡ self.old.failed }
         ensures calls { P.calls result.now ≡ self.old.calls }
     {
-        self.machine.bus_mut().port_mut()
+        self.machine.port_mut()
     }
 }

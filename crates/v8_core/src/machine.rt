@@ -15,7 +15,7 @@ use crate::turn::{Event, Turn};
 use std::marker::Model;
 use v8_cache::Cache;
 use v8_formats::{Reg, TrapType};
-use v8_mmu::{Bus, Found, MmuRegs, PortFault};
+use v8_mmu::{Bus, Found, MmuRegs, PortBus, PortFault};
 use v8_state::Cpu;
 
 /// A processor of `N` register windows, 4 to 32, on a bus.
@@ -249,7 +249,7 @@ impl<const N: usize, B: Bus> Machine<N, B> {
     }
 
     /// The bus, to be written to. The machine then goes on with the bus as it was left; its processor and the registers of its MMU
-    /// stay.
+    /// stay. What it keeps of translations is dropped: where the port alone is to be written to, `port_mut` keeps it.
     pub fn bus_mut(&mut self) -> &mut B
         ensures* writes_back { sem 𝓛 (Lends (the_row N.row B.row B.Bus) B.row self.entry result (λ w. record self.old { bus = w })) }
         ensures value { result.now ≡ self.old.bus }
@@ -263,5 +263,18 @@ impl<const N: usize, B: Bus> Machine<N, B> {
         ensures { IfSome result (λ f. LeadsTo (B.ram self.now.bus) (root_of self.now.mmu) va f) }
     {
         self.cache.found(va)
+    }
+}
+
+impl<const N: usize, B: PortBus> Machine<N, B> {
+    ghost use Rattle.v8_core.specs.contracts.machine.Machine.{the_row};
+
+    /// The port of the bus, to be written to. The machine then goes on with the bus that has the port as it was left; its processor,
+    /// the registers of its MMU and RAM stay, and so what it keeps of translations does.
+    pub fn port_mut(&mut self) -> &mut B::Port
+        ensures* writes_back { sem 𝓛 (Lends (the_row N.row B.row B.Bus) B.Port.row self.entry result (λ w. record self.old { bus = B.with_port self.old.bus w })) }
+        ensures value { result.now ≡ B.port self.old.bus }
+    {
+        self.bus.port_mut()
     }
 }

@@ -1,4 +1,3 @@
 pub mod Input
 pub mod Board
 pub mod Placing
-pub mod Lending

@@ -1,6 +1,5 @@
 //! RAM and the device, as a bus.
 ghost use Rattle.std.specs.Prelude.{◌≡◌, ℕ, ◌+◌, ◌*◌, ◌%◌, ◌-◌, ◌^◌, ◌<◌, ◌≤◌, ◌==◌, not, [], length, IfErr, IfOk, OnOk, OnErr, None, false, Option};
-ghost use Rattle.std.specs.Borrow.{sem};
 ghost use Rattle.v8_mmu.specs.Answers.{Grows, IfPort, OnUnanswered, bus_failed_after, call_if, calls_of, failed_after};
 ghost use Rattle.v8_map.specs.declared.TheConstants.{RAM};
 ghost use Rattle.v8_memory.specs.Placing.{HasWords, HasBytesOf};
@@ -11,7 +10,7 @@ use crate::port::Port;
 use crate::ram::Ram;
 use std::alloc::{AllocError, Global};
 use v8_map::DEVICE_PLACE;
-use v8_mmu::{Bus, BusFault, PortFault, Size, Stop};
+use v8_mmu::{Bus, BusFault, PortBus, PortFault, Size, Stop};
 
 /// What a load of the input register gives at the end of the input.
 const NO_BYTE: u64 = 0xFFFF_FFFF;
@@ -28,8 +27,6 @@ pub struct Memory<P: Port> {
 }
 
 impl<P: Port> Memory<P> {
-    ghost use Rattle.v8_memory.specs.Lending.{lends_port};
-
     /// RAM of zeros and a device that has neither stopped nor met the end of its input. A refusal of memory drops the port.
     pub fn new(alloc: Global, port: P) -> Result<Self, AllocError>
         ensures ram { IfOk result (λ m. IsBlank m.ram) }
@@ -95,14 +92,6 @@ impl<P: Port> Memory<P> {
         ensures { result.now ≡ self.now.port }
     {
         &self.port
-    }
-
-    /// The port, to be written to. The memory then goes on with the port as it was left; the rest of it stays.
-    pub fn port_mut(&mut self) -> &mut P
-        ensures* writes_back { sem 𝓛 (lends_port P.row self.entry result) }
-        ensures value { result.now ≡ self.old.port }
-    {
-        &mut self.port
     }
 
     /// The word of the first register.
@@ -249,5 +238,17 @@ impl<P: Port> Bus for Memory<P> {
 
     fn failures(&self) -> u64 {
         self.port.failures()
+    }
+}
+
+impl<P: Port> PortBus for Memory<P> {
+    type Port = P;
+
+    ghost port = { λ m. m.port };
+
+    ghost with_port = { λ m w. record m { port = w } };
+
+    fn port_mut(&mut self) -> &mut P {
+        &mut self.port
     }
 }

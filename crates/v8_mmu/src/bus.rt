@@ -116,3 +116,24 @@ pub trait Bus {
     fn failures(&self) -> u64
         ensures { result ≡ failed self.now };
 }
+
+/// A bus that lends the port of its device, and keeps its RAM meanwhile.
+pub trait PortBus: Bus {
+    ghost use Rattle.std.specs.Prelude.{◌≡◌};
+    ghost use Rattle.std.specs.Borrow.{Lends, sem};
+
+    /// The port of the device.
+    type Port;
+
+    /// The port that it has.
+    ghost port: { Self → Self.Port };
+
+    /// The same bus with another port.
+    ghost with_port: { Self → Self.Port → Self };
+
+    /// The port, to be written to. The bus then goes on with the port as it was left; whatever that is, its RAM stays.
+    fn port_mut(&mut self) -> &mut Self::Port
+        ensures* writes_back { sem 𝓛 (Lends Self.row Self.Port.row self.entry result (λ w. with_port self.old w)) }
+        ensures value { result.now ≡ port self.old }
+        ensures ram { (w : Self.Port) → Self.ram (with_port self.old w) ≡ Self.ram self.old };
+}

@@ -8,7 +8,7 @@ mod translation;
 mod walks;
 
 pub use access::{Access, AccessKind};
-pub use bus::{Bus, BusFault, PortFault, Stop};
+pub use bus::{Bus, BusFault, PortBus, PortFault, Stop};
 pub use translation::{Found, MmuFault, MmuRegs, PageEntry};
 pub use v8_word::Size;
 pub use walks::{DeadEnd, Path, allow, find_page, follow, mark, mark_page, walk};
