@@ -1,3 +1,4 @@
 pub mod Carried
 pub mod Followed
 pub mod Tracked
+pub mod Told

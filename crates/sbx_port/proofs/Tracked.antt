@@ -1,9 +1,9 @@
 -- A board that waits for bytes, beside the runs on every input that begins with those it has got.
 use Rattle.std.proofs.Common.{◌≡◌, ℕ, zero, suc, ◌+◌, ◌-◌, ◌<◌, ◌≤◌, ◌⊎◌, inl, inr, Bool, true, false, List, [], ◌∷◌, ◌++◌, length, Option, None, Some, refl, sym, ap, subst, ◌∙◌, append_assoc, arith, lit<, rules}
 use Rattle.std.proofs.lemmas.List.{append-nil}
-use Rattle.std.specs.Prelude.{◌≢◌, IfOk, OnErr, OnOk, Result, Ok, Err}
+use Rattle.std.specs.Prelude.{◌≢◌}
 use Rattle.std.specs.Io.KnownBytes.{Appends, Consumes, IsAtEnd}
-use Rattle.std.proofs.KnownBytes.{Appends-trans, Consumes-trans}
+use Rattle.std.proofs.KnownBytes.{Appends-trans, Consumes-nil, Consumes-trans}
 use Rattle.v8_core.specs.Ram.{AreBytes}
 use Rattle.v8_board.specs.declared.outcome.Ending.{Ending}
 use Rattle.v8_board.specs.Seen.{State, ending_by, ending_of, turned}
@@ -11,7 +11,7 @@ use Rattle.v8_board.specs.Runs.{Turns, IsRun, after}
 use Rattle.v8_board.proofs.Running.{Counted, no_turns, one_turn_more}
 use Rattle.sbx_port.specs.Following.{Fine, FollowsOn, beyond, with_input, with_output}
 use Rattle.sbx_port.specs.Ports.{mark, unknown}
-use Rattle.sbx_port.specs.Streams.{IsAdvanced, IsAll, IsFed, IsHalted, IsKnown, RunsAs, RunsOn, Says, StandsBeside, Streamed}
+use Rattle.sbx_port.specs.Streams.{IsAll, IsFed, IsHalted, IsSlice, RunsAs, RunsOn, Says, StandsBeside, Streamed, waits}
 use Rattle.sbx_port.specs.declared.carrying.StreamFault.{StreamFault}
 use Rattle.sbx_port.specs.declared.carrying.StreamFault.TheVariants.{Reader, Writer}
 use Rattle.sbx_port.proofs.Followed.{ending_follow, nothing_comes, turn_follow}
@@ -110,6 +110,29 @@ tracks_turn n k start read met w s t tracks going is fine = λ j.
       subst (λ (u : State n). FollowsOn n met mark [] j w u (turned n mid).1) is next.1,
     )
 
+no_length : (xs : List ℕ) → length xs ≤ 0 → xs ≡ []
+no_length [] few = refl
+no_length (x ∷ xs) few = absurd (omega (arith, few))
+
+-- where the mark stands after a turn it stood before, since no turn gives a byte back
+fine_before : (n : ℕ) (met : Bool) (s : State n) → Fine met [] (turned n s).1.world.memory.device → Fine met [] s.world.memory.device
+fine_before n true s fine = tt
+fine_before n false s fine = λ few.
+    let none : length (turned n s).1.world.memory.device.input ≡ 0 =
+    ap (λ (i : List ℕ). length i) (nothing_comes n s (no_length s.world.memory.device.input few)) in
+    fine (omega (arith, none))
+
+tracks_turns : (n k c : ℕ) (start : State n) (read : List ℕ) (met : Bool) (w : List ℕ) (s : State n) → Tracks n start k read met w s
+    → ((j : ℕ) → j < c → ending_of n (after n j s).world ≡ None) → Fine met [] (after n c s).world.memory.device → Tracks n start (k + c) read met w (after n c s)
+tracks_turns n k zero start read met w s tracks running fine =
+    let same : k ≡ k + 0 = omega arith in
+    subst (λ (i : ℕ). Tracks n start i read met w s) same tracks
+tracks_turns n k (suc c) start read met w s tracks running fine =
+    let before = tracks_turns n k c start read met w s tracks (λ j less. running j (omega (arith, less))) (fine_before n met (after n c s) fine) in
+    let one = tracks_turn n (k + c) start read met w (after n c s) (turned n (after n c s)).1 before (running c (omega arith)) refl fine in
+    let sum : k + c + 1 ≡ k + suc c = omega arith in
+    subst (λ (i : ℕ). Tracks n start i read met w (after n (suc c) s)) sum one
+
 no_front : (c : List ℕ) → unknown ≡ c ++ unknown → c ≡ []
 no_front [] is = refl
 no_front (x ∷ []) is = absurd (too_long is)
@@ -151,33 +174,13 @@ tracks_fed n k start read false w s t before now tracks waiting (b, less, is, go
   λ yes. search rules,
 )
 
--- what was read so far, and whether all was
-abbrev pub HasRead : Option (List ℕ) → Option (List ℕ) → List ℕ → Bool → Type 0
-HasRead first now read met = AreBytes read × Consumes first now read × (met ≡ true → IsAll first read)
-
-tracks_known : (n k : ℕ) (start : State n) (read : List ℕ) (met now_met : Bool) (w : List ℕ) (s t : State n) (first before now : Option (List ℕ)) → Tracks n start k read met w s
-    → HasRead first before read met → IsKnown n met now_met s t before now → (all : List ℕ) × Tracks n start k all now_met w t × HasRead first now all now_met
-tracks_known n k start read met now_met w s t first before now tracks (bytes, so_far, end) (inl (same, is, none)) = (
-  read,
-  subst (λ (m : Bool). Tracks n start k read m w t) (sym same) (subst (λ (u : State n). Tracks n start k read met w u) (sym is) tracks),
-  (bytes, subst (λ (r : List ℕ). Consumes first now r) (append-nil read) (Consumes-trans first before now read [] so_far none), λ yes. end (sym same ∙ yes)),
-)
-tracks_known n k start read met now_met w s t first before now tracks (bytes, so_far, end) (inr (not_met, waiting, fed)) =
-    let (more, on, more_bytes, got, ended) = tracks_fed n k start read now_met w s t before now (subst (λ (m : Bool). Tracks n start k read m w s) not_met tracks) waiting fed in
-    let all_got = Consumes-trans first before now read more so_far got in
-    (read ++ more, on, (bytes_after read more bytes more_bytes, all_got, λ yes. all_read first now (read ++ more) all_got (ended yes)))
-
 -- what becomes known of the input ends nothing
 fed_ending : (n : ℕ) (now_met : Bool) (s t : State n) (before now : Option (List ℕ)) → IsFed n now_met s t before now → ending_of n t.world ≡ ending_of n s.world
 unfolding ending_of
 fed_ending n true s t before now (is, got, end) = ap (λ (u : State n). ending_by u.world.memory.device.stopped u.world.cpu.control.tt u.world.cpu.control.error) is
 fed_ending n false s t before now (b, less, is, got) = ap (λ (u : State n). ending_by u.world.memory.device.stopped u.world.cpu.control.tt u.world.cpu.control.error) is
 
-ready_goes : (n : ℕ) (met now_met : Bool) (s t : State n) (before now : Option (List ℕ)) → IsKnown n met now_met s t before now → ending_of n s.world ≡ None → ending_of n t.world ≡ None
-ready_goes n met now_met s t before now (inl (same, is, none)) going = ap (λ (u : State n). ending_of n u.world) is ∙ going
-ready_goes n met now_met s t before now (inr (not_met, waiting, fed)) going = fed_ending n now_met s t before now fed ∙ going
-
-pub tracks_delivered : (n k : ℕ) (start : State n) (read : List ℕ) (met : Bool) (w : List ℕ) (s t : State n) → Tracks n start k read met w s
+tracks_delivered : (n k : ℕ) (start : State n) (read : List ℕ) (met : Bool) (w : List ℕ) (s t : State n) → Tracks n start k read met w s
     → t ≡ with_output s [] → Tracks n start k read met (w ++ s.world.memory.device.output) t
 tracks_delivered n k start read met w s t tracks is = λ j.
     let (mid, counted, follows) = tracks j in
@@ -199,7 +202,7 @@ stands_beside n met j w s t f empty = record {
   output = f.device.4 ∙ ap (λ (o : List ℕ). w ++ o) empty ∙ append-nil w;
 }
 
-pub runs_as : (n k limit : ℕ) (start : State n) (read : List ℕ) (met : Bool) (w : List ℕ) (s : State n) → Tracks n start k read met w s
+runs_as : (n k limit : ℕ) (start : State n) (read : List ℕ) (met : Bool) (w : List ℕ) (s : State n) → Tracks n start k read met w s
     → s.world.memory.device.output ≡ [] → k ≤ limit → (ending_of n s.world ≡ None → k ≡ limit) → RunsAs n start limit s read met w
 runs_as n k limit start read met w s tracks empty within whole = λ j.
     let (mid, counted, follows) = tracks j in
@@ -232,12 +235,7 @@ runs_on n k limit start read met w s tracks within = λ j.
           ∙ append_assoc w o grown.0,
     )
 
--- ---- steps of the loop
-
-pub known_after : (n : ℕ) (met ended : Bool) (s0 s t : State n) (before now : Option (List ℕ)) → s ≡ s0 → met ≡ false → s0.world.memory.device.input ≡ unknown → IsFed n ended s t before now
-    → IsKnown n met ended s0 t before now
-known_after n met ended s0 s t before now same not_met waited fed =
-    inr (not_met, waited, subst (λ (u : State n). IsFed n ended u t before now) same fed)
+-- ---- what is known of the input
 
 -- where the input's end is known no byte is lacking
 pub no_lack : (met : Bool) (input : List ℕ) → (met ≡ true → input ≡ []) → input ≡ unknown → met ≡ false
@@ -247,16 +245,14 @@ no_lack true input ended lacks = absurd (nothing (sym (ended refl) ∙ lacks))
     nothing : [] ≡ unknown → ⊥
     nothing is = (let e : length {A = ℕ} [] ≡ length unknown = ap (λ (v : List ℕ). length v) is in omega (arith, e))
 
--- and a board that was fed lacks none
-pub fed_lacks_none : (n : ℕ) (ended : Bool) (s t : State n) (before now : Option (List ℕ)) → IsFed n ended s t before now → t.world.memory.device.input ≡ unknown → ⊥
-fed_lacks_none n true s t before now (is, got, end) lacks =
-    let all : [] ≡ unknown = sym (ap (λ (u : State n). u.world.memory.device.input) is) ∙ lacks in
-    let e : length {A = ℕ} [] ≡ length unknown = ap (λ (v : List ℕ). length v) all in
-    omega (arith, e)
-fed_lacks_none n false s t before now (b, less, is, got) lacks =
-    let all : b ∷ unknown ≡ unknown = sym (ap (λ (u : State n). u.world.memory.device.input) is) ∙ lacks in
-    let e : length (b ∷ unknown) ≡ length unknown = ap (λ (v : List ℕ). length v) all in
-    omega (arith, e)
+-- turns leave a board without input none
+pub nothing_came : (n c : ℕ) (s : State n) → s.world.memory.device.input ≡ [] → (after n c s).world.memory.device.input ≡ []
+nothing_came n zero s none = none
+nothing_came n (suc c) s none = nothing_comes n (after n c s) (nothing_came n c s none)
+
+pub still_none : (n left : ℕ) (met : Bool) (s t : State n) (told : ℕ) → IsSlice n left s told t → (met ≡ true → s.world.memory.device.input ≡ []) → met ≡ true → t.world.memory.device.input ≡ []
+still_none n left met s t told slice none over =
+    ap (λ (u : State n). u.world.memory.device.input) slice.turns.is ∙ nothing_came n slice.turns.count s (none over)
 
 pub fed_has_none : (n : ℕ) (ended : Bool) (s t : State n) (before now : Option (List ℕ)) → IsFed n ended s t before now → ended ≡ true → t.world.memory.device.input ≡ []
 fed_has_none n true s t before now (is, got, end) know = ap (λ (u : State n). u.world.memory.device.input) is
@@ -267,38 +263,163 @@ pub fed_output : (n : ℕ) (ended : Bool) (s t : State n) (before now : Option (
 fed_output n true s t before now (is, got, end) = ap (λ (u : State n). u.world.memory.device.output) is
 fed_output n false s t before now (b, less, is, got) = ap (λ (u : State n). u.world.memory.device.output) is
 
-pub advanced : (n k : ℕ) (start : State n) (read : List ℕ) (met now_met : Bool) (w : List ℕ) (s t : State n) (first before now : Option (List ℕ)) → Tracks n start k read met w s
-    → HasRead first before read met → ending_of n s.world ≡ None → IsAdvanced n met now_met s t before now
-    → (all : List ℕ) × Tracks n start (k + 1) all now_met w t × HasRead first now all now_met
-advanced n k start read met now_met w s t first before now tracks so_far going a =
-    let (all, on, has) = tracks_known n k start read met now_met w s a.ready first before now tracks so_far a.known in
-    let goes = ready_goes n met now_met s a.ready before now a.known going in
-    (all, tracks_turn n k start all now_met w a.ready t on goes a.made a.fine, has)
+-- and doesn't wait any more
+pub fed_waits : (n : ℕ) (ended : Bool) (s t : State n) (before now : Option (List ℕ)) → IsFed n ended s t before now → waits t.world.memory.device.input ≡ 0
+fed_waits n true s t before now (is, got, end) = ap (λ (u : State n). waits u.world.memory.device.input) is
+fed_waits n false s t before now (b, less, is, got) = ap (λ (u : State n). waits u.world.memory.device.input) is
 
-pub halted_part : (n k limit : ℕ) (start : State n) (read : List ℕ) (met : Bool) (w : List ℕ) (s : State n) (first before now c d : Option (List ℕ)) (fault : StreamFault) → Tracks n start k read met w s
-    → HasRead first before read met → IsHalted n met s before now → k ≤ limit → fault ≡ Reader → Appends c d w → Streamed first now c d (RunsOn n start limit fault)
-halted_part n k limit start read met w s first before now c d fault tracks so_far (ready, known) within is written =
-    let (all, on, (bytes, got, ended)) = tracks_known n k start read met false w s ready first before now tracks so_far known in (
-      all,
-      false,
-      w,
-      (λ j.
-          let (end, run, rest, put) = runs_on n k limit start all false w ready on within j in
-          (end, run, ready.world.memory.device.output ++ rest, put, subst (λ (f : StreamFault). Says f false (ready.world.memory.device.output ++ rest)) (sym is) refl)),
-      bytes,
-      got,
-      ended,
-      written,
+pub waits_once : (input : List ℕ) → waits input ≤ 1
+waits_once [] = omega arith
+waits_once (b ∷ []) = omega arith
+waits_once (b ∷ c ∷ input) = omega arith
+
+-- ---- where a run stands
+
+-- what was read so far, and whether all was
+abbrev pub HasRead : Option (List ℕ) → Option (List ℕ) → List ℕ → Bool → Type 0
+HasRead first now read met = AreBytes read × Consumes first now read × (met ≡ true → IsAll first read)
+
+-- a board that follows the run, with at most so many turns left of the limit, and just so many where the machine has not ended
+abbrev pub IsOnItsWay : (n limit : ℕ) → State n → ℕ → List ℕ → Bool → List ℕ → State n → Type 0
+IsOnItsWay n limit start left read met w s =
+    (k : ℕ) × Tracks n start k read met w s × (k + left ≤ limit) × (ending_of n s.world ≡ None → k + left ≡ limit)
+
+pub way_first : (n limit : ℕ) (s : State n) → s.world.memory.device.input ≡ unknown → IsOnItsWay n limit s limit [] false [] s
+way_first n limit s waiting = (0, tracks_first n s waiting, omega arith, λ none. omega arith)
+
+pub way_sliced : (n limit : ℕ) (start : State n) (left : ℕ) (read : List ℕ) (met : Bool) (w : List ℕ) (s t : State n) (told : ℕ) → IsOnItsWay n limit start left read met w s
+    → ending_of n s.world ≡ None → IsSlice n left s told t → Fine met [] t.world.memory.device → IsOnItsWay n limit start (left - told) read met w t
+way_sliced n limit start left read met w s t told (k, tracks, within, all) going slice fine =
+    let is = slice.turns.is in
+    let c = slice.turns.count in
+    let on = tracks_turns n k c start read met w s tracks slice.turns.running (subst (λ (u : State n). Fine met [] u.world.memory.device) is fine) in
+    let few = slice.few in
+    let so_many = slice.within in
+    let sum = all going in (
+      k + c,
+      subst (λ (u : State n). Tracks n start (k + c) read met w u) (sym is) on,
+      omega (arith, few, so_many, sum),
+      λ none. (let same = slice.all none in omega (arith, few, so_many, sum, same)),
     )
 
-pub unwritten_part : (n k limit : ℕ) (start : State n) (read : List ℕ) (met : Bool) (w : List ℕ) (s : State n) (first now c d e : Option (List ℕ)) (fault : StreamFault) → Tracks n start k read met w s
-    → HasRead first now read met → s.world.memory.device.output ≢ [] → k ≤ limit → fault ≡ Writer → Appends c d w → Appends d e [] → Streamed first now c e (RunsOn n start limit fault)
-unwritten_part n k limit start read met w s first now c d e fault tracks (bytes, got, ended) some within is written none = (
+pub way_delivered : (n limit : ℕ) (start : State n) (left : ℕ) (read : List ℕ) (met : Bool) (w : List ℕ) (s : State n) → IsOnItsWay n limit start left read met w s
+    → IsOnItsWay n limit start left read met (w ++ s.world.memory.device.output) (with_output s [])
+unfolding ending_of
+way_delivered n limit start left read met w s (k, tracks, within, all) = (k, tracks_delivered n k start read met w s (with_output s []) tracks refl, within, all)
+
+pub way_fed : (n limit : ℕ) (start : State n) (left : ℕ) (read : List ℕ) (met now_met : Bool) (w : List ℕ) (s t : State n) (first before now : Option (List ℕ)) → IsOnItsWay n limit start left read met w s
+    → HasRead first before read met → met ≡ false → s.world.memory.device.input ≡ unknown → IsFed n now_met s t before now
+    → (more : List ℕ) × IsOnItsWay n limit start left more now_met w t × HasRead first now more now_met
+way_fed n limit start left read met now_met w s t first before now (k, tracks, within, all) (bytes, so_far, end) not_met waiting fed =
+    let (more, on, more_bytes, got, ended) = tracks_fed n k start read now_met w s t before now (subst (λ (m : Bool). Tracks n start k read m w s) not_met tracks) waiting fed in
+    let all_got = Consumes-trans first before now read more so_far got in (
+      read ++ more,
+      (k, on, within, λ none. all (sym (fed_ending n now_met s t before now fed) ∙ none)),
+      (bytes_after read more bytes more_bytes, all_got, λ yes. all_read first now (read ++ more) all_got (ended yes)),
+    )
+
+-- a read that gave nothing
+pub read_nothing : (first before now : Option (List ℕ)) (read : List ℕ) (met : Bool) → HasRead first before read met → Consumes before now [] → HasRead first now read met
+read_nothing first before now read met (bytes, so_far, end) none =
+    (bytes, subst (λ (r : List ℕ). Consumes first now r) (append-nil read) (Consumes-trans first before now read [] so_far none), end)
+
+pub consumes_nothing : (o : Option (List ℕ)) → Consumes o o []
+consumes_nothing o = Consumes-nil o
+
+-- a board that was served
+abbrev pub IsReady : (n : ℕ) → Bool → State n → Type 0
+IsReady n met s = (s.world.memory.device.output ≡ []) × (met ≡ true → s.world.memory.device.input ≡ [])
+
+-- what is known of the input after a slice, and what was written
+pub way_exchanged : (n limit : ℕ) (start : State n) (left : ℕ) (read : List ℕ) (met now_met lacks : Bool) (w : List ℕ) (s t : State n) (first before now : Option (List ℕ)) → IsOnItsWay n limit start left read met w s
+    → HasRead first before read met → (met ≡ true → s.world.memory.device.input ≡ []) → (lacks ≡ true → s.world.memory.device.input ≡ unknown)
+    → (lacks ≡ true → IsFed n now_met (with_output s []) t before now) → (lacks ≡ false → (now_met ≡ met) × (t ≡ with_output s []) × Consumes before now [])
+    → (all : List ℕ) × IsOnItsWay n limit start left all now_met (w ++ s.world.memory.device.output) t × HasRead first now all now_met × IsReady n now_met t
+way_exchanged n limit start left read met now_met true w s t first before now way has none waiting fed kept =
+    let u = with_output s [] in
+    let f = fed refl in
+    let on = way_delivered n limit start left read met w s way in
+    let (all, there, had) = way_fed n limit start left read met now_met (w ++ s.world.memory.device.output) u t first before now on has
+    (no_lack met s.world.memory.device.input none (waiting refl)) (waiting refl) f in
+    (all, there, had, (fed_output n now_met u t before now f, fed_has_none n now_met u t before now f))
+way_exchanged n limit start left read met now_met false w s t first before now way has none waiting fed kept =
+    let o = w ++ s.world.memory.device.output in
+    let (same, is, nothing) = kept refl in
+    let on = subst (λ (v : State n). IsOnItsWay n limit start left read met o v) (sym is) (way_delivered n limit start left read met w s way) in
+    let had = read_nothing first before now read met has nothing in (
+      read,
+      subst (λ (m : Bool). IsOnItsWay n limit start left read m o t) (sym same) on,
+      subst (λ (m : Bool). HasRead first now read m) (sym same) had,
+      (ap (λ (v : State n). v.world.memory.device.output) is, λ yes. ap (λ (v : State n). v.world.memory.device.input) is ∙ none (sym same ∙ yes)),
+    )
+
+-- the measure of the loop: turns that are left, and whether a byte is waited for
+pub comes_nearer : (n left told : ℕ) (lacks now_met : Bool) (s t v : State n) (before now : Option (List ℕ)) → IsSlice n left s told t → (lacks ≡ true → t.world.memory.device.input ≡ unknown) → (lacks ≡ false → 0 < told)
+    → (lacks ≡ true → IsFed n now_met (with_output t []) v before now) → 0 < told ⊎ (told ≡ 0)
+    → (left - told) + (left - told) + waits v.world.memory.device.input < left + left + waits s.world.memory.device.input
+comes_nearer n left told lacks now_met s t v before now slice waiting goes fed (inl some) =
+    let once = waits_once v.world.memory.device.input in
+    let within = slice.within in
+    omega (arith, once, within, some)
+comes_nearer n left told true now_met s t v before now slice waiting goes fed (inr nothing) =
+    let few = slice.few in
+    let none : slice.turns.count ≡ 0 = omega (arith, few, nothing) in
+    let same : t ≡ s = slice.turns.is ∙ ap (λ (k : ℕ). after n k s) none in
+    let was : waits s.world.memory.device.input ≡ 1 = ap (λ (u : State n). waits u.world.memory.device.input) (sym same) ∙ ap waits (waiting refl) in
+    let now_is = fed_waits n now_met (with_output t []) v before now (fed refl) in
+    omega (arith, was, now_is, nothing)
+comes_nearer n left told false now_met s t v before now slice waiting goes fed (inr nothing) =
+    let some = goes refl in
+    absurd (omega (arith, some, nothing))
+
+some_or_none : (k : ℕ) → 0 < k ⊎ (k ≡ 0)
+some_or_none zero = inr refl
+some_or_none (suc k) = inl (omega arith)
+
+pub comes_to_an_end : (n left told : ℕ) (lacks now_met : Bool) (s t v : State n) (before now : Option (List ℕ)) → IsSlice n left s told t → (lacks ≡ true → t.world.memory.device.input ≡ unknown) → (lacks ≡ false → 0 < told)
+    → (lacks ≡ true → IsFed n now_met (with_output t []) v before now)
+    → (left - told) + (left - told) + waits v.world.memory.device.input < left + left + waits s.world.memory.device.input
+comes_to_an_end n left told lacks now_met s t v before now slice waiting goes fed =
+    comes_nearer n left told lacks now_met s t v before now slice waiting goes fed (some_or_none told)
+
+-- ---- where it stops
+
+pub whole : (n limit : ℕ) (start : State n) (left : ℕ) (read : List ℕ) (met : Bool) (w : List ℕ) (s : State n) (first now c d : Option (List ℕ)) → IsOnItsWay n limit start left read met w s
+    → HasRead first now read met → s.world.memory.device.output ≡ [] → Appends c d w → (ending_of n s.world ≡ None → left ≡ 0) → Streamed first now c d (RunsAs n start limit s)
+whole n limit start left read met w s first now c d (k, tracks, within, all) (bytes, got, ended) empty written over = (
+  read,
+  met,
+  w,
+  runs_as n k limit start read met w s tracks empty (omega arith) (λ none. let sum = all none in let done = over none in omega (arith, sum, done)),
+  bytes,
+  got,
+  ended,
+  written,
+)
+
+pub unread_part : (n limit : ℕ) (start : State n) (left : ℕ) (read : List ℕ) (met : Bool) (w : List ℕ) (s : State n) (first now c d : Option (List ℕ)) (fault : StreamFault) → IsOnItsWay n limit start left read met w s
+    → HasRead first now read met → met ≡ false → fault ≡ Reader → Appends c d w → Streamed first now c d (RunsOn n start limit fault)
+unread_part n limit start left read met w s first now c d fault (k, tracks, within, all) (bytes, got, ended) not_met is written = (
   read,
   met,
   w,
   (λ j.
-      let (end, run, rest, put) = runs_on n k limit start read met w s tracks within j in (
+      let (end, run, rest, put) = runs_on n k limit start read met w s tracks (omega arith) j in
+      (end, run, s.world.memory.device.output ++ rest, put, subst (λ (f : StreamFault). Says f met (s.world.memory.device.output ++ rest)) (sym is) not_met)),
+  bytes,
+  got,
+  ended,
+  written,
+)
+
+pub unwritten_part : (n limit : ℕ) (start : State n) (left : ℕ) (read : List ℕ) (met : Bool) (w : List ℕ) (s : State n) (first now c d e : Option (List ℕ)) (fault : StreamFault) → IsOnItsWay n limit start left read met w s
+    → HasRead first now read met → s.world.memory.device.output ≢ [] → fault ≡ Writer → Appends c d w → Appends d e [] → Streamed first now c e (RunsOn n start limit fault)
+unwritten_part n limit start left read met w s first now c d e fault (k, tracks, within, all) (bytes, got, ended) some is written none = (
+  read,
+  met,
+  w,
+  (λ j.
+      let (end, run, rest, put) = runs_on n k limit start read met w s tracks (omega arith) j in (
         end,
         run,
         s.world.memory.device.output ++ rest,
@@ -311,16 +432,12 @@ unwritten_part n k limit start read met w s first now c d e fault tracks (bytes,
   subst (λ (o : List ℕ). Appends c e o) (append-nil w) (Appends-trans c d e w [] written none),
 )
 
--- ---- a turn that was made
-
-pub kept_ok : (n : ℕ) (met m : Bool) (s ready t : State n) (before now : Option (List ℕ)) (r : Result Bool StreamFault) → IfOk r (λ k. k ≡ m) → OnOk r (Fine m [] t.world.memory.device)
-    → IsKnown n met m s ready before now → (turned n ready).1 ≡ t → (m ≡ true → ready.world.memory.device.input ≡ []) → IfOk r (λ k. IsAdvanced n met k s t before now)
-kept_ok n met m s ready t before now (Ok k) same fine known made none =
-    subst (λ (b : Bool). IsAdvanced n met b s t before now) (sym same)
-    (record { ready = ready; known = known; made = made; fine = fine; still = λ yes. subst (λ (u : State n). u.world.memory.device.input ≡ []) made (nothing_comes n ready (none yes)) })
-kept_ok n met m s ready t before now (Err f) same fine known made none = tt
-
-pub kept_err : (n : ℕ) (met m : Bool) (s ready : State n) (before now : Option (List ℕ)) (r : Result Bool StreamFault) → OnErr r (m ≡ false) → IsKnown n met m s ready before now
-    → OnErr r (IsHalted n met s before now)
-kept_err n met m s ready before now (Ok k) not_met known = tt
-kept_err n met m s ready before now (Err f) not_met known = (ready, subst (λ (b : Bool). IsKnown n met b s ready before now) not_met known)
+-- a stream failed after a slice, and before more of the input was known
+pub halted_part : (n limit : ℕ) (start : State n) (left : ℕ) (read : List ℕ) (met : Bool) (w : List ℕ) (s : State n) (first before now c d e : Option (List ℕ)) (fault : StreamFault) (lacks : Bool) → IsOnItsWay n limit start left read met w s
+    → HasRead first before read met → Consumes before now [] → (lacks ≡ true → met ≡ false) → Appends c d w → IsHalted fault lacks d e s.world.memory.device.output → Streamed first now c e (RunsOn n start limit fault)
+halted_part n limit start left read met w s first before now c d e Reader lacks way has none not_met written (lacking, more) =
+    let o = s.world.memory.device.output in
+    unread_part n limit start left read met (w ++ o) (with_output s []) first now c e Reader (way_delivered n limit start left read met w s way)
+    (read_nothing first before now read met has none) (not_met lacking) refl (Appends-trans c d e w o written more)
+halted_part n limit start left read met w s first before now c d e Writer lacks way has none not_met written (some, nothing) =
+    unwritten_part n limit start left read met w s first now c d e Writer way (read_nothing first before now read met has none) some refl written nothing

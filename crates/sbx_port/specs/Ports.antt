@@ -1,6 +1,7 @@
 -- What a port whose bytes are carried is seen as.
-use Rattle.std.specs.Prelude.{ℕ, List, [], ◌∷◌, Option, Some, None}
+use Rattle.std.specs.Prelude.{ℕ, ◌≡◌, ◌≢◌, ◌<◌, List, [], ◌∷◌, Option, Some, None}
 use Rattle.v8_core.specs.PortFault.{PortFault}
+use Rattle.v8_core.specs.PortFault.TheVariants.{Memory, Reader, Writer}
 use Rattle.sbx_port.specs.declared.mailbox.Mail.{Mail}
 use Rattle.sbx_port.specs.declared.mailbox.Mail.TheVariants.{Waiting, Byte, Ended}
 
@@ -29,3 +30,12 @@ input_of Ended = []
 abbrev pub output_of : Option ℕ → List ℕ
 output_of (Some b) = b ∷ []
 output_of None = []
+
+-- what a port that has failed lacks: a byte of input, or room for one of output
+abbrev pub Lacks : PortFault → Mail → Option ℕ → Type 0
+Lacks Reader mail slot = mail ≡ Waiting
+Lacks Writer mail slot = slot ≢ None
+Lacks (Memory want) mail slot = slot ≢ None
+
+abbrev pub IsWhy : ℕ → PortFault → Mail → Option ℕ → Type 0
+IsWhy failures fault mail slot = 0 < failures → Lacks fault mail slot

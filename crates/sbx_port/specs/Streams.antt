@@ -1,12 +1,12 @@
 -- Runs whose input is read, and whose output is written, byte by byte.
-use Rattle.std.specs.Prelude.{ℕ, ◌≡◌, ◌≢◌, ◌<◌, ◌⊎◌, Bool, true, false, List, [], ◌∷◌, ◌++◌, Option, Some, None}
+use Rattle.std.specs.Prelude.{ℕ, ◌≡◌, ◌≢◌, ◌<◌, ◌≤◌, Bool, true, false, List, [], ◌∷◌, ◌++◌, Option, Some, None}
 use Rattle.std.specs.Io.KnownBytes.{Appends, Consumes, IsAtEnd}
 use Rattle.v8_core.specs.Ram.{AreBytes}
-use Rattle.v8_board.specs.Seen.{State, turned}
-use Rattle.v8_board.specs.Runs.{IsRun}
+use Rattle.v8_board.specs.Seen.{State, ending_of}
+use Rattle.v8_board.specs.Runs.{IsRun, Turns}
 use Rattle.sbx_port.specs.declared.carrying.StreamFault.{StreamFault}
 use Rattle.sbx_port.specs.declared.carrying.StreamFault.TheVariants.{Reader, Writer}
-use Rattle.sbx_port.specs.Following.{Fine, beyond, with_input}
+use Rattle.sbx_port.specs.Following.{beyond, with_input}
 use Rattle.sbx_port.specs.Ports.{unknown}
 
 -- ---- what was read and written
@@ -49,26 +49,27 @@ RunsOn n start limit fault read met written =
     (j : List ℕ) → (end : State n) × IsRun n limit (with_input start (read ++ beyond met j)) end
     × (rest : List ℕ) × (end.world.memory.device.output ≡ written ++ rest) × Says fault met rest
 
--- ---- what becomes known of the input
+-- ---- on the way
 
 -- what a reader gave a board that waits: its end, or a byte
 abbrev pub IsFed : (n : ℕ) → Bool → State n → State n → Option (List ℕ) → Option (List ℕ) → Type 0
 IsFed n true s t before now = (t ≡ with_input s []) × Consumes before now [] × IsAtEnd now
 IsFed n false s t before now = (b : ℕ) × (b < 256) × (t ≡ with_input s (b ∷ unknown)) × Consumes before now (b ∷ [])
 
--- what became known before a turn: nothing more, or that a reader gave a byte or its end
-abbrev pub IsKnown : (n : ℕ) → Bool → Bool → State n → State n → Option (List ℕ) → Option (List ℕ) → Type 0
-IsKnown n met now_met s t before now =
-    ((now_met ≡ met) × (t ≡ s) × Consumes before now []) ⊎ ((met ≡ false) × (s.world.memory.device.input ≡ unknown) × IsFed n now_met s t before now)
+-- turns of which there may be so many: as many as are told, or fewer where the machine has ended
+pub record IsSlice (n left : ℕ) (s : State n) (told : ℕ) (t : State n) : Type 0 where
+  pub turns : Turns n s t
+  pub few : turns.count ≤ told
+  pub within : told ≤ left
+  pub all : ending_of n t.world ≡ None → turns.count ≡ told
 
--- and then the turn was made
-pub record IsAdvanced (n : ℕ) (met now_met : Bool) (s t : State n) (before now : Option (List ℕ)) : Type 0 where
-  pub ready : State n
-  pub known : IsKnown n met now_met s ready before now
-  pub made : (turned n ready).1 ≡ t
-  pub fine : Fine now_met [] t.world.memory.device
-  pub still : now_met ≡ true → t.world.memory.device.input ≡ []
+-- what was written where a stream failed: all that was put out, before a byte that is lacking was read; or nothing of it
+abbrev pub IsHalted : StreamFault → Bool → Option (List ℕ) → Option (List ℕ) → List ℕ → Type 0
+IsHalted Reader lacks before now output = (lacks ≡ true) × Appends before now output
+IsHalted Writer lacks before now output = (output ≢ []) × Appends before now []
 
--- the reader failed, and the input's end wasn't met
-abbrev pub IsHalted : (n : ℕ) → Bool → State n → Option (List ℕ) → Option (List ℕ) → Type 0
-IsHalted n met s before now = (ready : State n) × IsKnown n met false s ready before now
+-- a board that waits for a byte does so once between two turns
+abbrev pub waits : List ℕ → ℕ
+waits (b ∷ []) = 1
+waits (b ∷ c ∷ input) = 0
+waits [] = 0

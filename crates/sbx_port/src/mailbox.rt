@@ -35,15 +35,13 @@ pub struct Mailbox {
 }
 
 impl Model for Mailbox {
-    ghost use Rattle.std.specs.Prelude.{◌≡◌, ◌<◌, None};
-    ghost use Rattle.sbx_port.specs.Ports.{Held, input_of, output_of};
-    ghost use Rattle.sbx_port.specs.declared.mailbox.Mail.TheVariants.{Waiting};
+    ghost use Rattle.sbx_port.specs.Ports.{Held, IsWhy, input_of, output_of};
 
     ghost Value = { Held };
 
     ghost view = { λ m. record { input = input_of m.mail; output = output_of m.slot; calls = m.calls; failed = m.failures; fault = m.fault } };
 
-    ghost invariant = { λ m. 0 < m.failures → m.slot ≡ None → m.mail ≡ Waiting };
+    ghost invariant = { λ m. IsWhy m.failures m.fault m.mail m.slot };
 }
 
 impl Mailbox {
@@ -65,39 +63,35 @@ impl Mailbox {
         }
     }
 
-    /// Tells it the next byte of the input. Failures are counted anew.
-    pub fn give(&mut self, byte: u8)
-        ensures { self.new ≡ record self.old { input = byte ∷ unknown; failed = 0 } }
-    {
-        self.mail = Mail::Byte(byte);
-        self.failures = 0;
-    }
-
-    /// Tells it that the input has ended. Failures are counted anew.
-    pub fn end(&mut self)
-        ensures { self.new ≡ record self.old { input = []; failed = 0 } }
-    {
-        self.mail = Mail::Ended;
-        self.failures = 0;
-    }
-
     /// Takes its byte of output away. Failures are counted anew.
-    pub fn take(&mut self) -> Option<u8>
-        ensures byte { output_of result ≡ self.old.output }
-        ensures rest { self.new ≡ record self.old { output = []; failed = 0 } }
+    pub fn empty(&mut self)
+        ensures { self.new ≡ record self.old { output = []; failed = 0 } }
     {
-        let byte = self.slot;
         self.slot = None;
         self.failures = 0;
-        byte
     }
 
-    /// Whether it holds no byte of output.
-    pub fn is_empty(&self) -> bool
-        ensures empty { result ≡ true → self.now.output ≡ [] }
-        ensures full { result ≡ false → self.now.output ≢ [] }
+    /// Tells it the next byte of the input, and takes its byte of output away. Failures are counted anew.
+    pub fn give(&mut self, byte: u8)
+        ensures { self.new ≡ record self.old { input = byte ∷ unknown; output = []; failed = 0 } }
     {
-        self.slot.is_none()
+        self.empty();
+        self.mail = Mail::Byte(byte);
+    }
+
+    /// Tells it that the input has ended, and takes its byte of output away. Failures are counted anew.
+    pub fn end(&mut self)
+        ensures { self.new ≡ record self.old { input = []; output = []; failed = 0 } }
+    {
+        self.empty();
+        self.mail = Mail::Ended;
+    }
+
+    /// Its byte of output, if it holds one.
+    pub fn slot(&self) -> Option<u8>
+        ensures { output_of result ≡ self.now.output }
+    {
+        self.slot
     }
 
     /// Whether it knows that the input has ended.
@@ -122,11 +116,15 @@ impl Mailbox {
         }
     }
 
-    /// Tells that it lacks a byte of input where it has failed without a byte of output.
-    pub fn tells_lack(&self)
-        ensures { 0 < self.now.failed → self.now.output ≡ [] → self.now.input ≡ unknown }
+    /// Whether it lacks a byte of input, where it has failed: if not, it holds a byte of output.
+    pub fn lacks(&self) -> bool
+        ensures lacks { 0 < self.now.failed → result ≡ true → self.now.input ≡ unknown }
+        ensures holds { 0 < self.now.failed → result ≡ false → self.now.output ≢ [] }
     {
-        let _failures = self.failures;
+        match self.fault {
+            PortFault::Reader => true,
+            PortFault::Writer | PortFault::Memory(_) => false,
+        }
     }
 }
 

@@ -1,6 +1,6 @@
 //! Runs of accepted images on a board of the caller's, and what it shows afterwards.
 
-use crate::runs::{CHAINED, COPIES, HI};
+use crate::runs::{CHAINED, COPIES, HI, REGIONS};
 use sbx_raw::SlicePort;
 use sbx_run::{Accepted, Ended, PageUse, run_board};
 use std::alloc::{AllocError, Global};
@@ -110,8 +110,8 @@ fn has_registers(board: &Board<4, SlicePort<'_>>) -> bool {
     true
 }
 
-fn has_spilled(board: &Board<4, SlicePort<'_>>) -> bool {
-    for (place, word) in &SPILLED {
+fn has_words(board: &Board<4, SlicePort<'_>>, words: &[(u64, u32)]) -> bool {
+    for (place, word) in words {
         if board.entry(*place) != Some(*word) {
             return false;
         }
@@ -124,7 +124,7 @@ fn is_left(board: &Board<4, SlicePort<'_>>) -> bool {
     (board.psr(), board.wim()) == (0x82, 1)
         && board.port().output() == b"!".as_slice()
         && has_registers(board)
-        && has_spilled(board)
+        && has_words(board, &SPILLED)
 }
 
 /// Whether a chain's run exits with 0 after so many turns, overflows and underflows, and leaves the board so.
@@ -160,4 +160,48 @@ fn chain_leaves_its_board(alloc: Global) -> bool {
 #[test]
 fn shows_what_a_run_leaves(rt: HostRuntime) {
     assert!(rt; chain_leaves_its_board(rt.alloc()));
+}
+
+/// Words of RAM after a byte of one region was read and stored into the next: the entries of the data's pages, one that may be read
+/// alone and was, one that may be written and was, and none; the first region's bytes and the end of its page; the byte that was
+/// stored.
+static PLACED: [(u64, u32); 7] = [
+    (0x2B00, 0x5022),
+    (0x2B04, 0x5166),
+    (0x2B08, 0),
+    (0x5_0000, 0x4869_0000),
+    (0x5_0008, 0),
+    (0x5_0FFC, 0),
+    (0x5_1004, 0x48),
+];
+
+/// Whether a run of the two regions leaves the board so.
+fn leaves_regions(board: &mut Board<4, SlicePort<'_>>, accepted: &Accepted) -> bool {
+    match ended(board, accepted) {
+        Some(ended) => (ended.status, ended.turns) == (0, 13) && has_words(board, &PLACED),
+        None => false,
+    }
+}
+
+/// Whether it leaves a new board so.
+fn leaves_regions_in_ram(alloc: Global, accepted: &Accepted) -> bool {
+    match board_with(alloc, b"") {
+        Ok(board) => {
+            let mut board = board;
+            leaves_regions(&mut board, accepted)
+        }
+        Err(AllocError) => false,
+    }
+}
+
+fn regions_lie_in_ram(alloc: Global) -> bool {
+    match REGIONS.accepted(alloc) {
+        Some(regions) => leaves_regions_in_ram(alloc, &regions),
+        None => false,
+    }
+}
+
+#[test]
+fn places_regions(rt: HostRuntime) {
+    assert!(rt; regions_lie_in_ram(rt.alloc()));
 }

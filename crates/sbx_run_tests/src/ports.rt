@@ -17,10 +17,11 @@ fn a_mailbox_has_room_for_a_byte_each_way(rt: HostRuntime) -> Result<(), Fail> {
     assert!(rt; port.get() == Err(PortFault::Reader) && !port.has_ended());
     port.end();
     assert!(rt; port.has_ended() && port.get() == Ok(None) && port.get() == Ok(None));
-    assert!(rt; port.is_empty() && port.put(0) == Ok(()) && !port.is_empty());
+    assert!(rt; port.slot() == None && port.put(0) == Ok(()) && port.slot() == Some(0));
     assert!(rt; port.put(1) == Err(PortFault::Writer));
-    assert!(rt; port.failures() == 1 && port.take() == Some(0) && port.take() == None);
-    assert!(rt; port.failures() == 0 && port.put(2) == Ok(()));
+    assert!(rt; port.failures() == 1 && port.slot() == Some(0) && !port.lacks());
+    port.empty();
+    assert!(rt; port.failures() == 0 && port.slot() == None && port.put(2) == Ok(()));
     Ok(())
 }
 

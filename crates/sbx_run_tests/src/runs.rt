@@ -89,7 +89,7 @@ static INCREMENTS: Row<'static> = Row {
 };
 
 /// A byte of a region that may be read alone is put out, and stored into one that may be written, which is all on the next page.
-const REGIONS: Row<'static> = Row {
+pub(crate) const REGIONS: Row<'static> = Row {
     output: b"H",
     pieces: &[TWO_REGIONS, BETWEEN_REGIONS, " stb %o0,[%g2+7]\n", EXITS],
     budget: 13,

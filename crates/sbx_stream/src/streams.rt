@@ -60,9 +60,10 @@ fn fault_of(fault: StreamFault) -> RunFault
 }
 
 /// Runs an accepted image to its end on a new board of `N` windows, 4 to 32, over a reader and a writer. Where the program asks for a
-/// byte, one byte is read; the byte that it puts out is written before its next turn. An input that has ended isn't asked again; a read
-/// that fails, whatever its error, is `Reader`, and a write that fails or takes no byte is `Writer`: neither is tried again. Nothing is
-/// flushed, and no memory grows with the input or the output.
+/// byte, one byte is read; a byte that it puts out is written before it puts out the next one or one is read, and at latest some
+/// thousands of turns later. An input that has ended isn't asked again; a read that fails, whatever its error, is `Reader`, and a write
+/// that fails or takes no byte is `Writer`: neither is tried again. Nothing is flushed, and no memory grows with the input or the
+/// output.
 ///
 /// On Ok what was written is the output that `run_accepted` has, and the status, the counts and the pages are its own, on every input
 /// that begins with the bytes read, or on these alone where their end was met; `output` is empty. On a fault what was written are the
