@@ -25,7 +25,7 @@ use Rattle.sbx_parts.specs.declared.parts.Function.{Function}
 use Rattle.sbx_parts.specs.declared.parts.Parts.{Parts}
 use Rattle.sbx_parts.specs.declared.services.Services.{Services}
 use Rattle.sbx_parts.specs.Rules.{◌>>=◌, between, is_known, is_version, is_data_length, is_length_behind, is_one_region, region_keeps, each, Place, code_start, range_keeps, location_keeps, cell_keeps, term_keeps, block_keeps, function_keeps, parts_keep}
-use Rattle.sbx_image.specs.Reading.{number_at, number_in, items_at, range_at, location_at, cell_at, term_at, block_head_at, block_at, kind_at, counts_at, bounds_at, depth_at, function_head_at, function_at, services_at, data_length_at, data_count_at, header_at, shape_at, shapes_at, regions_at, parts_at, reading}
+use Rattle.sbx_image.specs.Reading.{number_at, number_in, items_at, range_at, location_at, cell_at, term_at, block_head_at, block_at, kind_at, counts_at, bounds_at, function_head_at, function_at, services_at, data_length_at, data_count_at, header_at, shape_at, shapes_at, regions_at, parts_at, reading}
 use Rattle.sbx_image.specs.Spelling.{IsTyped, IsTypedRange, IsTypedCell, IsTypedTerm, IsTypedBlock, IsTypedFunction, signed, kind_code, range_text, region_text, right_code, shape_text, cell_text, term_text, block_text, function_head_text, function_text, data_count_text, shapes_text, header_text, spelling}
 use Rattle.sbx_parts.specs.declared.parts.Region.{Region}
 use Rattle.sbx_parts.specs.Regions.{byte_count, pages_for}
