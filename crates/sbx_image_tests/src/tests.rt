@@ -812,7 +812,7 @@ fn are_parts_of_deep(alloc: Global, parts: Parts) -> bool {
         return false;
     };
     match written(alloc, &image) {
-        Ok(text) => has_depths(&image, &DEPTHS_OF_DEEP) && text.as_slice() == &DEEP,
+        Ok(text) => has_depths(&image, &DEPTHS_OF_DEEP) && text.as_slice() == DEEP.as_slice(),
         Err(AllocError) => false,
     }
 }
