@@ -71,17 +71,17 @@ adding param result budget = image_of
     ∷ record { kind = Leaf; params = range (pos 0) param 0 ∷ []; results = range (pos 1) result 0 ∷ []; entry = 0x4001C; frame = 0; stack_room = 0; budget = 2; depth = 0; blocks = bare_block 0x4001C (pos 2) ∷ [] }
     ∷ [])
 
--- in another version, and with these depths declared
-abbrev pub declared : List ℕ → List Function → List Function
-declared (d ∷ ds) (f ∷ fs) = record f { depth = d } ∷ declared ds fs
-declared _ _ = []
+-- the functions with these depths declared
+abbrev pub with_depths : List ℕ → List Function → List Function
+with_depths (d ∷ ds) (f ∷ fs) = record f { depth = d } ∷ with_depths ds fs
+with_depths _ _ = []
 
-abbrev pub deepened : ℕ → List ℕ → Parts → Parts
-deepened version depths parts = record parts { version = version; functions = declared depths parts.functions }
+abbrev pub deepened : List ℕ → Parts → Parts
+deepened depths parts = record parts { version = 3; functions = with_depths depths parts.functions }
 
--- the call in version 3, with depths of the caller and of the leaf
+-- the call, with depths of the caller and of the leaf
 abbrev pub adding_of : ℕ → ℕ → Parts
-adding_of caller leaf = deepened 3 (caller ∷ leaf ∷ []) (adding (pos 254) (pos 255) 39)
+adding_of caller leaf = deepened (caller ∷ leaf ∷ []) (adding (pos 254) (pos 255) 39)
 
 -- ---- smaller ones
 
