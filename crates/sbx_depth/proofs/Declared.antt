@@ -12,9 +12,9 @@ use Rattle.sbx_depth.specs.Law.{DeclaredDepthIsEnough, DeclaredDepthsHold, decla
 use Rattle.sbx_depth.proofs.Asked.{asked_everywhere, calls_deeper, lacks_depth, lacks_frame}
 use Rattle.sbx_depth.proofs.Quiet.{depth_bounds_answers}
 
-same_callee : (parts : Parts) (f : ℕ) (callee : Option ℕ) → rules.calls_deeper parts f callee ≡ calls_deeper (declared parts) f callee
-same_callee parts f None = refl
-same_callee parts f (Some g) = refl
+same_callee : (parts : Parts) (f b i : ℕ) (callee : Option ℕ) → rules.calls_deeper parts f b i callee ≡ calls_deeper (declared parts) f callee
+same_callee parts f b i None = refl
+same_callee parts f b i (Some g) = refl
 
 is_asked : (version : ℕ) (lacks : Bool) → version ≡ 3 → lacks ≡ true → (version == 3 && lacks) ≡ true
 is_asked version lacks v h = grind (arith, nat_tests)
@@ -26,7 +26,7 @@ never false h = refl
 none_lacks : (parts : Parts) (f b i : ℕ) → parts.version ≡ 3 → (Holds parts f b i TooDeep → ⊥) → lacks_depth parts (declared parts) f b i ≡ false
 none_lacks parts f b i version none =
     never (lacks_depth parts (declared parts) f b i)
-    (λ h. none (is_asked parts.version _ version (ap (λ x. lacks_frame parts (declared parts) f b i || x) (same_callee parts f (callee_at parts f b i)) ∙ h)))
+    (λ h. none (is_asked parts.version _ version (ap (λ x. lacks_frame parts (declared parts) f b i || x) (same_callee parts f b i (callee_at parts f b i)) ∙ h)))
 
 pub declared_depths_hold : DeclaredDepthsHold
 declared_depths_hold parts checked version =

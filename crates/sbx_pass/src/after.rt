@@ -122,7 +122,7 @@ fn lacks_room(image: &Image, spot: &Spot) -> bool
 /// Whether the function that a word calls is as deep as the caller, or deeper.
 fn calls_deeper(image: &Image, spot: &Spot) -> bool
     requires { IsSpot image.now spot.now }
-    ensures { result ≡ calls_deeper image.now spot.now.function spot.now.callee }
+    ensures { result ≡ calls_deeper image.now spot.now.function spot.now.block spot.now.number spot.now.callee }
 {
     match spot.callee {
         Some(callee) =>

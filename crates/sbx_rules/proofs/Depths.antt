@@ -243,4 +243,4 @@ asks_none version lacks other h = other (grind (arith, nat_tests))
 
 pub no_other_version : (parts : Parts) (f b i : ℕ) → (parts.version ≡ 3 → ⊥) → Holds parts f b i TooDeep → ⊥
 no_other_version parts f b i other h =
-    asks_none parts.version ((is_entry b i && is_framed (function_at parts f).kind && nat_lt (function_at parts f).depth 1) || calls_deeper parts f (callee_at parts f b i)) other h
+    asks_none parts.version ((is_entry b i && is_framed (function_at parts f).kind && nat_lt (function_at parts f).depth 1) || calls_deeper parts f b i (callee_at parts f b i)) other h
