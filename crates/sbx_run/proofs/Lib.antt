@@ -6,7 +6,7 @@
 pub mod Pages
 pub mod Again
 pub mod Ends
-pub mod Answered
 pub mod Quiet
+pub mod Answered
 pub use Rattle.sbx_verify.proofs.Refusals
 pub use Rattle.sbx_verify.proofs.Whole
