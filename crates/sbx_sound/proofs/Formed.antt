@@ -26,7 +26,7 @@ use Rattle.sbx_image.specs.Services.{Services}
 use Rattle.sbx_image.specs.Reading.{block_at, block_head_at, bounds_at, cell_at, counts_at, data_count_at, data_length_at, function_at, function_head_at, header_at, items_at, kind_at, location_at, number_at, number_in, parts_at, range_at, reading, regions_at, services_at, shape_at, shape_of, shapes_at, signed_at, term_at}
 use Rattle.sbx_image.specs.Rules.{◌>>=◌, Place, admits, code_start, in_order, is_coefficient, is_fuel, is_known, is_version, is_data_length, is_length_behind}
 use Rattle.sbx_image.specs.Spelling.{IsBytes, IsTyped, IsTypedBlock, IsTypedCell, IsTypedFunction, IsTypedRange, IsTypedRegion, IsTypedTerm}
-use Rattle.sbx_image.proofs.Fields.{bind_ok, bytes_take, number_in_takes, number_takes, ok_is, wanted, wide16, wide32, wide64, wide8}
+use Rattle.sbx_image.proofs.Fields.{bind_ok, bytes_take, is_between, number_in_takes, number_takes, ok_is, wanted, wide16, wide32, wide64, wide8}
 use Rattle.sbx_image.proofs.TakesLaws.{reading_takes}
 use Rattle.sbx_range.proofs.Words.{signed-high, signed-low}
 use Rattle.sbx_flat.specs.Runs.{AreBytes}
@@ -189,7 +189,10 @@ bounds_left bytes x fits e =
     subst (λ (y : Bounds × List ℕ). IsBytes y.1) (ok_is made x budget.2) t2.0.rest_fits
 
 depth_typed : (told : Bool) (bytes : List ℕ) (x : ℕ × List ℕ) → IsBytes bytes → (if told then number_in w16 0 256 fault.Limit bytes else Ok (0, bytes)) ≡ Ok x → (x.0 < 2 ^ 16) × IsBytes x.1
-depth_typed true bytes x fits e = (let t = number_in_takes w16 (2 ^ 16) wide16 0 256 fault.Limit bytes x fits e in (t.1, t.0.rest_fits))
+depth_typed true bytes x fits e =
+    let t = number_in_takes w16 (2 ^ 16) wide16 0 256 fault.Limit bytes x fits e in
+    let few = (is_between 0 256 x.0 t.1).1 in
+    (omega (arith, few), t.0.rest_fits)
 depth_typed false bytes x fits e = subst (λ (y : ℕ × List ℕ). (y.0 < 2 ^ 16) × IsBytes y.1) (ok_is (0, bytes) x e) (omega arith, fits)
 
 function_head_typed : (version end : ℕ) (place : Place) (bytes : List ℕ) (x : FunctionHead × List ℕ) → IsBytes bytes → function_head_at version end place bytes ≡ Ok x → (x.0.entry < 2 ^ 32) × (x.0.depth < 2 ^ 16) × IsBytes x.1
