@@ -17,7 +17,11 @@ pub fn push_depth(out: &mut String, image: &Image, sight: &Sight) -> Result<(), 
     requires { IsSeen image.now sight.now }
 {
     out.push_str("\nthe declared depth is\n")?;
-    push_sides(out, entry_depth(image, sight), "by the function's own frame")?;
+    push_sides(
+        out,
+        entry_depth(image, sight),
+        "by the function's own frame",
+    )?;
     if sight.spot.callee.is_some() {
         push_sides(out, call_depth(image, sight), "by 1 and the callee's depth")?;
     }

@@ -125,8 +125,7 @@ fn calls_deeper(image: &Image, spot: &Spot) -> bool
     ensures { result ≡ calls_deeper image.now spot.now.function spot.now.block spot.now.number spot.now.callee }
 {
     match spot.callee {
-        Some(callee) =>
-            function_at(image, spot.function).depth <= function_at(image, callee).depth,
+        Some(callee) => function_at(image, spot.function).depth <= function_at(image, callee).depth,
         None => false,
     }
 }
