@@ -209,7 +209,7 @@ function_head_typed version end place bytes x fits e =
     let t3 = depth_typed (version == 3) bounds.0.1 depth.0 t2 depth.1 in
     let t4 = number_in_takes w16 (2 ^ 16) wide16 1 (4096 - place.1) fault.Limit depth.0.1 blocks.0 t3.1 blocks.1 in
     let made : FunctionHead × List ℕ = (record { kind = counts.0.0.kind; params = counts.0.0.params; results = counts.0.0.results; entry = entry.0.0; frame = bounds.0.0.frame; stack_room = bounds.0.0.stack_room; budget = bounds.0.0.budget; depth = depth.0.0; blocks = blocks.0.0 }, blocks.0.1) in
-    subst (λ (y : FunctionHead × List ℕ). (y.0.entry < 2 ^ 32) × (y.0.depth < 2 ^ 16) × IsBytes y.1) (ok_is made x blocks.2) (t1.typed, (t3.0, t4.0.rest_fits))
+    subst (λ (y : FunctionHead × List ℕ). (y.0.entry < 2 ^ 32) × (y.0.depth < 2 ^ 16) × IsBytes y.1) (ok_is made x blocks.2) (t1.typed, t3.0, t4.0.rest_fits)
 
 function_typed : (version end : ℕ) (c : Place × List ℕ) (x : Function × (Place × List ℕ)) → IsBytes c.1 → function_at version end c ≡ Ok x → IsTypedFunction x.0 × IsBytes x.1.1
 unfolding function_at
