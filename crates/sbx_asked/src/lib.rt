@@ -2,8 +2,10 @@
 #![tactic(auto)]
 
 mod arrivals;
+mod depth;
 mod room;
 
 pub use arrivals::push_arrivals;
+pub use depth::push_depth;
 pub use room::push_room;
 pub use sbx_worked::push_fuel;

@@ -12,7 +12,7 @@ use Rattle.sbx_flat.specs.Traffic.{traffic}
 use Rattle.sbx_flat.specs.declared.path.Place.{Place}
 use Rattle.sbx_windows.specs.Runs.{Finishes, IsImage}
 use Rattle.sbx_windows.proofs.Ending.{runs_to_its_end}
-use Rattle.sbx_run.specs.Answer.{EndsOn, IsFlatEnd}
+use Rattle.sbx_run.specs.Answer.{EndsOn, IsFlatEnd, KeepsItsDepth, told_of}
 use Rattle.sbx_run.specs.declared.runner.Finished.{Finished}
 use Rattle.sbx_batch.specs.Batches.{IsNext, ended_of, with_input}
 
@@ -46,12 +46,13 @@ module _ (n : ℕ) (parts : Parts) (input : List ℕ) (old end : State n) (image
       runs_to_its_end n parts input (with_input old input) start image safe bytes
       (record { state = record { cpu = state.cpu; size = state.size; bytes = state.bytes; root = state.root }; y = state.cpu.y_word; input_is = refl }) loaded
 
-  pub next : (f : Finished) → EndsOn n parts (with_input old input) end (ended_of f) → f.output.items ≡ end.world.memory.device.output → IsNext n parts input f old end
-  next f ends output =
+  pub next : (f : Finished) → EndsOn n parts (with_input old input) end (ended_of f) → f.output.items ≡ end.world.memory.device.output → KeepsItsDepth parts n (told_of f) → IsNext n parts input f old end
+  next f ends output depth =
       record {
         ends = ends;
         output = output;
         alone = λ single is.
             let told = told_alike n parts input [] ends.start (finishes ends.start ends.loaded) _ _ _ _ _ _ ends.flat is.flat in
             (told.0, output ∙ ends.put_out ∙ told.1);
+        depth = depth;
       }

@@ -59,7 +59,8 @@ fn run_next<'a, const N: usize>(
 /// Runs accepted images, each on its input and to its end, one after another on one board of `N` windows, 4 to 32, and gives what each
 /// run gave, in order. Between two of them the board is loaded, and nothing is cleared: registers, Y and the stack's bytes are what
 /// the run before left. Yet status, output, turns, overflows and underflows are those of `run_accepted` on the image and the input
-/// alone, and the pages are those of the run itself. The only fault is `RunFault::Memory`, and then nothing is given.
+/// alone, and the pages are those of the run itself; an image of version 3 overflows and underflows no window where `N` is at least two
+/// more than its first function's declared depth. The only fault is `RunFault::Memory`, and then nothing is given.
 pub fn run_batch<const N: usize>(
     alloc: Global,
     batch: &[Batch<'_>],

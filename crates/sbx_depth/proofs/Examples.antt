@@ -136,6 +136,7 @@ loop_is_typed = record {
       entry = omega arith;
       params = tt;
       results = tt;
+      depth = omega arith;
       blocks = (block_typed 0x40000 16030 (omega arith) (omega arith), (loop_typed, (body_typed, (block_typed 0x40028 4 (omega arith) (omega arith), tt))));
     },
     tt,

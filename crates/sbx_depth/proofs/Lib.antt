@@ -4,4 +4,5 @@ pub mod Depths
 pub mod Ending
 pub mod Quiet
 pub mod Asked
+pub mod Declared
 pub mod Examples

@@ -37,3 +37,22 @@ DepthBoundsAnswers =
     (parts : Parts) (depth : ℕ → ℕ) → IsFormed parts → Checked parts → Deep parts depth
     → (n : ℕ) → depth 0 + 2 ≤ n → (input output : List ℕ) (status : ℕ) (path : List Place) → AreBytes input → Behaves parts input output status path
     → ((traffic parts n path).overflows ≡ 0) × ((traffic parts n path).underflows ≡ 0)
+
+-- ---- the depths that an image declares
+
+abbrev pub declared : Parts → ℕ → ℕ
+declared parts f = (function_at parts f).depth
+
+-- In an image of version 3 that breaks no rule they hold of its calls.
+abbrev pub DeclaredDepthsHold : Type 0
+DeclaredDepthsHold = (parts : Parts) → Checked parts → parts.version ≡ 3 → Deep parts (declared parts)
+
+-- An image of version 3 needs no more windows than two beyond the depth of its first function: no run that ends overflows one or
+-- underflows one where there are so many, or more.
+abbrev pub DepthIsEnough : Parts → Type 0
+DepthIsEnough parts =
+    parts.version ≡ 3 → (n : ℕ) → declared parts 0 + 2 ≤ n → (input output : List ℕ) (status : ℕ) (path : List Place) → AreBytes input → Behaves parts input output status path
+    → ((traffic parts n path).overflows ≡ 0) × ((traffic parts n path).underflows ≡ 0)
+
+abbrev pub DeclaredDepthIsEnough : Type 0
+DeclaredDepthIsEnough = (parts : Parts) → IsFormed parts → Checked parts → DepthIsEnough parts

@@ -1,6 +1,6 @@
 //! Each law is the contract of a function that does nothing.
 ghost use Rattle.sbx_depth.specs.Examples.{DepthsAreThese};
-ghost use Rattle.sbx_depth.specs.Law.{DepthBoundsAnswers, DepthBoundsFrames, DepthBoundsTraffic};
+ghost use Rattle.sbx_depth.specs.Law.{DeclaredDepthIsEnough, DeclaredDepthsHold, DepthBoundsAnswers, DepthBoundsFrames, DepthBoundsTraffic};
 
 /// In an image that breaks no rule, and whose depths hold of its calls, no state of a run on any input has more frames above the
 /// first one than the first function's depth.
@@ -16,6 +16,16 @@ pub fn depth_bounds_traffic()
 /// So the path along which such an image answers on an input has no overflow and no underflow.
 pub fn depth_bounds_answers()
     ensures { DepthBoundsAnswers }
+{}
+
+/// The depths that an image of version 3 declares hold of its calls, where it breaks no rule.
+pub fn declared_depths_hold()
+    ensures { DeclaredDepthsHold }
+{}
+
+/// So a run of such an image overflows no window and underflows none where there are two more than its first function declares.
+pub fn declared_depth_is_enough()
+    ensures { DeclaredDepthIsEnough }
 {}
 
 /// Depths that hold of a loop, of a call of a leaf and of a chain of calls, and such as don't; and what that chain costs on 4, 32, 41

@@ -1,7 +1,7 @@
 -- The rules in words.
 use Rattle.std.specs.Prelude.{ℕ, List, codes}
 use Rattle.sbx_rules.specs.declared.cause.Cause.{Cause}
-use Rattle.sbx_rules.specs.declared.cause.Cause.TheVariants.{NotAnInstruction, NotAdmitted, BadShape, BadBranch, BadCall, UndefinedRead, ReservedRegister, Misaligned, OutOfBounds, ZeroDivisor, TagOverflow, UndeclaredService, UnkeptCells, OutOfFuel, OutOfStack, RunsPastEnd, UnkeptResults, BadEntry, NoMemory}
+use Rattle.sbx_rules.specs.declared.cause.Cause.TheVariants.{NotAnInstruction, NotAdmitted, BadShape, BadBranch, BadCall, UndefinedRead, ReservedRegister, Misaligned, OutOfBounds, ZeroDivisor, TagOverflow, UndeclaredService, UnkeptCells, OutOfFuel, OutOfStack, RunsPastEnd, UnkeptResults, BadEntry, TooDeep, NoMemory}
 
 abbrev pub rule_text : Cause → List ℕ
 rule_text NotAnInstruction = codes "the word is no instruction, or has an unused bit set"
@@ -22,4 +22,5 @@ rule_text OutOfStack = codes "the stack room isn't enough"
 rule_text RunsPastEnd = codes "control can go past the function's last word"
 rule_text UnkeptResults = codes "a result isn't shown to be as declared"
 rule_text BadEntry = codes "function 0 is nobody's callee, and has parameters or returns"
+rule_text TooDeep = codes "the declared call depth is less than a frame and the calls take"
 rule_text (NoMemory want) = codes "memory was refused"

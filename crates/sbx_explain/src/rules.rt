@@ -35,6 +35,7 @@ pub fn rule_text(cause: Cause) -> &'static str
         Cause::RunsPastEnd => "control can go past the function's last word",
         Cause::UnkeptResults => "a result isn't shown to be as declared",
         Cause::BadEntry => "function 0 is nobody's callee, and has parameters or returns",
+        Cause::TooDeep => "the declared call depth is less than a frame and the calls take",
         Cause::NoMemory(_) => "memory was refused",
     }
 }

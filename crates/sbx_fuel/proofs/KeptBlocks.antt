@@ -109,9 +109,9 @@ record KeptPromises (f : Function) : Type 0 where
   params : AllByRecursion IsSome f.params
   blocks : AllByRecursion KeptAnnotations f.blocks
 
-promises : (end : ℕ) (place : Place) (f : Function) (after : Place) → function_keeps end place f ≡ Ok after → KeptPromises f
-promises end place f after e =
-    let k = function_kept end place f after e in
+promises : (version end : ℕ) (place : Place) (f : Function) (after : Place) → function_keeps version end place f ≡ Ok after → KeptPromises f
+promises version end place f after e =
+    let k = function_kept version end place f after e in
     record {
       params = each_all (λ _ r. range_keeps r) IsSome (λ _ r _ g. in_order_some r (range_kept r g).ends) f.params tt tt k.params;
       blocks = each_all (block_keeps end) KeptAnnotations (annotations end) f.blocks (Exactly f.entry) k.next k.blocks;
@@ -130,7 +130,7 @@ pub block_is_kept : (parts : Parts) → parts_keep parts ≡ Ok tt → (f b : �
     → b < length (get_or parts.functions f df).blocks → IsKeptBlock (get_or parts.functions f df) b (get_or (get_or parts.functions f df).blocks b db)
 block_is_kept parts e f b df db in_functions in_blocks =
     let k = parts_kept parts e in
-    let all = each_all (function_keeps (code_start + 4 * length parts.words)) KeptPromises (promises (code_start + 4 * length parts.words)) parts.functions (Exactly code_start, 0) k.last k.functions in
+    let all = each_all (function_keeps parts.version (code_start + 4 * length parts.words)) KeptPromises (promises parts.version (code_start + 4 * length parts.words)) parts.functions (Exactly code_start, 0) k.last k.functions in
     let one = all_at KeptPromises parts.functions f df all in_functions in
     is_kept (get_or parts.functions f df) b (get_or (get_or parts.functions f df).blocks b db) one (all_at KeptAnnotations (get_or parts.functions f df).blocks b db one.blocks in_blocks)
 

@@ -1,5 +1,8 @@
--- Fuel as values, in the terms of the rules.
-use Rattle.std.specs.Prelude.{◌≡◌, ℕ, Option, Some, None}
+-- Fuel and depths as values, in the terms of the rules.
+use Rattle.std.specs.Prelude.{◌≡◌, ℕ, ◌+◌, Option, Some, None}
+use Rattle.sbx_image.specs.Kind.{Kind}
+use Rattle.sbx_image.specs.Kind.TheVariants.{Framed, Leaf}
+use Rattle.sbx_image.specs.Order.{function_at}
 use Rattle.sbx_image.specs.Parts.{Parts}
 use Rattle.sbx_domain.specs.Forms.{Form}
 use Rattle.sbx_rules.specs.Ways.{fuel_at}
@@ -23,3 +26,15 @@ IsFuelAlong parts f _ fuel = fuel ≡ None
 abbrev pub IsNextFuel : Parts → ℕ → Option Course → Option Fuel → Type 0
 IsNextFuel parts f None fuel = fuel ≡ None
 IsNextFuel parts f (Some c) fuel = IsFuelAlong parts f c.going fuel
+
+-- ---- depths
+
+-- what a function takes of depth for itself
+abbrev pub own_depth : Kind → ℕ
+own_depth Framed = 1
+own_depth Leaf = 0
+
+-- and for a callee
+abbrev pub depth_for : Parts → Option ℕ → ℕ
+depth_for parts None = 0
+depth_for parts (Some g) = (function_at parts g).depth + 1

@@ -1,4 +1,4 @@
-//! The two sides of what fuel, a budget and stack room are asked for.
+//! The two sides of what fuel, a budget, stack room and call depth are asked for.
 ghost use Rattle.std.specs.Prelude.{◌≡◌, ◌<◌, ◌+◌, ◌*◌, IfSome, Ok, length, suc};
 ghost use Rattle.sbx_image.specs.Rules.{parts_keep};
 ghost use Rattle.sbx_known.specs.Courses.{IsWell};
@@ -7,14 +7,14 @@ ghost use Rattle.sbx_image.specs.Order.{function_at};
 ghost use Rattle.sbx_rules.specs.Places.{callee_at};
 ghost use Rattle.sbx_rules.specs.Rules.{room_of_callee};
 ghost use Rattle.sbx_rules.specs.Ways.{fuel_at, weight_to};
-ghost use Rattle.sbx_inspect.specs.Sides.{IsNextFuel, form_of};
+ghost use Rattle.sbx_inspect.specs.Sides.{IsNextFuel, depth_for, form_of, own_depth};
 ghost use Rattle.sbx_inspect.specs.Sights.{IsSeen};
 
 use crate::known::Sight;
 use arrayvec::ArrayVec;
 use sbx_form::FormTerm;
 use sbx_fuel::fuel_terms;
-use sbx_image::Image;
+use sbx_image::{Image, Kind};
 use sbx_known::{Course, Going, Spot, block_at, function_at};
 
 /// Turns: a constant, and so many for each 1 of the number with which a location begins.
@@ -50,6 +50,13 @@ pub struct BudgetSides {
 pub struct RoomSides {
     pub room: u64,
     pub needed: u64,
+}
+
+/// What call depth is asked for: there has to be declared at least what is needed. In frames.
+#[derive(Clone, Copy, Debug, PartialEq, Eq)]
+pub struct DepthSides {
+    pub depth: u32,
+    pub needed: u32,
 }
 
 /// The fuel with which a block begins, as the rules count it.
@@ -167,5 +174,44 @@ pub fn call_room(image: &Image, sight: &Sight) -> RoomSides
     RoomSides {
         room: u64::from(function.stack_room),
         needed: sum(function.frame, room_of_callee(image, &sight.spot)),
+    }
+}
+
+/// The sides of the rule of call depth at the entry of a word's function: what it declares against its own frame.
+pub fn entry_depth(image: &Image, sight: &Sight) -> DepthSides
+    requires { IsSeen image.now sight.now }
+    ensures depth { result.depth ≡ (function_at image.now sight.now.spot.function).depth }
+    ensures needed { result.needed ≡ own_depth (function_at image.now sight.now.spot.function).kind }
+{
+    let function = function_at(image, sight.spot.function);
+    DepthSides {
+        depth: u32::from(function.depth),
+        needed: match function.kind {
+            Kind::Framed => 1,
+            Kind::Leaf => 0,
+        },
+    }
+}
+
+fn depth_for(image: &Image, spot: &Spot) -> u32
+    requires { IsSpot image.now spot.now }
+    ensures { result ≡ depth_for image.now spot.now.callee }
+{
+    match spot.callee {
+        Some(callee) => u32::from(function_at(image, callee).depth) + 1,
+        None => 0,
+    }
+}
+
+/// The sides of the rule of call depth at a word that calls: what its function declares against 1 more than the callee does.
+pub fn call_depth(image: &Image, sight: &Sight) -> DepthSides
+    requires { IsSeen image.now sight.now }
+    ensures depth { result.depth ≡ (function_at image.now sight.now.spot.function).depth }
+    ensures needed { result.needed ≡ depth_for image.now (callee_at image.now sight.now.spot.function sight.now.spot.block sight.now.spot.number) }
+{
+    let function = function_at(image, sight.spot.function);
+    DepthSides {
+        depth: u32::from(function.depth),
+        needed: depth_for(image, &sight.spot),
     }
 }

@@ -16,9 +16,9 @@ pub record IsLimited (f : Function) : Type 0 where
   pub budget : f.budget ≤ 1099511627775
   pub blocks : length f.blocks ≤ 4096
 
-limited : (end : ℕ) (place : Place) (f : Function) (state : Place) → function_keeps end place f ≡ Ok state → IsLimited f
-limited end place f state e =
-    let k = function_kept end place f state e in
+limited : (version end : ℕ) (place : Place) (f : Function) (state : Place) → function_keeps version end place f ≡ Ok state → IsLimited f
+limited version end place f state e =
+    let k = function_kept version end place f state e in
     record {
       params = (is_between 0 6 (length f.params) k.param_count).1;
       budget = (is_between 0 1099511627775 f.budget k.budget).1;
@@ -34,4 +34,4 @@ pub function_limited : (parts : Parts) → parts_keep parts ≡ Ok tt → (f : �
 function_limited parts keeps f within =
     let k = parts_kept parts keeps in
     let end = code_start + 4 * length parts.words in
-    at parts.functions f (each_all (function_keeps end) IsLimited (limited end) parts.functions (Exactly code_start, 0) k.last k.functions) within
+    at parts.functions f (each_all (function_keeps parts.version end) IsLimited (limited parts.version end) parts.functions (Exactly code_start, 0) k.last k.functions) within

@@ -5,10 +5,11 @@ use Rattle.std.specs.Option.{option_or}
 use Rattle.std.specs.Bool.{then_some}
 use Rattle.std.proofs.lemmas.Bool.Decides.{nat_tests}
 use Rattle.want.specs.Wants.{refused}
+use Rattle.want.specs.declared.Want.{Want}
 use Rattle.v8_meaning.specs.declared.operation.Operation.{Operation}
 use Rattle.sbx_image.specs.Function.{Function}
 use Rattle.sbx_rules.specs.declared.cause.Cause.{Cause}
-use Rattle.sbx_rules.specs.declared.cause.Cause.TheVariants.{NotAnInstruction, NotAdmitted, BadShape, BadBranch, BadCall, UndefinedRead, ReservedRegister, Misaligned, OutOfBounds, ZeroDivisor, TagOverflow, UndeclaredService, UnkeptCells, OutOfFuel, OutOfStack, RunsPastEnd, UnkeptResults, BadEntry, NoMemory}
+use Rattle.sbx_rules.specs.declared.cause.Cause.TheVariants.{NotAnInstruction, NotAdmitted, BadShape, BadBranch, BadCall, UndefinedRead, ReservedRegister, Misaligned, OutOfBounds, ZeroDivisor, TagOverflow, UndeclaredService, UnkeptCells, OutOfFuel, OutOfStack, RunsPastEnd, UnkeptResults, BadEntry, TooDeep, NoMemory}
 use Rattle.sbx_rules.specs.Causes.{number_of}
 use Rattle.sbx_rules.specs.Ways.{Visit}
 use Rattle.sbx_pass.specs.Firsts.{AreKept, Tells}
@@ -19,7 +20,7 @@ or_memory (Some cause) = cause
 
 -- a rule by its number
 rule_of : ℕ → Cause
-rule_of n = or_memory (slice_get (NotAnInstruction ∷ NotAdmitted ∷ BadShape ∷ BadBranch ∷ BadCall ∷ UndefinedRead ∷ ReservedRegister ∷ Misaligned ∷ OutOfBounds ∷ ZeroDivisor ∷ TagOverflow ∷ UndeclaredService ∷ UnkeptCells ∷ OutOfFuel ∷ OutOfStack ∷ RunsPastEnd ∷ UnkeptResults ∷ BadEntry ∷ []) (n - 1))
+rule_of n = or_memory (slice_get (NotAnInstruction ∷ NotAdmitted ∷ BadShape ∷ BadBranch ∷ BadCall ∷ UndefinedRead ∷ ReservedRegister ∷ Misaligned ∷ OutOfBounds ∷ ZeroDivisor ∷ TagOverflow ∷ UndeclaredService ∷ UnkeptCells ∷ OutOfFuel ∷ OutOfStack ∷ RunsPastEnd ∷ UnkeptResults ∷ BadEntry ∷ NoMemory refused ∷ TooDeep ∷ []) (n - 1))
 
 numbered : (cause : Cause) → rule_of (number_of cause) ≡ cause
 unfolding rule_of or_memory
@@ -41,6 +42,7 @@ numbered OutOfStack = refl
 numbered RunsPastEnd = refl
 numbered UnkeptResults = refl
 numbered BadEntry = refl
+numbered TooDeep = refl
 numbered (NoMemory want) = refl
 
 same_rule : (cause other : Cause) → number_of cause ≡ number_of other → cause ≡ other
@@ -80,6 +82,14 @@ module _ (Broken : Cause → Type 0) where
       })
   both low mid high (Some cause) b result below above is first second = subst (Tells Broken low high) (sym is)
       (let to = first.to in record { from = first.from; to = omega arith; broken = first.broken; lesser = first.lesser })
+
+  -- want of memory, which has number 19, breaks no rule
+  pub none_at_19 : ((want : Want) → Broken (NoMemory want) → ⊥) → AreKept Broken 19 20
+  none_at_19 memory (NoMemory want) from to h = memory want h
+  none_at_19 memory _ from to h = absurd (omega arith)
+
+  pub from_19 : ((want : Want) → Broken (NoMemory want) → ⊥) → (result : Option Cause) → Tells Broken 20 21 result → Tells Broken 19 21 result
+  from_19 memory result told = both 19 20 21 None result result (omega arith) (omega arith) refl (none_at_19 memory) told
 
 -- what a test of the function, of what the word asks for and of its ways says
 pub same_test : (R : Function → Operation → List Visit → Bool) (r : Bool) (f g : Function) (o p : Operation) (vs ws : List Visit) → r ≡ R f o vs → f ≡ g → o ≡ p → ws ≡ vs → r ≡ R g p ws

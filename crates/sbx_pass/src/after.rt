@@ -5,11 +5,11 @@ ghost use Rattle.sbx_rules.specs.Known.{Known, known};
 ghost use Rattle.sbx_fuel.specs.Least.{HasOnlyLocations};
 ghost use Rattle.sbx_image.specs.Rules.{parts_keep};
 ghost use Rattle.sbx_image.specs.Spelling.{IsCountedFunction};
-ghost use Rattle.sbx_rules.specs.Operations.{is_call, is_return};
+ghost use Rattle.sbx_rules.specs.Operations.{is_call, is_framed, is_return};
 ghost use Rattle.sbx_rules.specs.Fuel.{IsEnough, IsWithinBudget};
 ghost use Rattle.sbx_image.specs.Order.{block_at, function_at};
 ghost use Rattle.sbx_rules.specs.Places.{ends_run};
-ghost use Rattle.sbx_rules.specs.Rules.{HasUnpaidEdge, Holds, LacksFuel, has_cells, has_outs, is_back, is_entry, is_past, lacks_room, lists_badly, misses_params, names_strange, params_of, room_of_callee};
+ghost use Rattle.sbx_rules.specs.Rules.{HasUnpaidEdge, Holds, LacksFuel, calls_deeper, has_cells, has_outs, is_back, is_entry, is_past, lacks_depth, lacks_room, lists_badly, misses_params, names_strange, params_of, room_of_callee};
 ghost use Rattle.sbx_rules.specs.Ways.{after_call, cells_at, fuel_at, state_at, visits_at, weight_to};
 ghost use Rattle.sbx_known.specs.Courses.{AreWell, IsWell, arrivals_at, is_any, listed, misses_at};
 ghost use Rattle.sbx_pass.specs.Firsts.{Tells};
@@ -21,7 +21,7 @@ use sbx_fuel::{is_enough, is_within_budget, lasts, names_strange};
 use sbx_image::{Function, Image};
 use sbx_known::{
     Course, Courses, Going, Spot, block_at, comes_back, ends_run, function_at, has_cells, has_outs,
-    is_call, is_return, lists_badly, return_to, some_comes_back, some_goes_past,
+    is_call, is_framed, is_return, lists_badly, return_to, some_comes_back, some_goes_past,
 };
 use sbx_rules::{Cause, State};
 
@@ -119,6 +119,27 @@ fn lacks_room(image: &Image, spot: &Spot) -> bool
         || (is_call(&spot.operation) && u64::from(function.stack_room) < needed)
 }
 
+/// Whether the function that a word calls is as deep as the caller, or deeper.
+fn calls_deeper(image: &Image, spot: &Spot) -> bool
+    requires { IsSpot image.now spot.now }
+    ensures { result ≡ calls_deeper image.now spot.now.function spot.now.block spot.now.number spot.now.callee }
+{
+    match spot.callee {
+        Some(callee) => function_at(image, spot.function).depth <= function_at(image, callee).depth,
+        None => false,
+    }
+}
+
+fn lacks_depth(image: &Image, spot: &Spot) -> bool
+    requires { IsSpot image.now spot.now }
+    ensures { result ≡ lacks_depth image.now spot.now.function spot.now.block spot.now.number }
+{
+    let function = function_at(image, spot.function);
+    image.version() == 3
+        && ((is_entry(spot) && is_framed(function.kind) && function.depth < 1)
+            || calls_deeper(image, spot))
+}
+
 /// Whether a way is a return whose results aren't within the function's.
 fn breaks_results(function: &Function, course: Option<Course>, state: &State) -> bool
     requires { IsCountedFunction function.now }
@@ -156,7 +177,7 @@ fn breaks_cells(image: &Image, spot: &Spot, courses: &Courses, here: &State, oth
         || lists_badly_at(image, spot)
 }
 
-/// The first of the rules 15 to 18 that a word breaks.
+/// The first of the rules 15 to 18 and 20 that a word breaks.
 fn fault_of_ways(
     image: &Image,
     spot: &Spot,
@@ -166,7 +187,7 @@ fn fault_of_ways(
 ) -> Option<Cause>
     requires spot { IsSpot image.now spot.now }
     requires arrivals { arrivals_at image.now spot.now.function spot.now.block spot.now.number ≡ listed courses.now (known here.now) (known other.now) }
-    ensures { Tells (Holds image.now spot.now.function spot.now.block spot.now.number) 15 19 result }
+    ensures { Tells (Holds image.now spot.now.function spot.now.block spot.now.number) 15 21 result }
 {
     let function = function_at(image, spot.function);
     lacks_room(image, spot)
@@ -174,6 +195,7 @@ fn fault_of_ways(
         .or(some_goes_past(courses).then_some(Cause::RunsPastEnd))
         .or(breaks_results_on(function, courses, here, other).then_some(Cause::UnkeptResults))
         .or(is_bad_entry(image, spot).then_some(Cause::BadEntry))
+        .or(lacks_depth(image, spot).then_some(Cause::TooDeep))
 }
 
 /// Whether the fuel of a word's block lasts where a way leads to a block.
@@ -277,7 +299,7 @@ fn lacks_fuel(
     )
 }
 
-/// The first of the rules 13 to 18 that a word breaks, where no call that it ends is made with less than its params.
+/// The first of the rules 13 to 18 and 20 that a word breaks, where no call that it ends is made with less than its params.
 pub fn fault_after(
     image: &Image,
     spot: &Spot,
@@ -291,7 +313,7 @@ pub fn fault_after(
     requires arrivals { arrivals_at image.now spot.now.function spot.now.block spot.now.number ≡ listed courses.now (known here.now) (known other.now) }
     requires params { list_any (misses_params image.now spot.now.function spot.now.block spot.now.number) (visits_at image.now spot.now.function spot.now.block spot.now.number) ≡ false }
     requires weight { weight ≡ weight_to image.now spot.now.function spot.now.block (suc spot.now.number) }
-    ensures { Tells (Holds image.now spot.now.function spot.now.block spot.now.number) 13 19 result }
+    ensures { Tells (Holds image.now spot.now.function spot.now.block spot.now.number) 13 21 result }
 {
     breaks_cells(image, spot, courses, here, other)
         .then_some(Cause::UnkeptCells)

@@ -14,7 +14,7 @@ use sbx_image::Image;
 use sbx_known::{Courses, Spot, courses_of, perform_on};
 use sbx_rules::{Cause, State};
 
-/// The first of the rules 13 to 18 that a word breaks, once it has run on its ways. The states go on to what is known then.
+/// The first of the rules 13 to 18 and 20 that a word breaks, once it has run on its ways. The states go on to what is known then.
 fn fault_once_run(
     image: &Image,
     spot: &Spot,
@@ -28,7 +28,7 @@ fn fault_once_run(
     requires well { AreWell image.now spot.now.function courses.now }
     requires straight { is_branch spot.now.before ≡ false → IsStraight courses.now }
     requires weight { weight ≡ weight_to image.now spot.now.function spot.now.block (suc spot.now.number) }
-    ensures told { Tells (Holds image.now spot.now.function spot.now.block spot.now.number) 13 19 result }
+    ensures told { Tells (Holds image.now spot.now.function spot.now.block spot.now.number) 13 21 result }
     ensures next { result ≡ None → is_branch spot.now.before ≡ false → known here.new ≡ after_word image.now spot.now.function spot.now.block spot.now.number (known here.old) }
 {
     perform_on(image, spot, courses, here, other);
@@ -51,7 +51,7 @@ pub fn fault_at(
     requires known { known here.old ≡ state_at image.now spot.now.function spot.now.block spot.now.number }
     requires shape { (j : ℕ) → j < spot.now.number → has_bad_shape image.now spot.now.function spot.now.block j ≡ false }
     requires weight { weight ≡ weight_to image.now spot.now.function spot.now.block (suc spot.now.number) }
-    ensures told { Tells (Holds image.now spot.now.function spot.now.block spot.now.number) 1 19 result }
+    ensures told { Tells (Holds image.now spot.now.function spot.now.block spot.now.number) 1 21 result }
     ensures next { result ≡ None → suc spot.now.number < words_in image.now spot.now.function spot.now.block → known here.new ≡ state_at image.now spot.now.function spot.now.block (suc spot.now.number) }
 {
     let courses = courses_of(image, spot, here, other);

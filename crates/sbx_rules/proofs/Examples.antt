@@ -29,6 +29,7 @@ use Rattle.sbx_rules.specs.Places.{IsPlace, callee_at, word_of_place}
 use Rattle.sbx_rules.specs.Rules.{Holds, LacksFuel, reads_undefined, touches_reserved}
 use Rattle.sbx_rules.specs.Verdicts.{Breaks, Checked, IsFirst}
 use Rattle.sbx_rules.specs.Ways.{branch_way, falls, fuel_at, state_at, visits_at, weight_to}
+use Rattle.sbx_rules.proofs.Depths.{leaf_too_deep, no_other_version, with_depth, without_depth}
 use Rattle.sbx_rules.proofs.Quiet.{Lasts, all_checked, no_lesser_rule, no_lesser_rule_lasting, no_rule, quiet_below, told_first}
 
 if_none : (t : Bool) (e : Option Entry) → e ≡ None → (if t then e else None) ≡ None
@@ -48,7 +49,7 @@ nothing_begun l r e = let n : range_at (started []) l ≡ None = ap range_of_ent
 
 -- ---- the loop
 
-echo_0_0_quiet : quiet_below echo 0 0 0 20 ≡ true
+echo_0_0_quiet : quiet_below echo 0 0 0 21 ≡ true
 unfolding quiet_below form_value outcome meaning is_admitted operation_of add_term add_terms range_add range_or range_sub range_of row_of both_of common narrowed narrowed_by_value refine refine_by_value some_pair some_range without is_kept cell_entry started with_entry narrowed_at refined form_of called restored saved transferred access_of reads_of writes_of address_of callee_at word_of_place words_in reads_undefined touches_reserved branch_way falls fuel_at state_at visits_at weight_to
 echo_0_0_quiet = refl
 
@@ -56,7 +57,7 @@ echo_0_0_lasts : Lasts echo 0 0 0
 unfolding form_value outcome meaning is_admitted operation_of add_term add_terms range_add range_or range_sub range_of row_of both_of common narrowed narrowed_by_value refine refine_by_value some_pair some_range without is_kept cell_entry started with_entry narrowed_at refined form_of called restored saved transferred access_of reads_of writes_of address_of callee_at word_of_place words_in reads_undefined touches_reserved branch_way falls fuel_at state_at visits_at weight_to
 echo_0_0_lasts = record { edges = (tt, tt); end = λ e start s. omega (arith, ints); entry = λ e start s. omega (arith, ints); terms = refl }
 
-echo_0_1_quiet : quiet_below echo 0 0 1 20 ≡ true
+echo_0_1_quiet : quiet_below echo 0 0 1 21 ≡ true
 unfolding quiet_below form_value outcome meaning is_admitted operation_of add_term add_terms range_add range_or range_sub range_of row_of both_of common narrowed narrowed_by_value refine refine_by_value some_pair some_range without is_kept cell_entry started with_entry narrowed_at refined form_of called restored saved transferred access_of reads_of writes_of address_of callee_at word_of_place words_in reads_undefined touches_reserved branch_way falls fuel_at state_at visits_at weight_to
 echo_0_1_quiet = refl
 
@@ -64,7 +65,7 @@ echo_0_1_lasts : Lasts echo 0 0 1
 unfolding form_value outcome meaning is_admitted operation_of add_term add_terms range_add range_or range_sub range_of row_of both_of common narrowed narrowed_by_value refine refine_by_value some_pair some_range without is_kept cell_entry started with_entry narrowed_at refined form_of called restored saved transferred access_of reads_of writes_of address_of callee_at word_of_place words_in reads_undefined touches_reserved branch_way falls fuel_at state_at visits_at weight_to
 echo_0_1_lasts = record { edges = (λ start others s o. omega (arith, ints), tt); end = λ e start s. omega (arith, ints); entry = λ e start s. omega (arith, ints); terms = refl }
 
-echo_1_0_quiet : quiet_below echo 0 1 0 20 ≡ true
+echo_1_0_quiet : quiet_below echo 0 1 0 21 ≡ true
 unfolding quiet_below form_value outcome meaning is_admitted operation_of add_term add_terms range_add range_or range_sub range_of row_of both_of common narrowed narrowed_by_value refine refine_by_value some_pair some_range without is_kept cell_entry started with_entry narrowed_at refined form_of called restored saved transferred access_of reads_of writes_of address_of callee_at word_of_place words_in reads_undefined touches_reserved branch_way falls fuel_at state_at visits_at weight_to
 echo_1_0_quiet = refl
 
@@ -72,7 +73,7 @@ echo_1_0_lasts : Lasts echo 0 1 0
 unfolding form_value outcome meaning is_admitted operation_of add_term add_terms range_add range_or range_sub range_of row_of both_of common narrowed narrowed_by_value refine refine_by_value some_pair some_range without is_kept cell_entry started with_entry narrowed_at refined form_of called restored saved transferred access_of reads_of writes_of address_of callee_at word_of_place words_in reads_undefined touches_reserved branch_way falls fuel_at state_at visits_at weight_to
 echo_1_0_lasts = record { edges = (tt, tt); end = λ e start s. let c0 = s 16 (range (pos 1) (pos 1000) 0) refl in omega (arith, ints); entry = λ e start s. let c0 = s 16 (range (pos 1) (pos 1000) 0) refl in omega (arith, ints); terms = refl }
 
-echo_1_1_quiet : quiet_below echo 0 1 1 20 ≡ true
+echo_1_1_quiet : quiet_below echo 0 1 1 21 ≡ true
 unfolding quiet_below form_value outcome meaning is_admitted operation_of add_term add_terms range_add range_or range_sub range_of row_of both_of common narrowed narrowed_by_value refine refine_by_value some_pair some_range without is_kept cell_entry started with_entry narrowed_at refined form_of called restored saved transferred access_of reads_of writes_of address_of callee_at word_of_place words_in reads_undefined touches_reserved branch_way falls fuel_at state_at visits_at weight_to
 echo_1_1_quiet = refl
 
@@ -80,7 +81,7 @@ echo_1_1_lasts : Lasts echo 0 1 1
 unfolding form_value outcome meaning is_admitted operation_of add_term add_terms range_add range_or range_sub range_of row_of both_of common narrowed narrowed_by_value refine refine_by_value some_pair some_range without is_kept cell_entry started with_entry narrowed_at refined form_of called restored saved transferred access_of reads_of writes_of address_of callee_at word_of_place words_in reads_undefined touches_reserved branch_way falls fuel_at state_at visits_at weight_to
 echo_1_1_lasts = record { edges = (tt, tt); end = λ e start s. let c0 = s 16 (range (pos 1) (pos 1000) 0) refl in omega (arith, ints); entry = λ e start s. let c0 = s 16 (range (pos 1) (pos 1000) 0) refl in omega (arith, ints); terms = refl }
 
-echo_1_2_quiet : quiet_below echo 0 1 2 20 ≡ true
+echo_1_2_quiet : quiet_below echo 0 1 2 21 ≡ true
 unfolding quiet_below form_value outcome meaning is_admitted operation_of add_term add_terms range_add range_or range_sub range_of row_of both_of common narrowed narrowed_by_value refine refine_by_value some_pair some_range without is_kept cell_entry started with_entry narrowed_at refined form_of called restored saved transferred access_of reads_of writes_of address_of callee_at word_of_place words_in reads_undefined touches_reserved branch_way falls fuel_at state_at visits_at weight_to
 echo_1_2_quiet = refl
 
@@ -88,7 +89,7 @@ echo_1_2_lasts : Lasts echo 0 1 2
 unfolding form_value outcome meaning is_admitted operation_of add_term add_terms range_add range_or range_sub range_of row_of both_of common narrowed narrowed_by_value refine refine_by_value some_pair some_range without is_kept cell_entry started with_entry narrowed_at refined form_of called restored saved transferred access_of reads_of writes_of address_of callee_at word_of_place words_in reads_undefined touches_reserved branch_way falls fuel_at state_at visits_at weight_to
 echo_1_2_lasts = record { edges = (tt, tt); end = λ e start s. let c0 = s 16 (range (pos 1) (pos 1000) 0) refl in omega (arith, ints); entry = λ e start s. let c0 = s 16 (range (pos 1) (pos 1000) 0) refl in omega (arith, ints); terms = refl }
 
-echo_1_3_quiet : quiet_below echo 0 1 3 20 ≡ true
+echo_1_3_quiet : quiet_below echo 0 1 3 21 ≡ true
 unfolding quiet_below form_value outcome meaning is_admitted operation_of add_term add_terms range_add range_or range_sub range_of row_of both_of common narrowed narrowed_by_value refine refine_by_value some_pair some_range without is_kept cell_entry started with_entry narrowed_at refined form_of called restored saved transferred access_of reads_of writes_of address_of callee_at word_of_place words_in reads_undefined touches_reserved branch_way falls fuel_at state_at visits_at weight_to
 echo_1_3_quiet = refl
 
@@ -96,7 +97,7 @@ echo_1_3_lasts : Lasts echo 0 1 3
 unfolding form_value outcome meaning is_admitted operation_of add_term add_terms range_add range_or range_sub range_of row_of both_of common narrowed narrowed_by_value refine refine_by_value some_pair some_range without is_kept cell_entry started with_entry narrowed_at refined form_of called restored saved transferred access_of reads_of writes_of address_of callee_at word_of_place words_in reads_undefined touches_reserved branch_way falls fuel_at state_at visits_at weight_to
 echo_1_3_lasts = record { edges = (λ start others s o. let c0 = s 16 (range (pos 1) (pos 1000) 0) refl in omega (arith, ints), (λ start others s o. let c0 = s 16 (range (pos 1) (pos 1000) 0) refl in omega (arith, ints), tt)); end = λ e start s. let c0 = s 16 (range (pos 1) (pos 1000) 0) refl in omega (arith, ints); entry = λ e start s. let c0 = s 16 (range (pos 1) (pos 1000) 0) refl in omega (arith, ints); terms = refl }
 
-echo_2_0_quiet : quiet_below echo 0 2 0 20 ≡ true
+echo_2_0_quiet : quiet_below echo 0 2 0 21 ≡ true
 unfolding quiet_below form_value outcome meaning is_admitted operation_of add_term add_terms range_add range_or range_sub range_of row_of both_of common narrowed narrowed_by_value refine refine_by_value some_pair some_range without is_kept cell_entry started with_entry narrowed_at refined form_of called restored saved transferred access_of reads_of writes_of address_of callee_at word_of_place words_in reads_undefined touches_reserved branch_way falls fuel_at state_at visits_at weight_to
 echo_2_0_quiet = refl
 
@@ -104,7 +105,7 @@ echo_2_0_lasts : Lasts echo 0 2 0
 unfolding form_value outcome meaning is_admitted operation_of add_term add_terms range_add range_or range_sub range_of row_of both_of common narrowed narrowed_by_value refine refine_by_value some_pair some_range without is_kept cell_entry started with_entry narrowed_at refined form_of called restored saved transferred access_of reads_of writes_of address_of callee_at word_of_place words_in reads_undefined touches_reserved branch_way falls fuel_at state_at visits_at weight_to
 echo_2_0_lasts = record { edges = (tt, tt); end = λ e start s. let c0 = s 16 (range (pos 1) (pos 1000) 0) refl in omega (arith, ints); entry = λ e start s. let c0 = s 16 (range (pos 1) (pos 1000) 0) refl in omega (arith, ints); terms = refl }
 
-echo_2_1_quiet : quiet_below echo 0 2 1 20 ≡ true
+echo_2_1_quiet : quiet_below echo 0 2 1 21 ≡ true
 unfolding quiet_below form_value outcome meaning is_admitted operation_of add_term add_terms range_add range_or range_sub range_of row_of both_of common narrowed narrowed_by_value refine refine_by_value some_pair some_range without is_kept cell_entry started with_entry narrowed_at refined form_of called restored saved transferred access_of reads_of writes_of address_of callee_at word_of_place words_in reads_undefined touches_reserved branch_way falls fuel_at state_at visits_at weight_to
 echo_2_1_quiet = refl
 
@@ -112,7 +113,7 @@ echo_2_1_lasts : Lasts echo 0 2 1
 unfolding form_value outcome meaning is_admitted operation_of add_term add_terms range_add range_or range_sub range_of row_of both_of common narrowed narrowed_by_value refine refine_by_value some_pair some_range without is_kept cell_entry started with_entry narrowed_at refined form_of called restored saved transferred access_of reads_of writes_of address_of callee_at word_of_place words_in reads_undefined touches_reserved branch_way falls fuel_at state_at visits_at weight_to
 echo_2_1_lasts = record { edges = (tt, tt); end = λ e start s. let c0 = s 16 (range (pos 1) (pos 1000) 0) refl in omega (arith, ints); entry = λ e start s. let c0 = s 16 (range (pos 1) (pos 1000) 0) refl in omega (arith, ints); terms = refl }
 
-echo_2_2_quiet : quiet_below echo 0 2 2 20 ≡ true
+echo_2_2_quiet : quiet_below echo 0 2 2 21 ≡ true
 unfolding quiet_below form_value outcome meaning is_admitted operation_of add_term add_terms range_add range_or range_sub range_of row_of both_of common narrowed narrowed_by_value refine refine_by_value some_pair some_range without is_kept cell_entry started with_entry narrowed_at refined form_of called restored saved transferred access_of reads_of writes_of address_of callee_at word_of_place words_in reads_undefined touches_reserved branch_way falls fuel_at state_at visits_at weight_to
 echo_2_2_quiet = refl
 
@@ -120,7 +121,7 @@ echo_2_2_lasts : Lasts echo 0 2 2
 unfolding form_value outcome meaning is_admitted operation_of add_term add_terms range_add range_or range_sub range_of row_of both_of common narrowed narrowed_by_value refine refine_by_value some_pair some_range without is_kept cell_entry started with_entry narrowed_at refined form_of called restored saved transferred access_of reads_of writes_of address_of callee_at word_of_place words_in reads_undefined touches_reserved branch_way falls fuel_at state_at visits_at weight_to
 echo_2_2_lasts = record { edges = (tt, tt); end = λ e start s. let c0 = s 16 (range (pos 1) (pos 1000) 0) refl in omega (arith, ints); entry = λ e start s. let c0 = s 16 (range (pos 1) (pos 1000) 0) refl in omega (arith, ints); terms = refl }
 
-echo_2_3_quiet : quiet_below echo 0 2 3 20 ≡ true
+echo_2_3_quiet : quiet_below echo 0 2 3 21 ≡ true
 unfolding quiet_below form_value outcome meaning is_admitted operation_of add_term add_terms range_add range_or range_sub range_of row_of both_of common narrowed narrowed_by_value refine refine_by_value some_pair some_range without is_kept cell_entry started with_entry narrowed_at refined form_of called restored saved transferred access_of reads_of writes_of address_of callee_at word_of_place words_in reads_undefined touches_reserved branch_way falls fuel_at state_at visits_at weight_to
 echo_2_3_quiet = refl
 
@@ -128,7 +129,7 @@ echo_2_3_lasts : Lasts echo 0 2 3
 unfolding form_value outcome meaning is_admitted operation_of add_term add_terms range_add range_or range_sub range_of row_of both_of common narrowed narrowed_by_value refine refine_by_value some_pair some_range without is_kept cell_entry started with_entry narrowed_at refined form_of called restored saved transferred access_of reads_of writes_of address_of callee_at word_of_place words_in reads_undefined touches_reserved branch_way falls fuel_at state_at visits_at weight_to
 echo_2_3_lasts = record { edges = (λ start others s o. let c0 = s 16 (range (pos 1) (pos 1000) 0) refl in omega (arith, ints), (λ start others s o. let c0 = s 16 (range (pos 1) (pos 1000) 0) refl in omega (arith, ints), tt)); end = λ e start s. let c0 = s 16 (range (pos 1) (pos 1000) 0) refl in omega (arith, ints); entry = λ e start s. let c0 = s 16 (range (pos 1) (pos 1000) 0) refl in omega (arith, ints); terms = refl }
 
-echo_3_0_quiet : quiet_below echo 0 3 0 20 ≡ true
+echo_3_0_quiet : quiet_below echo 0 3 0 21 ≡ true
 unfolding quiet_below form_value outcome meaning is_admitted operation_of add_term add_terms range_add range_or range_sub range_of row_of both_of common narrowed narrowed_by_value refine refine_by_value some_pair some_range without is_kept cell_entry started with_entry narrowed_at refined form_of called restored saved transferred access_of reads_of writes_of address_of callee_at word_of_place words_in reads_undefined touches_reserved branch_way falls fuel_at state_at visits_at weight_to
 echo_3_0_quiet = refl
 
@@ -136,7 +137,7 @@ echo_3_0_lasts : Lasts echo 0 3 0
 unfolding form_value outcome meaning is_admitted operation_of add_term add_terms range_add range_or range_sub range_of row_of both_of common narrowed narrowed_by_value refine refine_by_value some_pair some_range without is_kept cell_entry started with_entry narrowed_at refined form_of called restored saved transferred access_of reads_of writes_of address_of callee_at word_of_place words_in reads_undefined touches_reserved branch_way falls fuel_at state_at visits_at weight_to
 echo_3_0_lasts = record { edges = (tt, tt); end = λ e start s. omega (arith, ints); entry = λ e start s. omega (arith, ints); terms = refl }
 
-echo_3_1_quiet : quiet_below echo 0 3 1 20 ≡ true
+echo_3_1_quiet : quiet_below echo 0 3 1 21 ≡ true
 unfolding quiet_below form_value outcome meaning is_admitted operation_of add_term add_terms range_add range_or range_sub range_of row_of both_of common narrowed narrowed_by_value refine refine_by_value some_pair some_range without is_kept cell_entry started with_entry narrowed_at refined form_of called restored saved transferred access_of reads_of writes_of address_of callee_at word_of_place words_in reads_undefined touches_reserved branch_way falls fuel_at state_at visits_at weight_to
 echo_3_1_quiet = refl
 
@@ -170,7 +171,7 @@ echo_is_checked = all_checked echo echo_none
 
 -- ---- the call
 
-adding_0_0_quiet : quiet_below (adding (pos 254) (pos 255) 39) 0 0 0 20 ≡ true
+adding_0_0_quiet : quiet_below (adding (pos 254) (pos 255) 39) 0 0 0 21 ≡ true
 unfolding quiet_below form_value outcome meaning is_admitted operation_of add_term add_terms range_add range_or range_sub range_of row_of both_of common narrowed narrowed_by_value refine refine_by_value some_pair some_range without is_kept cell_entry started with_entry narrowed_at refined form_of called restored saved transferred access_of reads_of writes_of address_of callee_at word_of_place words_in reads_undefined touches_reserved branch_way falls fuel_at state_at visits_at weight_to
 adding_0_0_quiet = refl
 
@@ -178,7 +179,7 @@ adding_0_0_lasts : Lasts (adding (pos 254) (pos 255) 39) 0 0 0
 unfolding form_value outcome meaning is_admitted operation_of add_term add_terms range_add range_or range_sub range_of row_of both_of common narrowed narrowed_by_value refine refine_by_value some_pair some_range without is_kept cell_entry started with_entry narrowed_at refined form_of called restored saved transferred access_of reads_of writes_of address_of callee_at word_of_place words_in reads_undefined touches_reserved branch_way falls fuel_at state_at visits_at weight_to
 adding_0_0_lasts = record { edges = (tt, tt); end = λ e start s. omega (arith, ints); entry = λ e start s. omega (arith, ints); terms = refl }
 
-adding_0_1_quiet : quiet_below (adding (pos 254) (pos 255) 39) 0 0 1 20 ≡ true
+adding_0_1_quiet : quiet_below (adding (pos 254) (pos 255) 39) 0 0 1 21 ≡ true
 unfolding quiet_below form_value outcome meaning is_admitted operation_of add_term add_terms range_add range_or range_sub range_of row_of both_of common narrowed narrowed_by_value refine refine_by_value some_pair some_range without is_kept cell_entry started with_entry narrowed_at refined form_of called restored saved transferred access_of reads_of writes_of address_of callee_at word_of_place words_in reads_undefined touches_reserved branch_way falls fuel_at state_at visits_at weight_to
 adding_0_1_quiet = refl
 
@@ -186,7 +187,7 @@ adding_0_1_lasts : Lasts (adding (pos 254) (pos 255) 39) 0 0 1
 unfolding form_value outcome meaning is_admitted operation_of add_term add_terms range_add range_or range_sub range_of row_of both_of common narrowed narrowed_by_value refine refine_by_value some_pair some_range without is_kept cell_entry started with_entry narrowed_at refined form_of called restored saved transferred access_of reads_of writes_of address_of callee_at word_of_place words_in reads_undefined touches_reserved branch_way falls fuel_at state_at visits_at weight_to
 adding_0_1_lasts = record { edges = (tt, tt); end = λ e start s. omega (arith, ints); entry = λ e start s. omega (arith, ints); terms = refl }
 
-adding_0_2_quiet : quiet_below (adding (pos 254) (pos 255) 39) 0 0 2 20 ≡ true
+adding_0_2_quiet : quiet_below (adding (pos 254) (pos 255) 39) 0 0 2 21 ≡ true
 unfolding quiet_below form_value outcome meaning is_admitted operation_of add_term add_terms range_add range_or range_sub range_of row_of both_of common narrowed narrowed_by_value refine refine_by_value some_pair some_range without is_kept cell_entry started with_entry narrowed_at refined form_of called restored saved transferred access_of reads_of writes_of address_of callee_at word_of_place words_in reads_undefined touches_reserved branch_way falls fuel_at state_at visits_at weight_to
 adding_0_2_quiet = refl
 
@@ -194,7 +195,7 @@ adding_0_2_lasts : Lasts (adding (pos 254) (pos 255) 39) 0 0 2
 unfolding form_value outcome meaning is_admitted operation_of add_term add_terms range_add range_or range_sub range_of row_of both_of common narrowed narrowed_by_value refine refine_by_value some_pair some_range without is_kept cell_entry started with_entry narrowed_at refined form_of called restored saved transferred access_of reads_of writes_of address_of callee_at word_of_place words_in reads_undefined touches_reserved branch_way falls fuel_at state_at visits_at weight_to
 adding_0_2_lasts = record { edges = (tt, tt); end = λ e start s. omega (arith, ints); entry = λ e start s. omega (arith, ints); terms = refl }
 
-adding_0_3_quiet : quiet_below (adding (pos 254) (pos 255) 39) 0 0 3 20 ≡ true
+adding_0_3_quiet : quiet_below (adding (pos 254) (pos 255) 39) 0 0 3 21 ≡ true
 unfolding quiet_below form_value outcome meaning is_admitted operation_of add_term add_terms range_add range_or range_sub range_of row_of both_of common narrowed narrowed_by_value refine refine_by_value some_pair some_range without is_kept cell_entry started with_entry narrowed_at refined form_of called restored saved transferred access_of reads_of writes_of address_of callee_at word_of_place words_in reads_undefined touches_reserved branch_way falls fuel_at state_at visits_at weight_to
 adding_0_3_quiet = refl
 
@@ -202,7 +203,7 @@ adding_0_3_lasts : Lasts (adding (pos 254) (pos 255) 39) 0 0 3
 unfolding form_value outcome meaning is_admitted operation_of add_term add_terms range_add range_or range_sub range_of row_of both_of common narrowed narrowed_by_value refine refine_by_value some_pair some_range without is_kept cell_entry started with_entry narrowed_at refined form_of called restored saved transferred access_of reads_of writes_of address_of callee_at word_of_place words_in reads_undefined touches_reserved branch_way falls fuel_at state_at visits_at weight_to
 adding_0_3_lasts = record { edges = (tt, tt); end = λ e start s. omega (arith, ints); entry = λ e start s. omega (arith, ints); terms = refl }
 
-adding_0_4_quiet : quiet_below (adding (pos 254) (pos 255) 39) 0 0 4 20 ≡ true
+adding_0_4_quiet : quiet_below (adding (pos 254) (pos 255) 39) 0 0 4 21 ≡ true
 unfolding quiet_below form_value outcome meaning is_admitted operation_of add_term add_terms range_add range_or range_sub range_of row_of both_of common narrowed narrowed_by_value refine refine_by_value some_pair some_range without is_kept cell_entry started with_entry narrowed_at refined form_of called restored saved transferred access_of reads_of writes_of address_of callee_at word_of_place words_in reads_undefined touches_reserved branch_way falls fuel_at state_at visits_at weight_to
 adding_0_4_quiet = refl
 
@@ -210,7 +211,7 @@ adding_0_4_lasts : Lasts (adding (pos 254) (pos 255) 39) 0 0 4
 unfolding form_value outcome meaning is_admitted operation_of add_term add_terms range_add range_or range_sub range_of row_of both_of common narrowed narrowed_by_value refine refine_by_value some_pair some_range without is_kept cell_entry started with_entry narrowed_at refined form_of called restored saved transferred access_of reads_of writes_of address_of callee_at word_of_place words_in reads_undefined touches_reserved branch_way falls fuel_at state_at visits_at weight_to
 adding_0_4_lasts = record { edges = (tt, tt); end = λ e start s. omega (arith, ints); entry = λ e start s. omega (arith, ints); terms = refl }
 
-adding_0_5_quiet : quiet_below (adding (pos 254) (pos 255) 39) 0 0 5 20 ≡ true
+adding_0_5_quiet : quiet_below (adding (pos 254) (pos 255) 39) 0 0 5 21 ≡ true
 unfolding quiet_below form_value outcome meaning is_admitted operation_of add_term add_terms range_add range_or range_sub range_of row_of both_of common narrowed narrowed_by_value refine refine_by_value some_pair some_range without is_kept cell_entry started with_entry narrowed_at refined form_of called restored saved transferred access_of reads_of writes_of address_of callee_at word_of_place words_in reads_undefined touches_reserved branch_way falls fuel_at state_at visits_at weight_to
 adding_0_5_quiet = refl
 
@@ -218,7 +219,7 @@ adding_0_5_lasts : Lasts (adding (pos 254) (pos 255) 39) 0 0 5
 unfolding form_value outcome meaning is_admitted operation_of add_term add_terms range_add range_or range_sub range_of row_of both_of common narrowed narrowed_by_value refine refine_by_value some_pair some_range without is_kept cell_entry started with_entry narrowed_at refined form_of called restored saved transferred access_of reads_of writes_of address_of callee_at word_of_place words_in reads_undefined touches_reserved branch_way falls fuel_at state_at visits_at weight_to
 adding_0_5_lasts = record { edges = (tt, tt); end = λ e start s. omega (arith, ints); entry = λ e start s. omega (arith, ints); terms = refl }
 
-adding_0_6_quiet : quiet_below (adding (pos 254) (pos 255) 39) 0 0 6 20 ≡ true
+adding_0_6_quiet : quiet_below (adding (pos 254) (pos 255) 39) 0 0 6 21 ≡ true
 unfolding quiet_below form_value outcome meaning is_admitted operation_of add_term add_terms range_add range_or range_sub range_of row_of both_of common narrowed narrowed_by_value refine refine_by_value some_pair some_range without is_kept cell_entry started with_entry narrowed_at refined form_of called restored saved transferred access_of reads_of writes_of address_of callee_at word_of_place words_in reads_undefined touches_reserved branch_way falls fuel_at state_at visits_at weight_to
 adding_0_6_quiet = refl
 
@@ -226,7 +227,7 @@ adding_0_6_lasts : Lasts (adding (pos 254) (pos 255) 39) 0 0 6
 unfolding form_value outcome meaning is_admitted operation_of add_term add_terms range_add range_or range_sub range_of row_of both_of common narrowed narrowed_by_value refine refine_by_value some_pair some_range without is_kept cell_entry started with_entry narrowed_at refined form_of called restored saved transferred access_of reads_of writes_of address_of callee_at word_of_place words_in reads_undefined touches_reserved branch_way falls fuel_at state_at visits_at weight_to
 adding_0_6_lasts = record { edges = (tt, tt); end = λ e start s. omega (arith, ints); entry = λ e start s. omega (arith, ints); terms = refl }
 
-adding_1_0_quiet : quiet_below (adding (pos 254) (pos 255) 39) 1 0 0 20 ≡ true
+adding_1_0_quiet : quiet_below (adding (pos 254) (pos 255) 39) 1 0 0 21 ≡ true
 unfolding quiet_below form_value outcome meaning is_admitted operation_of add_term add_terms range_add range_or range_sub range_of row_of both_of common narrowed narrowed_by_value refine refine_by_value some_pair some_range without is_kept cell_entry started with_entry narrowed_at refined form_of called restored saved transferred access_of reads_of writes_of address_of callee_at word_of_place words_in reads_undefined touches_reserved branch_way falls fuel_at state_at visits_at weight_to
 adding_1_0_quiet = refl
 
@@ -234,7 +235,7 @@ adding_1_0_lasts : Lasts (adding (pos 254) (pos 255) 39) 1 0 0
 unfolding form_value outcome meaning is_admitted operation_of add_term add_terms range_add range_or range_sub range_of row_of both_of common narrowed narrowed_by_value refine refine_by_value some_pair some_range without is_kept cell_entry started with_entry narrowed_at refined form_of called restored saved transferred access_of reads_of writes_of address_of callee_at word_of_place words_in reads_undefined touches_reserved branch_way falls fuel_at state_at visits_at weight_to
 adding_1_0_lasts = record { edges = (tt, tt); end = λ e start s. let c0 = s 8 (range (pos 0) (pos 254) 0) refl in omega (arith, ints); entry = λ e start s. let c0 = s 8 (range (pos 0) (pos 254) 0) refl in omega (arith, ints); terms = refl }
 
-adding_1_1_quiet : quiet_below (adding (pos 254) (pos 255) 39) 1 0 1 20 ≡ true
+adding_1_1_quiet : quiet_below (adding (pos 254) (pos 255) 39) 1 0 1 21 ≡ true
 unfolding quiet_below form_value outcome meaning is_admitted operation_of add_term add_terms range_add range_or range_sub range_of row_of both_of common narrowed narrowed_by_value refine refine_by_value some_pair some_range without is_kept cell_entry started with_entry narrowed_at refined form_of called restored saved transferred access_of reads_of writes_of address_of callee_at word_of_place words_in reads_undefined touches_reserved branch_way falls fuel_at state_at visits_at weight_to
 adding_1_1_quiet = refl
 
@@ -264,7 +265,7 @@ adding_is_checked = all_checked (adding (pos 254) (pos 255) 39) adding_none
 
 -- ---- refusals
 
-short_of_fuel_0_0_quiet : quiet_below (adding (pos 254) (pos 255) 38) 0 0 0 20 ≡ true
+short_of_fuel_0_0_quiet : quiet_below (adding (pos 254) (pos 255) 38) 0 0 0 21 ≡ true
 unfolding quiet_below form_value outcome meaning is_admitted operation_of add_term add_terms range_add range_or range_sub range_of row_of both_of common narrowed narrowed_by_value refine refine_by_value some_pair some_range without is_kept cell_entry started with_entry narrowed_at refined form_of called restored saved transferred access_of reads_of writes_of address_of callee_at word_of_place words_in reads_undefined touches_reserved branch_way falls fuel_at state_at visits_at weight_to
 short_of_fuel_0_0_quiet = refl
 
@@ -272,7 +273,7 @@ short_of_fuel_0_0_lasts : Lasts (adding (pos 254) (pos 255) 38) 0 0 0
 unfolding form_value outcome meaning is_admitted operation_of add_term add_terms range_add range_or range_sub range_of row_of both_of common narrowed narrowed_by_value refine refine_by_value some_pair some_range without is_kept cell_entry started with_entry narrowed_at refined form_of called restored saved transferred access_of reads_of writes_of address_of callee_at word_of_place words_in reads_undefined touches_reserved branch_way falls fuel_at state_at visits_at weight_to
 short_of_fuel_0_0_lasts = record { edges = (tt, tt); end = λ e start s. omega (arith, ints); entry = λ e start s. omega (arith, ints); terms = refl }
 
-short_of_fuel_0_1_quiet : quiet_below (adding (pos 254) (pos 255) 38) 0 0 1 20 ≡ true
+short_of_fuel_0_1_quiet : quiet_below (adding (pos 254) (pos 255) 38) 0 0 1 21 ≡ true
 unfolding quiet_below form_value outcome meaning is_admitted operation_of add_term add_terms range_add range_or range_sub range_of row_of both_of common narrowed narrowed_by_value refine refine_by_value some_pair some_range without is_kept cell_entry started with_entry narrowed_at refined form_of called restored saved transferred access_of reads_of writes_of address_of callee_at word_of_place words_in reads_undefined touches_reserved branch_way falls fuel_at state_at visits_at weight_to
 short_of_fuel_0_1_quiet = refl
 
@@ -280,7 +281,7 @@ short_of_fuel_0_1_lasts : Lasts (adding (pos 254) (pos 255) 38) 0 0 1
 unfolding form_value outcome meaning is_admitted operation_of add_term add_terms range_add range_or range_sub range_of row_of both_of common narrowed narrowed_by_value refine refine_by_value some_pair some_range without is_kept cell_entry started with_entry narrowed_at refined form_of called restored saved transferred access_of reads_of writes_of address_of callee_at word_of_place words_in reads_undefined touches_reserved branch_way falls fuel_at state_at visits_at weight_to
 short_of_fuel_0_1_lasts = record { edges = (tt, tt); end = λ e start s. omega (arith, ints); entry = λ e start s. omega (arith, ints); terms = refl }
 
-short_of_fuel_0_2_quiet : quiet_below (adding (pos 254) (pos 255) 38) 0 0 2 20 ≡ true
+short_of_fuel_0_2_quiet : quiet_below (adding (pos 254) (pos 255) 38) 0 0 2 21 ≡ true
 unfolding quiet_below form_value outcome meaning is_admitted operation_of add_term add_terms range_add range_or range_sub range_of row_of both_of common narrowed narrowed_by_value refine refine_by_value some_pair some_range without is_kept cell_entry started with_entry narrowed_at refined form_of called restored saved transferred access_of reads_of writes_of address_of callee_at word_of_place words_in reads_undefined touches_reserved branch_way falls fuel_at state_at visits_at weight_to
 short_of_fuel_0_2_quiet = refl
 
@@ -288,7 +289,7 @@ short_of_fuel_0_2_lasts : Lasts (adding (pos 254) (pos 255) 38) 0 0 2
 unfolding form_value outcome meaning is_admitted operation_of add_term add_terms range_add range_or range_sub range_of row_of both_of common narrowed narrowed_by_value refine refine_by_value some_pair some_range without is_kept cell_entry started with_entry narrowed_at refined form_of called restored saved transferred access_of reads_of writes_of address_of callee_at word_of_place words_in reads_undefined touches_reserved branch_way falls fuel_at state_at visits_at weight_to
 short_of_fuel_0_2_lasts = record { edges = (tt, tt); end = λ e start s. omega (arith, ints); entry = λ e start s. omega (arith, ints); terms = refl }
 
-short_of_fuel_0_3_quiet : quiet_below (adding (pos 254) (pos 255) 38) 0 0 3 20 ≡ true
+short_of_fuel_0_3_quiet : quiet_below (adding (pos 254) (pos 255) 38) 0 0 3 21 ≡ true
 unfolding quiet_below form_value outcome meaning is_admitted operation_of add_term add_terms range_add range_or range_sub range_of row_of both_of common narrowed narrowed_by_value refine refine_by_value some_pair some_range without is_kept cell_entry started with_entry narrowed_at refined form_of called restored saved transferred access_of reads_of writes_of address_of callee_at word_of_place words_in reads_undefined touches_reserved branch_way falls fuel_at state_at visits_at weight_to
 short_of_fuel_0_3_quiet = refl
 
@@ -296,7 +297,7 @@ short_of_fuel_0_3_lasts : Lasts (adding (pos 254) (pos 255) 38) 0 0 3
 unfolding form_value outcome meaning is_admitted operation_of add_term add_terms range_add range_or range_sub range_of row_of both_of common narrowed narrowed_by_value refine refine_by_value some_pair some_range without is_kept cell_entry started with_entry narrowed_at refined form_of called restored saved transferred access_of reads_of writes_of address_of callee_at word_of_place words_in reads_undefined touches_reserved branch_way falls fuel_at state_at visits_at weight_to
 short_of_fuel_0_3_lasts = record { edges = (tt, tt); end = λ e start s. omega (arith, ints); entry = λ e start s. omega (arith, ints); terms = refl }
 
-short_of_fuel_0_4_quiet : quiet_below (adding (pos 254) (pos 255) 38) 0 0 4 20 ≡ true
+short_of_fuel_0_4_quiet : quiet_below (adding (pos 254) (pos 255) 38) 0 0 4 21 ≡ true
 unfolding quiet_below form_value outcome meaning is_admitted operation_of add_term add_terms range_add range_or range_sub range_of row_of both_of common narrowed narrowed_by_value refine refine_by_value some_pair some_range without is_kept cell_entry started with_entry narrowed_at refined form_of called restored saved transferred access_of reads_of writes_of address_of callee_at word_of_place words_in reads_undefined touches_reserved branch_way falls fuel_at state_at visits_at weight_to
 short_of_fuel_0_4_quiet = refl
 
@@ -304,7 +305,7 @@ short_of_fuel_0_4_lasts : Lasts (adding (pos 254) (pos 255) 38) 0 0 4
 unfolding form_value outcome meaning is_admitted operation_of add_term add_terms range_add range_or range_sub range_of row_of both_of common narrowed narrowed_by_value refine refine_by_value some_pair some_range without is_kept cell_entry started with_entry narrowed_at refined form_of called restored saved transferred access_of reads_of writes_of address_of callee_at word_of_place words_in reads_undefined touches_reserved branch_way falls fuel_at state_at visits_at weight_to
 short_of_fuel_0_4_lasts = record { edges = (tt, tt); end = λ e start s. omega (arith, ints); entry = λ e start s. omega (arith, ints); terms = refl }
 
-short_of_fuel_0_5_quiet : quiet_below (adding (pos 254) (pos 255) 38) 0 0 5 20 ≡ true
+short_of_fuel_0_5_quiet : quiet_below (adding (pos 254) (pos 255) 38) 0 0 5 21 ≡ true
 unfolding quiet_below form_value outcome meaning is_admitted operation_of add_term add_terms range_add range_or range_sub range_of row_of both_of common narrowed narrowed_by_value refine refine_by_value some_pair some_range without is_kept cell_entry started with_entry narrowed_at refined form_of called restored saved transferred access_of reads_of writes_of address_of callee_at word_of_place words_in reads_undefined touches_reserved branch_way falls fuel_at state_at visits_at weight_to
 short_of_fuel_0_5_quiet = refl
 
@@ -358,7 +359,7 @@ pub short_of_fuel : IsFirst (adding (pos 254) (pos 255) 38) (refusal 0 0x40018 O
 unfolding words_in address_of
 short_of_fuel = told_first (adding (pos 254) (pos 255) 38) (refusal 0 0x40018 OutOfFuel) 0 6 (record { function = omega arith; block = omega arith; word = omega arith }) refl short_of_fuel_holds short_of_fuel_before short_of_fuel_here
 
-param_unkept_0_0_quiet : quiet_below (adding (pos 31) (pos 255) 39) 0 0 0 20 ≡ true
+param_unkept_0_0_quiet : quiet_below (adding (pos 31) (pos 255) 39) 0 0 0 21 ≡ true
 unfolding quiet_below form_value outcome meaning is_admitted operation_of add_term add_terms range_add range_or range_sub range_of row_of both_of common narrowed narrowed_by_value refine refine_by_value some_pair some_range without is_kept cell_entry started with_entry narrowed_at refined form_of called restored saved transferred access_of reads_of writes_of address_of callee_at word_of_place words_in reads_undefined touches_reserved branch_way falls fuel_at state_at visits_at weight_to
 param_unkept_0_0_quiet = refl
 
@@ -366,7 +367,7 @@ param_unkept_0_0_lasts : Lasts (adding (pos 31) (pos 255) 39) 0 0 0
 unfolding form_value outcome meaning is_admitted operation_of add_term add_terms range_add range_or range_sub range_of row_of both_of common narrowed narrowed_by_value refine refine_by_value some_pair some_range without is_kept cell_entry started with_entry narrowed_at refined form_of called restored saved transferred access_of reads_of writes_of address_of callee_at word_of_place words_in reads_undefined touches_reserved branch_way falls fuel_at state_at visits_at weight_to
 param_unkept_0_0_lasts = record { edges = (tt, tt); end = λ e start s. omega (arith, ints); entry = λ e start s. omega (arith, ints); terms = refl }
 
-param_unkept_0_1_quiet : quiet_below (adding (pos 31) (pos 255) 39) 0 0 1 20 ≡ true
+param_unkept_0_1_quiet : quiet_below (adding (pos 31) (pos 255) 39) 0 0 1 21 ≡ true
 unfolding quiet_below form_value outcome meaning is_admitted operation_of add_term add_terms range_add range_or range_sub range_of row_of both_of common narrowed narrowed_by_value refine refine_by_value some_pair some_range without is_kept cell_entry started with_entry narrowed_at refined form_of called restored saved transferred access_of reads_of writes_of address_of callee_at word_of_place words_in reads_undefined touches_reserved branch_way falls fuel_at state_at visits_at weight_to
 param_unkept_0_1_quiet = refl
 
@@ -374,7 +375,7 @@ param_unkept_0_1_lasts : Lasts (adding (pos 31) (pos 255) 39) 0 0 1
 unfolding form_value outcome meaning is_admitted operation_of add_term add_terms range_add range_or range_sub range_of row_of both_of common narrowed narrowed_by_value refine refine_by_value some_pair some_range without is_kept cell_entry started with_entry narrowed_at refined form_of called restored saved transferred access_of reads_of writes_of address_of callee_at word_of_place words_in reads_undefined touches_reserved branch_way falls fuel_at state_at visits_at weight_to
 param_unkept_0_1_lasts = record { edges = (tt, tt); end = λ e start s. omega (arith, ints); entry = λ e start s. omega (arith, ints); terms = refl }
 
-param_unkept_0_2_quiet : quiet_below (adding (pos 31) (pos 255) 39) 0 0 2 20 ≡ true
+param_unkept_0_2_quiet : quiet_below (adding (pos 31) (pos 255) 39) 0 0 2 21 ≡ true
 unfolding quiet_below form_value outcome meaning is_admitted operation_of add_term add_terms range_add range_or range_sub range_of row_of both_of common narrowed narrowed_by_value refine refine_by_value some_pair some_range without is_kept cell_entry started with_entry narrowed_at refined form_of called restored saved transferred access_of reads_of writes_of address_of callee_at word_of_place words_in reads_undefined touches_reserved branch_way falls fuel_at state_at visits_at weight_to
 param_unkept_0_2_quiet = refl
 
@@ -428,7 +429,7 @@ pub param_unkept : IsFirst (adding (pos 31) (pos 255) 39) (refusal 0 0x4000C Unk
 unfolding words_in address_of
 param_unkept = told_first (adding (pos 31) (pos 255) 39) (refusal 0 0x4000C UnkeptCells) 0 3 (record { function = omega arith; block = omega arith; word = omega arith }) refl param_unkept_holds param_unkept_before param_unkept_here
 
-result_unkept_0_0_quiet : quiet_below (adding (pos 254) (pos 254) 39) 0 0 0 20 ≡ true
+result_unkept_0_0_quiet : quiet_below (adding (pos 254) (pos 254) 39) 0 0 0 21 ≡ true
 unfolding quiet_below form_value outcome meaning is_admitted operation_of add_term add_terms range_add range_or range_sub range_of row_of both_of common narrowed narrowed_by_value refine refine_by_value some_pair some_range without is_kept cell_entry started with_entry narrowed_at refined form_of called restored saved transferred access_of reads_of writes_of address_of callee_at word_of_place words_in reads_undefined touches_reserved branch_way falls fuel_at state_at visits_at weight_to
 result_unkept_0_0_quiet = refl
 
@@ -436,7 +437,7 @@ result_unkept_0_0_lasts : Lasts (adding (pos 254) (pos 254) 39) 0 0 0
 unfolding form_value outcome meaning is_admitted operation_of add_term add_terms range_add range_or range_sub range_of row_of both_of common narrowed narrowed_by_value refine refine_by_value some_pair some_range without is_kept cell_entry started with_entry narrowed_at refined form_of called restored saved transferred access_of reads_of writes_of address_of callee_at word_of_place words_in reads_undefined touches_reserved branch_way falls fuel_at state_at visits_at weight_to
 result_unkept_0_0_lasts = record { edges = (tt, tt); end = λ e start s. omega (arith, ints); entry = λ e start s. omega (arith, ints); terms = refl }
 
-result_unkept_0_1_quiet : quiet_below (adding (pos 254) (pos 254) 39) 0 0 1 20 ≡ true
+result_unkept_0_1_quiet : quiet_below (adding (pos 254) (pos 254) 39) 0 0 1 21 ≡ true
 unfolding quiet_below form_value outcome meaning is_admitted operation_of add_term add_terms range_add range_or range_sub range_of row_of both_of common narrowed narrowed_by_value refine refine_by_value some_pair some_range without is_kept cell_entry started with_entry narrowed_at refined form_of called restored saved transferred access_of reads_of writes_of address_of callee_at word_of_place words_in reads_undefined touches_reserved branch_way falls fuel_at state_at visits_at weight_to
 result_unkept_0_1_quiet = refl
 
@@ -444,7 +445,7 @@ result_unkept_0_1_lasts : Lasts (adding (pos 254) (pos 254) 39) 0 0 1
 unfolding form_value outcome meaning is_admitted operation_of add_term add_terms range_add range_or range_sub range_of row_of both_of common narrowed narrowed_by_value refine refine_by_value some_pair some_range without is_kept cell_entry started with_entry narrowed_at refined form_of called restored saved transferred access_of reads_of writes_of address_of callee_at word_of_place words_in reads_undefined touches_reserved branch_way falls fuel_at state_at visits_at weight_to
 result_unkept_0_1_lasts = record { edges = (tt, tt); end = λ e start s. omega (arith, ints); entry = λ e start s. omega (arith, ints); terms = refl }
 
-result_unkept_0_2_quiet : quiet_below (adding (pos 254) (pos 254) 39) 0 0 2 20 ≡ true
+result_unkept_0_2_quiet : quiet_below (adding (pos 254) (pos 254) 39) 0 0 2 21 ≡ true
 unfolding quiet_below form_value outcome meaning is_admitted operation_of add_term add_terms range_add range_or range_sub range_of row_of both_of common narrowed narrowed_by_value refine refine_by_value some_pair some_range without is_kept cell_entry started with_entry narrowed_at refined form_of called restored saved transferred access_of reads_of writes_of address_of callee_at word_of_place words_in reads_undefined touches_reserved branch_way falls fuel_at state_at visits_at weight_to
 result_unkept_0_2_quiet = refl
 
@@ -452,7 +453,7 @@ result_unkept_0_2_lasts : Lasts (adding (pos 254) (pos 254) 39) 0 0 2
 unfolding form_value outcome meaning is_admitted operation_of add_term add_terms range_add range_or range_sub range_of row_of both_of common narrowed narrowed_by_value refine refine_by_value some_pair some_range without is_kept cell_entry started with_entry narrowed_at refined form_of called restored saved transferred access_of reads_of writes_of address_of callee_at word_of_place words_in reads_undefined touches_reserved branch_way falls fuel_at state_at visits_at weight_to
 result_unkept_0_2_lasts = record { edges = (tt, tt); end = λ e start s. omega (arith, ints); entry = λ e start s. omega (arith, ints); terms = refl }
 
-result_unkept_0_3_quiet : quiet_below (adding (pos 254) (pos 254) 39) 0 0 3 20 ≡ true
+result_unkept_0_3_quiet : quiet_below (adding (pos 254) (pos 254) 39) 0 0 3 21 ≡ true
 unfolding quiet_below form_value outcome meaning is_admitted operation_of add_term add_terms range_add range_or range_sub range_of row_of both_of common narrowed narrowed_by_value refine refine_by_value some_pair some_range without is_kept cell_entry started with_entry narrowed_at refined form_of called restored saved transferred access_of reads_of writes_of address_of callee_at word_of_place words_in reads_undefined touches_reserved branch_way falls fuel_at state_at visits_at weight_to
 result_unkept_0_3_quiet = refl
 
@@ -460,7 +461,7 @@ result_unkept_0_3_lasts : Lasts (adding (pos 254) (pos 254) 39) 0 0 3
 unfolding form_value outcome meaning is_admitted operation_of add_term add_terms range_add range_or range_sub range_of row_of both_of common narrowed narrowed_by_value refine refine_by_value some_pair some_range without is_kept cell_entry started with_entry narrowed_at refined form_of called restored saved transferred access_of reads_of writes_of address_of callee_at word_of_place words_in reads_undefined touches_reserved branch_way falls fuel_at state_at visits_at weight_to
 result_unkept_0_3_lasts = record { edges = (tt, tt); end = λ e start s. omega (arith, ints); entry = λ e start s. omega (arith, ints); terms = refl }
 
-result_unkept_0_4_quiet : quiet_below (adding (pos 254) (pos 254) 39) 0 0 4 20 ≡ true
+result_unkept_0_4_quiet : quiet_below (adding (pos 254) (pos 254) 39) 0 0 4 21 ≡ true
 unfolding quiet_below form_value outcome meaning is_admitted operation_of add_term add_terms range_add range_or range_sub range_of row_of both_of common narrowed narrowed_by_value refine refine_by_value some_pair some_range without is_kept cell_entry started with_entry narrowed_at refined form_of called restored saved transferred access_of reads_of writes_of address_of callee_at word_of_place words_in reads_undefined touches_reserved branch_way falls fuel_at state_at visits_at weight_to
 result_unkept_0_4_quiet = refl
 
@@ -468,7 +469,7 @@ result_unkept_0_4_lasts : Lasts (adding (pos 254) (pos 254) 39) 0 0 4
 unfolding form_value outcome meaning is_admitted operation_of add_term add_terms range_add range_or range_sub range_of row_of both_of common narrowed narrowed_by_value refine refine_by_value some_pair some_range without is_kept cell_entry started with_entry narrowed_at refined form_of called restored saved transferred access_of reads_of writes_of address_of callee_at word_of_place words_in reads_undefined touches_reserved branch_way falls fuel_at state_at visits_at weight_to
 result_unkept_0_4_lasts = record { edges = (tt, tt); end = λ e start s. omega (arith, ints); entry = λ e start s. omega (arith, ints); terms = refl }
 
-result_unkept_0_5_quiet : quiet_below (adding (pos 254) (pos 254) 39) 0 0 5 20 ≡ true
+result_unkept_0_5_quiet : quiet_below (adding (pos 254) (pos 254) 39) 0 0 5 21 ≡ true
 unfolding quiet_below form_value outcome meaning is_admitted operation_of add_term add_terms range_add range_or range_sub range_of row_of both_of common narrowed narrowed_by_value refine refine_by_value some_pair some_range without is_kept cell_entry started with_entry narrowed_at refined form_of called restored saved transferred access_of reads_of writes_of address_of callee_at word_of_place words_in reads_undefined touches_reserved branch_way falls fuel_at state_at visits_at weight_to
 result_unkept_0_5_quiet = refl
 
@@ -476,7 +477,7 @@ result_unkept_0_5_lasts : Lasts (adding (pos 254) (pos 254) 39) 0 0 5
 unfolding form_value outcome meaning is_admitted operation_of add_term add_terms range_add range_or range_sub range_of row_of both_of common narrowed narrowed_by_value refine refine_by_value some_pair some_range without is_kept cell_entry started with_entry narrowed_at refined form_of called restored saved transferred access_of reads_of writes_of address_of callee_at word_of_place words_in reads_undefined touches_reserved branch_way falls fuel_at state_at visits_at weight_to
 result_unkept_0_5_lasts = record { edges = (tt, tt); end = λ e start s. omega (arith, ints); entry = λ e start s. omega (arith, ints); terms = refl }
 
-result_unkept_0_6_quiet : quiet_below (adding (pos 254) (pos 254) 39) 0 0 6 20 ≡ true
+result_unkept_0_6_quiet : quiet_below (adding (pos 254) (pos 254) 39) 0 0 6 21 ≡ true
 unfolding quiet_below form_value outcome meaning is_admitted operation_of add_term add_terms range_add range_or range_sub range_of row_of both_of common narrowed narrowed_by_value refine refine_by_value some_pair some_range without is_kept cell_entry started with_entry narrowed_at refined form_of called restored saved transferred access_of reads_of writes_of address_of callee_at word_of_place words_in reads_undefined touches_reserved branch_way falls fuel_at state_at visits_at weight_to
 result_unkept_0_6_quiet = refl
 
@@ -484,7 +485,7 @@ result_unkept_0_6_lasts : Lasts (adding (pos 254) (pos 254) 39) 0 0 6
 unfolding form_value outcome meaning is_admitted operation_of add_term add_terms range_add range_or range_sub range_of row_of both_of common narrowed narrowed_by_value refine refine_by_value some_pair some_range without is_kept cell_entry started with_entry narrowed_at refined form_of called restored saved transferred access_of reads_of writes_of address_of callee_at word_of_place words_in reads_undefined touches_reserved branch_way falls fuel_at state_at visits_at weight_to
 result_unkept_0_6_lasts = record { edges = (tt, tt); end = λ e start s. omega (arith, ints); entry = λ e start s. omega (arith, ints); terms = refl }
 
-result_unkept_1_0_quiet : quiet_below (adding (pos 254) (pos 254) 39) 1 0 0 20 ≡ true
+result_unkept_1_0_quiet : quiet_below (adding (pos 254) (pos 254) 39) 1 0 0 21 ≡ true
 unfolding quiet_below form_value outcome meaning is_admitted operation_of add_term add_terms range_add range_or range_sub range_of row_of both_of common narrowed narrowed_by_value refine refine_by_value some_pair some_range without is_kept cell_entry started with_entry narrowed_at refined form_of called restored saved transferred access_of reads_of writes_of address_of callee_at word_of_place words_in reads_undefined touches_reserved branch_way falls fuel_at state_at visits_at weight_to
 result_unkept_1_0_quiet = refl
 
@@ -572,7 +573,7 @@ pub stack_pointer : IsFirst stray_stack (refusal 0 0x40000 ReservedRegister)
 unfolding words_in address_of
 stack_pointer = told_first stray_stack (refusal 0 0x40000 ReservedRegister) 0 0 (record { function = omega arith; block = omega arith; word = omega arith }) refl stack_pointer_holds stack_pointer_before stack_pointer_here
 
-fresh_word_0_0_quiet : quiet_below (after_save 0xD003A040 0x01000000 96 no_others) 0 0 0 20 ≡ true
+fresh_word_0_0_quiet : quiet_below (after_save 0xD003A040 0x01000000 96 no_others) 0 0 0 21 ≡ true
 unfolding quiet_below form_value outcome meaning is_admitted operation_of add_term add_terms range_add range_or range_sub range_of row_of both_of common narrowed narrowed_by_value refine refine_by_value some_pair some_range without is_kept cell_entry started with_entry narrowed_at refined form_of called restored saved transferred access_of reads_of writes_of address_of callee_at word_of_place words_in reads_undefined touches_reserved branch_way falls fuel_at state_at visits_at weight_to
 fresh_word_0_0_quiet = refl
 
@@ -612,7 +613,7 @@ pub fresh_word : IsFirst (after_save 0xD003A040 0x01000000 96 no_others) (refusa
 unfolding words_in address_of
 fresh_word = told_first (after_save 0xD003A040 0x01000000 96 no_others) (refusal 0 0x40004 UndefinedRead) 0 1 (record { function = omega arith; block = omega arith; word = omega arith }) refl fresh_word_holds fresh_word_before fresh_word_here
 
-call_of_itself_0_0_quiet : quiet_below (after_save 0x7FFFFFFF 0x01000000 96 no_others) 0 0 0 20 ≡ true
+call_of_itself_0_0_quiet : quiet_below (after_save 0x7FFFFFFF 0x01000000 96 no_others) 0 0 0 21 ≡ true
 unfolding quiet_below form_value outcome meaning is_admitted operation_of add_term add_terms range_add range_or range_sub range_of row_of both_of common narrowed narrowed_by_value refine refine_by_value some_pair some_range without is_kept cell_entry started with_entry narrowed_at refined form_of called restored saved transferred access_of reads_of writes_of address_of callee_at word_of_place words_in reads_undefined touches_reserved branch_way falls fuel_at state_at visits_at weight_to
 call_of_itself_0_0_quiet = refl
 
@@ -652,7 +653,7 @@ pub call_of_itself : IsFirst (after_save 0x7FFFFFFF 0x01000000 96 no_others) (re
 unfolding words_in address_of
 call_of_itself = told_first (after_save 0x7FFFFFFF 0x01000000 96 no_others) (refusal 0 0x40004 BadCall) 0 1 (record { function = omega arith; block = omega arith; word = omega arith }) refl call_of_itself_holds call_of_itself_before call_of_itself_here
 
-entry_returns_0_0_quiet : quiet_below (after_save 0x81C7E008 0x81E80000 96 no_others) 0 0 0 20 ≡ true
+entry_returns_0_0_quiet : quiet_below (after_save 0x81C7E008 0x81E80000 96 no_others) 0 0 0 21 ≡ true
 unfolding quiet_below form_value outcome meaning is_admitted operation_of add_term add_terms range_add range_or range_sub range_of row_of both_of common narrowed narrowed_by_value refine refine_by_value some_pair some_range without is_kept cell_entry started with_entry narrowed_at refined form_of called restored saved transferred access_of reads_of writes_of address_of callee_at word_of_place words_in reads_undefined touches_reserved branch_way falls fuel_at state_at visits_at weight_to
 entry_returns_0_0_quiet = refl
 
@@ -696,7 +697,7 @@ pub entry_returns : IsFirst (after_save 0x81C7E008 0x81E80000 96 no_others) (ref
 unfolding words_in address_of
 entry_returns = told_first (after_save 0x81C7E008 0x81E80000 96 no_others) (refusal 0 0x40004 BadEntry) 0 1 (record { function = omega arith; block = omega arith; word = omega arith }) refl entry_returns_holds entry_returns_before entry_returns_here
 
-short_of_stack_0_0_quiet : quiet_below (after_save 0x40000002 0x01000000 188 one_other) 0 0 0 20 ≡ true
+short_of_stack_0_0_quiet : quiet_below (after_save 0x40000002 0x01000000 188 one_other) 0 0 0 21 ≡ true
 unfolding quiet_below form_value outcome meaning is_admitted operation_of add_term add_terms range_add range_or range_sub range_of row_of both_of common narrowed narrowed_by_value refine refine_by_value some_pair some_range without is_kept cell_entry started with_entry narrowed_at refined form_of called restored saved transferred access_of reads_of writes_of address_of callee_at word_of_place words_in reads_undefined touches_reserved branch_way falls fuel_at state_at visits_at weight_to
 short_of_stack_0_0_quiet = refl
 
@@ -756,4 +757,8 @@ verdicts_are_these = record {
   call_of_itself = call_of_itself;
   entry_returns = entry_returns;
   short_of_stack = short_of_stack;
+  without_depth = without_depth;
+  with_depth = with_depth;
+  leaf_too_deep = leaf_too_deep;
+  no_other_version = no_other_version;
 }

@@ -1,4 +1,5 @@
 pub mod Asking
 pub mod Quiet
+pub mod Depths
 pub mod Examples
 pub mod Regions

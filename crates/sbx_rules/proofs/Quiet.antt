@@ -8,7 +8,7 @@ use Rattle.v8_meaning.specs.Admitted.{is_admitted}
 use Rattle.sbx_image.specs.Parts.{Parts}
 use Rattle.want.specs.Wants.{refused}
 use Rattle.sbx_rules.specs.declared.cause.Cause.{Cause}
-use Rattle.sbx_rules.specs.declared.cause.Cause.TheVariants.{NotAnInstruction, NotAdmitted, BadShape, BadBranch, BadCall, UndefinedRead, ReservedRegister, Misaligned, OutOfBounds, ZeroDivisor, TagOverflow, UndeclaredService, UnkeptCells, OutOfFuel, OutOfStack, RunsPastEnd, UnkeptResults, BadEntry, NoMemory}
+use Rattle.sbx_rules.specs.declared.cause.Cause.TheVariants.{NotAnInstruction, NotAdmitted, BadShape, BadBranch, BadCall, UndefinedRead, ReservedRegister, Misaligned, OutOfBounds, ZeroDivisor, TagOverflow, UndeclaredService, UnkeptCells, OutOfFuel, OutOfStack, RunsPastEnd, UnkeptResults, BadEntry, TooDeep, NoMemory}
 use Rattle.sbx_rules.specs.declared.cause.Refusal.{Refusal}
 use Rattle.sbx_rules.specs.Causes.{number_of}
 use Rattle.sbx_rules.specs.Fuel.{IsEnough, IsPaid, IsWithinBudget}
@@ -16,7 +16,7 @@ use Rattle.sbx_rules.specs.Operations.{access_of, is_call, is_return}
 use Rattle.sbx_rules.specs.Verdicts.{Checked, IsFirst}
 use Rattle.sbx_image.specs.Order.{address_of, block_at, function_at}
 use Rattle.sbx_rules.specs.Places.{IsPlace, callee_at, op_at, service_asked, word_of_place}
-use Rattle.sbx_rules.specs.Rules.{Holds, LacksFuel, Leaves, branches_badly, ends_here, first, fuel, has_bad_shape, has_outs, is_aligned_access, is_back, is_declared, is_entry, is_later, is_past, is_placed_access, is_undefined, lacks_room, leaves_to, lists_badly, may_divide_by_zero, may_overflow, misses_cells, misses_params, names_strange, now, reads_undefined, runs_with, touches_reserved, weight}
+use Rattle.sbx_rules.specs.Rules.{Holds, LacksFuel, Leaves, branches_badly, ends_here, first, fuel, has_bad_shape, has_outs, is_aligned_access, is_back, is_declared, is_entry, is_later, is_past, is_placed_access, is_undefined, lacks_depth, lacks_room, leaves_to, lists_badly, may_divide_by_zero, may_overflow, misses_cells, misses_params, names_strange, now, reads_undefined, runs_with, touches_reserved, weight}
 use Rattle.sbx_rules.specs.Ways.{To, Visit, Way, fuel_at, visits_at}
 
 -- ---- tests
@@ -42,7 +42,7 @@ one_of false false false e (inr (inl h)) = cc
 one_of false false false e (inr (inr h)) = cc
 
 causes : List Cause
-causes = NotAnInstruction ∷ NotAdmitted ∷ BadShape ∷ BadBranch ∷ BadCall ∷ UndefinedRead ∷ ReservedRegister ∷ Misaligned ∷ OutOfBounds ∷ ZeroDivisor ∷ TagOverflow ∷ UndeclaredService ∷ UnkeptCells ∷ OutOfFuel ∷ OutOfStack ∷ RunsPastEnd ∷ UnkeptResults ∷ BadEntry ∷ NoMemory refused ∷ []
+causes = NotAnInstruction ∷ NotAdmitted ∷ BadShape ∷ BadBranch ∷ BadCall ∷ UndefinedRead ∷ ReservedRegister ∷ Misaligned ∷ OutOfBounds ∷ ZeroDivisor ∷ TagOverflow ∷ UndeclaredService ∷ UnkeptCells ∷ OutOfFuel ∷ OutOfStack ∷ RunsPastEnd ∷ UnkeptResults ∷ BadEntry ∷ NoMemory refused ∷ TooDeep ∷ []
 
 and_left : (x y : Bool) → (x && y) ≡ true → x ≡ true
 and_left true y h = refl
@@ -81,6 +81,7 @@ every t h RunsPastEnd = one_all t causes 15 RunsPastEnd h refl
 every t h UnkeptResults = one_all t causes 16 UnkeptResults h refl
 every t h BadEntry = one_all t causes 17 BadEntry h refl
 every t h (NoMemory want) = one_all t causes 18 (NoMemory want) h refl
+every t h TooDeep = one_all t causes 19 TooDeep h refl
 
 below_is_tested : (n m : ℕ) (x : Bool) → n < m → not (nat_lt n m && x) ≡ true → x ≡ false
 below_is_tested n m x less e = grind (arith, nat_tests)
@@ -127,6 +128,7 @@ module _ (parts : Parts) (f b i : ℕ) where
   test_of RunsPastEnd = list_any (λ v. is_past v.way) (visits_at parts f b i)
   test_of UnkeptResults = list_any (λ v. is_back v.way && not (has_outs 8 (function_at parts f).results (now parts f b i v))) (visits_at parts f b i)
   test_of BadEntry = (f == 0) && ((is_entry b i && not (length (function_at parts f).params == 0)) || is_return (op_at parts f b i))
+  test_of TooDeep = lacks_depth parts f b i
   test_of (NoMemory want) = false
 
   not_quiet : (cause : Cause) → test_of cause ≡ false → Holds parts f b i cause → (cause ≡ OutOfFuel) × LacksFuel parts f b i
@@ -149,6 +151,7 @@ module _ (parts : Parts) (f b i : ℕ) where
   not_quiet RunsPastEnd e h = absurd (refute (test_of RunsPastEnd) e h)
   not_quiet UnkeptResults e h = absurd (refute (test_of UnkeptResults) e h)
   not_quiet BadEntry e h = absurd (refute (test_of BadEntry) e h)
+  not_quiet TooDeep e h = absurd (refute (test_of TooDeep) e h)
   not_quiet (NoMemory want) e h = absurd h
 
   -- no test of a number below n tells
@@ -177,7 +180,7 @@ module _ (parts : Parts) (f b i : ℕ) where
   by_lasting l (inr (inr (inl h))) = h.1 (l.entry h.0)
   by_lasting l (inr (inr (inr h))) = refute ((i == 0) && names_strange parts f b i) l.terms h
 
-  few_causes : (cause : Cause) → number_of cause < 20
+  few_causes : (cause : Cause) → number_of cause < 21
   few_causes NotAnInstruction = omega arith
   few_causes NotAdmitted = omega arith
   few_causes BadShape = omega arith
@@ -196,11 +199,12 @@ module _ (parts : Parts) (f b i : ℕ) where
   few_causes RunsPastEnd = omega arith
   few_causes UnkeptResults = omega arith
   few_causes BadEntry = omega arith
+  few_causes TooDeep = omega arith
   few_causes (NoMemory want) = omega arith
 
   -- a word at which no rule is broken
-  pub no_rule : quiet_below 20 ≡ true → Lasts → (cause : Cause) → Holds parts f b i cause → ⊥
-  no_rule quiet l cause holds = by_lasting l (by_quiet 20 quiet cause (few_causes cause) holds).1
+  pub no_rule : quiet_below 21 ≡ true → Lasts → (cause : Cause) → Holds parts f b i cause → ⊥
+  no_rule quiet l cause holds = by_lasting l (by_quiet 21 quiet cause (few_causes cause) holds).1
 
   fuel_is_14 : (n : ℕ) (cause : Cause) → n ≤ 14 → number_of cause < n → cause ≡ OutOfFuel → ⊥
   fuel_is_14 n cause few less e = let h = subst (λ c. number_of c < n) e less in omega arith

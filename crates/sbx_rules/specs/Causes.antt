@@ -2,7 +2,7 @@
 use Rattle.std.specs.Prelude.{ℕ, ◌-◌, ◌^◌, false, true, List, [], ◌++◌, codes}
 use Rattle.std.specs.Fmt.{decimal, digits, format_spec, padded_integral}
 use Rattle.sbx_rules.specs.declared.cause.Cause.{Cause}
-use Rattle.sbx_rules.specs.declared.cause.Cause.TheVariants.{NotAnInstruction, NotAdmitted, BadShape, BadBranch, BadCall, UndefinedRead, ReservedRegister, Misaligned, OutOfBounds, ZeroDivisor, TagOverflow, UndeclaredService, UnkeptCells, OutOfFuel, OutOfStack, RunsPastEnd, UnkeptResults, BadEntry, NoMemory}
+use Rattle.sbx_rules.specs.declared.cause.Cause.TheVariants.{NotAnInstruction, NotAdmitted, BadShape, BadBranch, BadCall, UndefinedRead, ReservedRegister, Misaligned, OutOfBounds, ZeroDivisor, TagOverflow, UndeclaredService, UnkeptCells, OutOfFuel, OutOfStack, RunsPastEnd, UnkeptResults, BadEntry, TooDeep, NoMemory}
 use Rattle.sbx_rules.specs.declared.cause.Refusal.{Refusal}
 
 abbrev pub number_of : Cause → ℕ
@@ -24,6 +24,7 @@ number_of OutOfStack = 15
 number_of RunsPastEnd = 16
 number_of UnkeptResults = 17
 number_of BadEntry = 18
+number_of TooDeep = 20
 number_of (NoMemory want) = 19
 
 -- a rule is shown by its number
@@ -46,6 +47,7 @@ shown_cause OutOfStack = codes "V15"
 shown_cause RunsPastEnd = codes "V16"
 shown_cause UnkeptResults = codes "V17"
 shown_cause BadEntry = codes "V18"
+shown_cause TooDeep = codes "V20"
 shown_cause (NoMemory want) = codes "V19"
 
 -- a word in hexadecimal, of eight digits

@@ -8,9 +8,9 @@ use Rattle.sbx_image.specs.Parts.{Parts}
 use Rattle.sbx_image.specs.Term.{Term}
 use Rattle.sbx_form.specs.Ranges.{range}
 use Rattle.sbx_rules.specs.declared.cause.Cause.{Cause}
-use Rattle.sbx_rules.specs.declared.cause.Cause.TheVariants.{BadCall, UndefinedRead, ReservedRegister, UnkeptCells, OutOfFuel, OutOfStack, UnkeptResults, BadEntry}
+use Rattle.sbx_rules.specs.declared.cause.Cause.TheVariants.{BadCall, UndefinedRead, ReservedRegister, UnkeptCells, OutOfFuel, OutOfStack, UnkeptResults, BadEntry, TooDeep}
 use Rattle.sbx_rules.specs.declared.cause.Refusal.{Refusal}
-use Rattle.sbx_rules.specs.Rules.{is_in_data}
+use Rattle.sbx_rules.specs.Rules.{Holds, is_in_data}
 use Rattle.sbx_rules.specs.Verdicts.{Checked, IsFirst}
 
 -- all services, no data and one page of stack
@@ -23,7 +23,7 @@ bare_block address fuel = record { address = address; fuel = fuel; cells = []; t
 
 -- a function of one block without params and results, whose fuel is its budget
 abbrev pub framed : ℕ → ℕ → ℕ → Function
-framed entry room budget = record { kind = Framed; params = []; results = []; entry = entry; frame = 96; stack_room = room; budget = budget; blocks = bare_block entry (pos budget) ∷ [] }
+framed entry room budget = record { kind = Framed; params = []; results = []; entry = entry; frame = 96; stack_room = room; budget = budget; depth = 0; blocks = bare_block entry (pos budget) ∷ [] }
 
 abbrev pub refusal : ℕ → ℕ → Cause → Refusal
 refusal function address cause = record { function = function; address = address; cause = cause }
@@ -51,6 +51,7 @@ echo = image_of
       frame = 96;
       stack_room = 96;
       budget = 16030;
+      depth = 0;
       blocks =
           bare_block 0x40000 (pos 16030)
           ∷ record { address = 0x40008; fuel = pos 4; cells = cell 16 (pos 1) (pos 1000) ∷ []; terms = sixteen_turns }
@@ -67,15 +68,27 @@ abbrev pub adding : ℤ → ℤ → ℕ → Parts
 adding param result budget = image_of
     (0x9DE3BFA0 ∷ 0x90102020 ∷ 0x40000005 ∷ 0x01000000 ∷ 0x91D02002 ∷ 0x90102000 ∷ 0x91D02000 ∷ 0x81C3E008 ∷ 0x90022001 ∷ [])
     (framed 0x40000 96 budget
-    ∷ record { kind = Leaf; params = range (pos 0) param 0 ∷ []; results = range (pos 1) result 0 ∷ []; entry = 0x4001C; frame = 0; stack_room = 0; budget = 2; blocks = bare_block 0x4001C (pos 2) ∷ [] }
+    ∷ record { kind = Leaf; params = range (pos 0) param 0 ∷ []; results = range (pos 1) result 0 ∷ []; entry = 0x4001C; frame = 0; stack_room = 0; budget = 2; depth = 0; blocks = bare_block 0x4001C (pos 2) ∷ [] }
     ∷ [])
+
+-- the functions with these depths declared
+abbrev pub with_depths : List ℕ → List Function → List Function
+with_depths (d ∷ ds) (f ∷ fs) = record f { depth = d } ∷ with_depths ds fs
+with_depths _ _ = []
+
+abbrev pub deepened : List ℕ → Parts → Parts
+deepened depths parts = record parts { version = 3; functions = with_depths depths parts.functions }
+
+-- the call, with depths of the caller and of the leaf
+abbrev pub adding_of : ℕ → ℕ → Parts
+adding_of caller leaf = deepened (caller ∷ leaf ∷ []) (adding (pos 254) (pos 255) 39)
 
 -- ---- smaller ones
 
 -- sethi 0x3C0040,%sp; ba .+0; save, as a leaf without fuel
 abbrev pub stray_stack : Parts
 stray_stack = image_of (0x1D3C0040 ∷ 0x10800000 ∷ 0x9DE3A000 ∷ [])
-    (record { kind = Leaf; params = []; results = []; entry = 0x40000; frame = 0; stack_room = 0; budget = 0; blocks = bare_block 0x40000 (pos 0) ∷ [] } ∷ [])
+    (record { kind = Leaf; params = []; results = []; entry = 0x40000; frame = 0; stack_room = 0; budget = 0; depth = 0; blocks = bare_block 0x40000 (pos 0) ∷ [] } ∷ [])
 
 -- save %sp,-96,%sp and three words more
 abbrev pub after_save : ℕ → ℕ → ℕ → List Function → Parts
@@ -107,6 +120,13 @@ pub record VerdictsAreThese : Type 0 where
   pub entry_returns : IsFirst (after_save 0x81C7E008 0x81E80000 96 no_others) (refusal 0 0x40004 BadEntry)
   -- call .+8, with no room for the callee
   pub short_of_stack : IsFirst (after_save 0x40000002 0x01000000 188 one_other) (refusal 0 0x40004 OutOfStack)
+  -- a frame without a depth: at the entry
+  pub without_depth : IsFirst (adding_of 0 0) (refusal 0 0x40000 TooDeep)
+  pub with_depth : Checked (adding_of 1 0)
+  -- a leaf counts as any callee does: at the call
+  pub leaf_too_deep : IsFirst (adding_of 1 1) (refusal 0 0x40008 TooDeep)
+  -- in other versions no depth is asked for
+  pub no_other_version : (parts : Parts) (f b i : ℕ) → (parts.version ≡ 3 → ⊥) → Holds parts f b i TooDeep → ⊥
 
 -- ---- data of two regions: a page that is only read, and right behind it eight bytes that may be written
 

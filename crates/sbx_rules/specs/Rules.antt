@@ -31,7 +31,7 @@ use Rattle.sbx_domain.specs.Known.{Known, range_at}
 use Rattle.sbx_domain.specs.Results.{operand_entry, register_entry}
 use Rattle.sbx_domain.specs.Transfer.{transferred}
 use Rattle.sbx_rules.specs.declared.cause.Cause.{Cause}
-use Rattle.sbx_rules.specs.declared.cause.Cause.TheVariants.{NotAnInstruction, NotAdmitted, BadShape, BadBranch, BadCall, UndefinedRead, ReservedRegister, Misaligned, OutOfBounds, ZeroDivisor, TagOverflow, UndeclaredService, UnkeptCells, OutOfFuel, OutOfStack, RunsPastEnd, UnkeptResults, BadEntry, NoMemory}
+use Rattle.sbx_rules.specs.declared.cause.Cause.TheVariants.{NotAnInstruction, NotAdmitted, BadShape, BadBranch, BadCall, UndefinedRead, ReservedRegister, Misaligned, OutOfBounds, ZeroDivisor, TagOverflow, UndeclaredService, UnkeptCells, OutOfFuel, OutOfStack, RunsPastEnd, UnkeptResults, BadEntry, TooDeep, NoMemory}
 use Rattle.sbx_rules.specs.Fuel.{IsEnough, IsPaid, IsWithinBudget}
 use Rattle.sbx_rules.specs.Operations.{Access, access_of, frame_word_read, is_call, is_framed, is_framed_return, is_reserved, is_restore, is_return, is_save, is_transfer, is_trap, may_write, reads_codes, reads_of, reads_y, writes_of}
 use Rattle.sbx_image.specs.Order.{block_at, function_at, words_in}
@@ -379,6 +379,20 @@ module _ (parts : Parts) (f b i : ℕ) where
   abbrev pub IsBadEntry : Type 0
   IsBadEntry = IsTrue ((f == 0) && ((is_entry b i && not (length function.params == 0)) || is_return op))
 
+  -- V20: a framed function's depth is below 1 (told at its entry), or that of a caller below 1 plus its callee's, a leaf's too (told
+  -- at the CALL). It is asked in version 3 alone.
+  abbrev pub calls_deeper : Option ℕ → Bool
+  calls_deeper None = false
+  calls_deeper (Some g) = nat_lt function.depth ((function_at parts g).depth + 1)
+
+  abbrev pub lacks_depth : Bool
+  lacks_depth =
+      parts.version == 3
+      && ((is_entry b i && is_framed function.kind && nat_lt function.depth 1) || calls_deeper (callee_at parts f b i))
+
+  abbrev pub LacksDepth : Type 0
+  LacksDepth = IsTrue lacks_depth
+
   -- Word i of block b of function f breaks the rule. Want of memory is no fault of an image.
   abbrev pub Holds : Cause → Type 0
   Holds NotAnInstruction = IsNoInstruction
@@ -399,4 +413,5 @@ module _ (parts : Parts) (f b i : ℕ) where
   Holds RunsPastEnd = RunsPast
   Holds UnkeptResults = BreaksResults
   Holds BadEntry = IsBadEntry
+  Holds TooDeep = LacksDepth
   Holds (NoMemory want) = ⊥

@@ -44,12 +44,14 @@ pub enum Cause {
     UnkeptResults,
     /// The entry function has parameters or returns.
     BadEntry,
+    /// A function's declared call depth is less than its calls take.
+    TooDeep,
     /// Memory was refused.
     NoMemory(Want),
 }
 
 impl Cause {
-    /// The rule's number, 1 to 19.
+    /// The rule's number, 1 to 20.
     pub fn number(self) -> u8
         ensures { result ≡ number_of self }
     {
@@ -72,6 +74,7 @@ impl Cause {
             Cause::RunsPastEnd => 16,
             Cause::UnkeptResults => 17,
             Cause::BadEntry => 18,
+            Cause::TooDeep => 20,
             Cause::NoMemory(_) => 19,
         }
     }
@@ -100,6 +103,7 @@ impl fmt::Display for Cause {
             Cause::RunsPastEnd => "V16",
             Cause::UnkeptResults => "V17",
             Cause::BadEntry => "V18",
+            Cause::TooDeep => "V20",
             Cause::NoMemory(_) => "V19",
         })
     }

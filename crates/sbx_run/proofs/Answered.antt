@@ -14,11 +14,13 @@ use Rattle.sbx_image.specs.Parts.{Parts}
 use Rattle.sbx_flat.specs.Runs.{AreBytes, FlatSafe, budget}
 use Rattle.sbx_raw.specs.declared.raw.Raw.{Raw}
 use Rattle.sbx_raw.specs.Runs.{IsRaw}
+use Rattle.sbx_verify.specs.Law.{DepthIsEnough}
 use Rattle.sbx_windows.specs.Runs.{IsImage}
 use Rattle.sbx_run.specs.declared.boards.Ended.{Ended}
 use Rattle.sbx_run.specs.declared.runner.Finished.{Finished}
-use Rattle.sbx_run.specs.Answer.{EndsOn, ExitsAsFlat, IsAnswer, IsFlatEnd, KeepsToItsOwn, StandsOn, told_of, told_of_board}
+use Rattle.sbx_run.specs.Answer.{EndsOn, ExitsAsFlat, IsAnswer, IsFlatEnd, KeepsItsDepth, KeepsToItsOwn, StandsOn, told_of, told_of_board}
 use Rattle.sbx_run.proofs.Ends.{ends}
+use Rattle.sbx_run.proofs.Quiet.{keeps_its_depth}
 
 one_status : (s t : ℕ) → Exit s ≡ Exit t → s ≡ t
 one_status s t e = cc
@@ -55,6 +57,11 @@ module _ (parts : Parts) (n : ℕ) (input : List ℕ) (image : IsImage parts) (s
         own = subst (KeepsToItsOwn n parts input [] run.start run.end) (ap (λ (o : Outcome). o.turns) same) e.own;
       }
 
+  pub quiet : DepthIsEnough parts → KeepsItsDepth parts n raw.outcome
+  quiet depth =
+      let so = end_so in
+      subst (KeepsItsDepth parts n) (sym run.outcome) (keeps_its_depth parts n input so.output so.status (outcome_of n run.end) depth bytes so.flat)
+
 -- the run of the image, with its budget
 pub run_of : (n : ℕ) (image parts : Parts) (input : List ℕ) (limit : ℕ) (raw : Raw) → image ≡ parts → limit ≡ budget parts → IsRaw n image input limit raw → IsRaw n parts input (budget parts) raw
 run_of n image parts input limit raw same most run =
@@ -87,6 +94,11 @@ module _ (n : ℕ) (parts : Parts) (made start end : BoardState n) (image : IsIm
         own = subst (KeepsToItsOwn n parts input earlier start end) turns e.own;
         pages = pages;
       }
+
+  pub board_quiet : (o : Outcome) → o ≡ outcome_of n end → DepthIsEnough parts → KeepsItsDepth parts n o
+  board_quiet o told depth =
+      let so = ends n parts made start end image safe bytes loaded state run in
+      subst (KeepsItsDepth parts n) (sym told) (keeps_its_depth parts n made.world.memory.device.input so.output so.status (outcome_of n end) depth bytes so.flat)
 
 -- ---- what turns keep
 

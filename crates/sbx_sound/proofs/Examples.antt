@@ -58,6 +58,7 @@ echo_typed = record {
       entry = omega arith;
       params = tt;
       results = tt;
+      depth = omega arith;
       blocks = (block_typed 0x40000 16030 (omega arith) (omega arith), (loop_typed, (body_typed, (block_typed 0x40028 4 (omega arith) (omega arith), tt))));
     },
     tt,
@@ -71,8 +72,8 @@ call_typed = record {
   words = words_typed call.words refl;
   regions = tt;
   functions = (
-    record { entry = omega arith; params = tt; results = tt; blocks = (block_typed 0x40000 39 (omega arith) (omega arith), tt) },
-    (record { entry = omega arith; params = (range_typed 0 254 (omega arith) (omega arith), tt); results = (range_typed 1 255 (omega arith) (omega arith), tt); blocks = (block_typed 0x4001C 2 (omega arith) (omega arith), tt) }, tt),
+    record { entry = omega arith; params = tt; results = tt; depth = omega arith; blocks = (block_typed 0x40000 39 (omega arith) (omega arith), tt) },
+    (record { entry = omega arith; params = (range_typed 0 254 (omega arith) (omega arith), tt); results = (range_typed 1 255 (omega arith) (omega arith), tt); depth = omega arith; blocks = (block_typed 0x4001C 2 (omega arith) (omega arith), tt) }, tt),
   );
 }
 

@@ -117,9 +117,9 @@ pub record IsGoodFunction (f : Function) : Type 0 where
   pub budget : f.budget ≤ 1099511627775
   pub blocks : AllByRecursion IsGoodBlock f.blocks
 
-good_function : (end : ℕ) (place : Place) (f : Function) (t : Place) → function_keeps end place f ≡ Ok t → IsTypedFunction f → IsGoodFunction f
-good_function end place f t e typed =
-    let k = function_kept end place f t e in
+good_function : (version end : ℕ) (place : Place) (f : Function) (t : Place) → function_keeps version end place f ≡ Ok t → IsTypedFunction f → IsGoodFunction f
+good_function version end place f t e typed =
+    let k = function_kept version end place f t e in
     record {
       params = good_ranges f.params k.params typed.params;
       few_params = (is_between 0 6 (length f.params) k.param_count).1;
@@ -159,7 +159,7 @@ module _ (parts : Parts) (kept : parts_keep parts ≡ Ok tt) (typed : IsTyped pa
   functions_good : AllByRecursion IsGoodFunction parts.functions
   functions_good =
       let k = parts_kept parts kept in
-      each_good (function_keeps (code_start + 4 * length parts.words)) IsTypedFunction IsGoodFunction (good_function (code_start + 4 * length parts.words)) parts.functions (Exactly code_start, 0) k.last k.functions typed.functions
+      each_good (function_keeps parts.version (code_start + 4 * length parts.words)) IsTypedFunction IsGoodFunction (good_function parts.version (code_start + 4 * length parts.words)) parts.functions (Exactly code_start, 0) k.last k.functions typed.functions
 
   pub function_good : (f : ℕ) → IsGoodFunction (function_at parts f)
   function_good f = by_number IsGoodFunction or_function parts.functions f (λ x h. h) no_good_function functions_good

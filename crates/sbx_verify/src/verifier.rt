@@ -3,8 +3,10 @@ ghost use Rattle.std.specs.Prelude.{◌≡◌, IfErr, IfOk};
 ghost use Rattle.sbx_flat.specs.Runs.{FlatSafe};
 ghost use Rattle.sbx_sound.specs.Verdicts.{Checked};
 ghost use Rattle.sbx_sound.specs.Law.{IsFormed};
+ghost use Rattle.sbx_depth.specs.Law.{DepthIsEnough};
 ghost use Rattle.sbx_verify.specs.Refusals.{IsRefusal, no_memory};
 
+use sbx_depth::laws::declared_depth_is_enough;
 use sbx_image::Image;
 use sbx_sound::laws::checked_is_safe;
 use sbx_sound::{Cause, Refusal};
@@ -31,14 +33,17 @@ impl Model for Accepted {
 }
 
 impl Accepted {
-    /// The image. It is safe: on the flat machine each run of it ends within its budget, with one output and status.
+    /// The image. It is safe: on the flat machine each run of it ends within its budget, with one output and status. Of version 3 no run
+    /// overflows or underflows a window where there are two more than its first function's declared depth.
     pub fn image(&self) -> &Image
         ensures image { result.now ≡ self.now }
         ensures checked { Checked self.now }
         ensures safe { FlatSafe self.now }
+        ensures depth { DepthIsEnough self.now }
     {
         tells_form(&self.image);
         checked_is_safe();
+        declared_depth_is_enough();
         &self.image
     }
 

@@ -48,4 +48,4 @@ returns c =
     let cells = one P UnkeptCells c.breaks_cells.result c.then_some.result c.then_some.ensures (λ h. told.0 (sym same ∙ h)) (λ h. same ∙ told.1 h) in
     let fuel = one P OutOfFuel c.lacks_fuel.result c.then_some-2.result c.then_some-2.ensures c.lacks_fuel.ensures.0 c.lacks_fuel.ensures.1 in
     let two = both P 13 14 15 c.then_some.result c.then_some-2.result c.or.result (omega arith) (omega arith) c.or.ensures cells fuel in
-    both P 13 15 19 c.or.result c.fault_of_ways.result c.or-2.result (omega arith) (omega arith) c.or-2.ensures two c.fault_of_ways.ensures
+    both P 13 15 21 c.or.result c.fault_of_ways.result c.or-2.result (omega arith) (omega arith) c.or-2.ensures two c.fault_of_ways.ensures

@@ -5,15 +5,15 @@ use Rattle.v8_meaning.specs.declared.operation.Operation.{Operation}
 use Rattle.sbx_image.specs.Function.{Function}
 use Rattle.sbx_rules.specs.Known.{known}
 use Rattle.sbx_rules.specs.declared.cause.Cause.{Cause}
-use Rattle.sbx_rules.specs.declared.cause.Cause.TheVariants.{OutOfStack, RunsPastEnd, UnkeptResults, BadEntry}
+use Rattle.sbx_rules.specs.declared.cause.Cause.TheVariants.{OutOfStack, RunsPastEnd, UnkeptResults, BadEntry, TooDeep}
 use Rattle.sbx_rules.specs.Operations.{is_return}
 use Rattle.sbx_image.specs.Order.{function_at}
 use Rattle.sbx_rules.specs.Places.{op_at}
-use Rattle.sbx_rules.specs.Rules.{Holds, has_outs, is_back, is_entry, is_past, lacks_room, now}
+use Rattle.sbx_rules.specs.Rules.{Holds, has_outs, is_back, is_entry, is_past, lacks_depth, lacks_room, now}
 use Rattle.sbx_rules.specs.Ways.{Visit, visits_at}
 use Rattle.sbx_known.specs.Courses.{arrived, listed}
 use Rattle.sbx_pass.proofs.Arriving.{any_mapped}
-use Rattle.sbx_pass.proofs.Telling.{both, by_test}
+use Rattle.sbx_pass.proofs.Telling.{both, by_test, from_19}
 use Rattle.sbx_pass.proofs.after.fault_of_ways.Goals as goal
 
 pub returns : goal.returns
@@ -38,4 +38,6 @@ returns c =
     (c.is_bad_entry.ensures ∙ ap (λ (o : Operation). (f == 0) && ((is_entry b i && not (length (function_at parts f).params == 0)) || is_return o)) c.requires.spot.operation) (λ h. h) (λ h. h) in
     let two = both P 15 16 17 c.then_some.result c.then_some-2.result c.or.result (omega arith) (omega arith) c.or.ensures room past in
     let three = both P 15 17 18 c.or.result c.then_some-3.result c.or-2.result (omega arith) (omega arith) c.or-2.ensures two results in
-    both P 15 18 19 c.or-2.result c.then_some-4.result c.or-3.result (omega arith) (omega arith) c.or-3.ensures three entry
+    let four = both P 15 18 19 c.or-2.result c.then_some-4.result c.or-3.result (omega arith) (omega arith) c.or-3.ensures three entry in
+    let depth = by_test P TooDeep c.lacks_depth.result (lacks_depth parts f b i) c.then_some-5.result c.then_some-5.ensures c.lacks_depth.ensures (λ h. h) (λ h. h) in
+    both P 15 19 21 c.or-3.result c.then_some-5.result c.or-4.result (omega arith) (omega arith) c.or-4.ensures four (from_19 P (λ want h. h) c.then_some-5.result depth)

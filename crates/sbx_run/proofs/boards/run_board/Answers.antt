@@ -9,7 +9,7 @@ use Rattle.v8_board.specs.declared.outcome.Ending.TheVariants.{ErrorMode, Limit,
 use Rattle.sbx_image.specs.Parts.{Parts}
 use Rattle.sbx_flat.specs.Runs.{AreBytes, budget}
 use Rattle.sbx_windows.specs.Runs.{IsImage}
-use Rattle.sbx_run.proofs.Answered.{board_ends, board_exits, stands_on, turns_stay}
+use Rattle.sbx_run.proofs.Answered.{board_ends, board_exits, board_quiet, stands_on, turns_stay}
 use Rattle.sbx_run.proofs.boards.run_board.Goals as goal
 
 pub returns-in_err-outcome-clause-stands : goal.returns-in_err-outcome-clause-stands
@@ -57,6 +57,18 @@ returns-clause-ended g c =
     let run : IsRun g.row.N (budget parts) start end = subst (λ k. IsRun g.row.N k start end) (c.budget.ensures ∙ ap budget same) c.in_ok-outcome.ensures.run in
     board_ends g.row.N parts c.args.board.now.state start end limits c.image-image.ensures.safe given loaded c.load.ensures.state run _
     (ap (λ (e : Ending). record c.in_ok-outcome.outcome { ending = e }) (sym c.in-Exit.is) ∙ c.in_ok-outcome.ensures.told) (search rules)
+
+pub returns-clause-depth : goal.returns-clause-depth
+returns-clause-depth g c =
+    let given : AreBytes c.args.board.now.state.world.memory.device.input = subst AreBytes c.port.ensures.input c.tells_bytes.ensures in
+    let parts = c.args.accepted.now in
+    let same = c.image-image.ensures.image in
+    let start = c.load.new.self.state in
+    let end = c.run.new.self.state in
+    let loaded : IsStart g.row.N parts c.args.board.now.state start = subst (λ (p : Parts). IsStart g.row.N p c.args.board.now.state start) same c.load.ensures.start in
+    let limits : IsImage parts = subst IsImage same c.tells_limits.ensures in
+    let run : IsRun g.row.N (budget parts) start end = subst (λ k. IsRun g.row.N k start end) (c.budget.ensures ∙ ap budget same) c.in_ok-outcome.ensures.run in
+    board_quiet g.row.N parts c.args.board.now.state start end limits c.image-image.ensures.safe given loaded c.load.ensures.state run c.in_ok-outcome.outcome c.in_ok-outcome.ensures.told c.image-image.ensures.depth
 
 pub returns-clause-state : goal.returns-clause-state
 returns-clause-state g c =
