@@ -125,23 +125,28 @@ bounds_at bytes = do
   budget ← number_in w64 0 1099511627775 fault.Limit stack_room.1
   Ok (record { frame = frame.0; stack_room = stack_room.0; budget = budget.0 }, budget.1)
 
+-- how many frames calls push at one time, which version 3 alone tells
+abbrev pub depth_at : ℕ → List ℕ → Result (ℕ × List ℕ) ImageFault
+depth_at version bytes = if version == 3 then number_in w16 0 256 fault.Limit bytes else Ok (0, bytes)
+
 -- The functions before it have so many blocks.
-unfoldable pub function_head_at : ℕ → Place → List ℕ → Result (FunctionHead × List ℕ) ImageFault
-function_head_at end place bytes = do
+unfoldable pub function_head_at : ℕ → ℕ → Place → List ℕ → Result (FunctionHead × List ℕ) ImageFault
+function_head_at version end place bytes = do
   counts ← counts_at bytes
   entry ← number_at w32 counts.1
   _ ← wants (admits end place.0 entry.0) fault.Order
   bounds ← bounds_at entry.1
-  blocks ← number_in w16 1 (4096 - place.1) fault.Limit bounds.1
-  Ok (record { kind = counts.0.kind; params = counts.0.params; results = counts.0.results; entry = entry.0; frame = bounds.0.frame; stack_room = bounds.0.stack_room; budget = bounds.0.budget; blocks = blocks.0 }, blocks.1)
+  depth ← depth_at version bounds.1
+  blocks ← number_in w16 1 (4096 - place.1) fault.Limit depth.1
+  Ok (record { kind = counts.0.kind; params = counts.0.params; results = counts.0.results; entry = entry.0; frame = bounds.0.frame; stack_room = bounds.0.stack_room; budget = bounds.0.budget; depth = depth.0; blocks = blocks.0 }, blocks.1)
 
-unfoldable pub function_at : ℕ → Place × List ℕ → Result (Function × (Place × List ℕ)) ImageFault
-function_at end cursor = do
-  head ← function_head_at end cursor.0 cursor.1
+unfoldable pub function_at : ℕ → ℕ → Place × List ℕ → Result (Function × (Place × List ℕ)) ImageFault
+function_at version end cursor = do
+  head ← function_head_at version end cursor.0 cursor.1
   params ← items_at range_at head.0.params head.1
   results ← items_at range_at head.0.results params.1
   blocks ← items_at (block_at end) head.0.blocks (Exactly head.0.entry, results.1)
-  Ok (record { kind = head.0.kind; params = params.0; results = results.0; entry = head.0.entry; frame = head.0.frame; stack_room = head.0.stack_room; budget = head.0.budget; blocks = blocks.0 }, ((blocks.1.0, cursor.0.1 + head.0.blocks), blocks.1.1))
+  Ok (record { kind = head.0.kind; params = params.0; results = results.0; entry = head.0.entry; frame = head.0.frame; stack_room = head.0.stack_room; budget = head.0.budget; depth = head.0.depth; blocks = blocks.0 }, ((blocks.1.0, cursor.0.1 + head.0.blocks), blocks.1.1))
 
 -- version and services, behind what tells an image
 unfoldable pub services_at : List ℕ → Result ((ℕ × Services) × List ℕ) ImageFault
@@ -159,7 +164,7 @@ data_length_at bytes = do
   _ ← wants (is_data_length data_bytes.0) fault.Limit
   Ok data_bytes
 
--- how many bytes of data version 1 has, or how many regions version 2 has
+-- how many bytes of data version 1 has, or how many regions versions 2 and 3 have
 unfoldable pub data_count_at : ℕ → List ℕ → Result (ℕ × List ℕ) ImageFault
 data_count_at version bytes = if version == 1 then data_length_at bytes else number_in w16 0 8 fault.Limit bytes
 
@@ -185,7 +190,7 @@ abbrev pub shape_of : ℕ → List Shape
 shape_of zero = []
 shape_of (suc n) = record { bytes = suc n; writable = true } ∷ []
 
--- the regions' lengths and kinds, which version 2 has behind its header
+-- the regions' lengths and kinds, which versions 2 and 3 have behind the header
 unfoldable pub shapes_at : Header → List ℕ → Result (List Shape × List ℕ) ImageFault
 shapes_at header bytes =
     if header.version == 1 then Ok (shape_of header.data_count, bytes)
@@ -210,7 +215,7 @@ parts_at bytes = do
   shapes ← shapes_at header.0 header.1
   words ← items_at (number_at w32) header.0.words shapes.1
   regions ← regions_at shapes.0 words.1
-  functions ← items_at (function_at (code_start + 4 * header.0.words)) header.0.functions ((Exactly code_start, 0), regions.1)
+  functions ← items_at (function_at header.0.version (code_start + 4 * header.0.words)) header.0.functions ((Exactly code_start, 0), regions.1)
   Ok (record { version = header.0.version; services = header.0.services; words = words.0; regions = regions.0; stack_pages = header.0.stack_pages; functions = functions.0 }, functions.1.1)
 
 -- The image that all of the bytes spell.

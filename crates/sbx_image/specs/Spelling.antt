@@ -52,8 +52,12 @@ abbrev pub kind_code : Kind → ℕ
 kind_code Leaf = 0
 kind_code Framed = 1
 
-unfoldable pub function_head_text : Function → List ℕ
-function_head_text f =
+-- how many frames calls push at one time, which version 3 alone tells
+abbrev pub depth_text : ℕ → Function → List ℕ
+depth_text version f = if version == 3 then to_be_bytes w16 f.depth else []
+
+unfoldable pub function_head_text : ℕ → Function → List ℕ
+function_head_text version f =
     to_be_bytes w8 (kind_code f.kind)
     ++ to_be_bytes w8 (length f.params)
     ++ to_be_bytes w8 (length f.results)
@@ -62,20 +66,21 @@ function_head_text f =
     ++ to_be_bytes w32 f.frame
     ++ to_be_bytes w32 f.stack_room
     ++ to_be_bytes w64 f.budget
+    ++ depth_text version f
     ++ to_be_bytes w16 (length f.blocks)
 
-unfoldable pub function_text : Function → List ℕ
-function_text f =
-    function_head_text f
+unfoldable pub function_text : ℕ → Function → List ℕ
+function_text version f =
+    function_head_text version f
     ++ flat_map range_text f.params
     ++ flat_map range_text f.results
     ++ flat_map block_text f.blocks
 
--- how many bytes of data version 1 has, or how many regions version 2 has
+-- how many bytes of data version 1 has, or how many regions versions 2 and 3 have
 unfoldable pub data_count_text : Parts → List ℕ
 data_count_text p = if p.version == 1 then to_be_bytes w32 (byte_count p.regions) else to_be_bytes w16 (length p.regions)
 
--- version 1 tells no more of its region; version 2 tells length and kind of each
+-- version 1 tells no more of its region; versions 2 and 3 tell length and kind of each
 unfoldable pub shapes_text : Parts → List ℕ
 shapes_text p = if p.version == 1 then [] else flat_map shape_text p.regions
 
@@ -96,7 +101,7 @@ spelling p =
     ++ shapes_text p
     ++ flat_map (to_be_bytes w32) p.words
     ++ flat_map region_text p.regions
-    ++ flat_map function_text p.functions
+    ++ flat_map (function_text p.version) p.functions
 
 abbrev pub IsBytes : List ℕ → Type 0
 IsBytes bytes = (i : ℕ) → get_or bytes i 0 < 256

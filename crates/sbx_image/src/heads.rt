@@ -7,7 +7,7 @@ pub struct Header {
     pub version: u16,
     pub services: Services,
     pub words: u32,
-    /// Bytes of data in version 1, regions in version 2.
+    /// Bytes of data in version 1, regions in versions 2 and 3.
     pub data_count: u32,
     pub stack_pages: u16,
     pub functions: u16,
@@ -46,6 +46,7 @@ pub struct FunctionHead {
     pub frame: u32,
     pub stack_room: u32,
     pub budget: u64,
+    pub depth: u16,
     pub blocks: u16,
 }
 

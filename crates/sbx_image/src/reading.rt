@@ -3,7 +3,7 @@ ghost use Rattle.std.specs.Prelude.{◌≡◌, ℕ, ◌+◌, ◌≤◌, List, If
 ghost use Rattle.std.specs.Int.{w8, w16, w32, w64};
 ghost use Rattle.sbx_parts.specs.declared.order.Next.{Next};
 ghost use Rattle.sbx_parts.specs.Rules.{Place};
-ghost use Rattle.sbx_image.specs.Reading.{Gives, number_at, bytes_at, items_at, range_at, location_at, cell_at, term_at, block_head_at, block_at, kind_at, counts_at, bounds_at, function_head_at, function_at, services_at, data_length_at, data_count_at, header_at, shape_at, shape_of, shapes_at, shape_bytes, regions_at, parts_at, reading};
+ghost use Rattle.sbx_image.specs.Reading.{Gives, number_at, bytes_at, items_at, range_at, location_at, cell_at, term_at, block_head_at, block_at, kind_at, counts_at, bounds_at, depth_at, function_head_at, function_at, services_at, data_length_at, data_count_at, header_at, shape_at, shape_of, shapes_at, shape_bytes, regions_at, parts_at, reading};
 ghost use Rattle.sbx_image.specs.Spelling.{spelling};
 
 use crate::heads::{BlockHead, Bounds, Counts, FunctionHead, Header, Shape};
@@ -31,35 +31,37 @@ pub trait Readable: Drop {
     /// The bytes that are still to be read, behind an item that left a state.
     ghost at: { Self.State → List ℕ → Cursor };
 
-    /// The item at a cursor, in code that ends at an address, and the cursor behind it.
-    ghost item_at: { ℕ → Cursor → Result (Self × Cursor) ImageFault };
+    /// The item at a cursor, in an image of a version whose code ends at an address, and the cursor behind it.
+    ghost item_at: { ℕ → ℕ → Cursor → Result (Self × Cursor) ImageFault };
 
     /// The item at the front; behind it, what it leaves and the bytes that are still to be read. `end` is the address behind
     /// the code.
     fn read(
         alloc: Global,
+        version: u16,
         end: u32,
         state: Self::State,
         bytes: &[u8],
     ) -> Result<(Self, (Self::State, &[u8])), ImageFault>
-        ensures { Gives (λ x. (x.0, at x.1.0 x.1.1.now)) result (item_at end (at state bytes.now)) };
+        ensures { Gives (λ x. (x.0, at x.1.0 x.1.1.now)) result (item_at version end (at state bytes.now)) };
 }
 
 /// So many items, one after the other; behind them, what the last one leaves.
 fn items_of<T: Readable>(
     alloc: Global,
+    version: u16,
     end: u32,
     count: u32,
     first: T::State,
     bytes: &[u8],
 ) -> Result<(Vec<T>, (T::State, &[u8])), ImageFault>
-    ensures { Gives (λ x. (x.0.items, T.at x.1.0 x.1.1.now)) result (items_at (T.item_at end) count (T.at first bytes.now)) }
+    ensures { Gives (λ x. (x.0.items, T.at x.1.0 x.1.1.now)) result (items_at (T.item_at version end) count (T.at first bytes.now)) }
 {
     let mut items = Vec::with_capacity(alloc, count as usize)?;
     let mut state = first;
     let mut rest = bytes;
     for _ in 0..count {
-        let (item, (next, after)) = T::read(alloc, end, state, rest)?;
+        let (item, (next, after)) = T::read(alloc, version, end, state, rest)?;
         items.push(item)?;
         state = next;
         rest = after;
@@ -74,10 +76,11 @@ impl Readable for u32 {
 
     ghost at = { λ _ bytes. bytes };
 
-    ghost item_at = { λ _. number_at w32 };
+    ghost item_at = { λ _ _. number_at w32 };
 
     fn read(
         _alloc: Global,
+        _version: u16,
         _end: u32,
         _state: (),
         bytes: &[u8],
@@ -94,10 +97,11 @@ impl Readable for Range {
 
     ghost at = { λ _ bytes. bytes };
 
-    ghost item_at = { λ _. range_at };
+    ghost item_at = { λ _ _. range_at };
 
     fn read(
         _alloc: Global,
+        _version: u16,
         _end: u32,
         _state: (),
         bytes: &[u8],
@@ -114,11 +118,12 @@ impl Readable for Cell {
 
     ghost at = { λ last bytes. (last, bytes) };
 
-    ghost item_at = { λ _. cell_at };
+    ghost item_at = { λ _ _. cell_at };
 
     #[tactic(auto, unfolding(crate::specs::Reading::cell_at))]
     fn read(
         _alloc: Global,
+        _version: u16,
         _end: u32,
         last: u16,
         bytes: &[u8],
@@ -136,11 +141,12 @@ impl Readable for Term {
 
     ghost at = { λ last bytes. (last, bytes) };
 
-    ghost item_at = { λ _. term_at };
+    ghost item_at = { λ _ _. term_at };
 
     #[tactic(auto, unfolding(crate::specs::Reading::term_at))]
     fn read(
         _alloc: Global,
+        _version: u16,
         _end: u32,
         last: u16,
         bytes: &[u8],
@@ -165,10 +171,11 @@ impl Readable for Block {
 
     ghost at = { λ next bytes. (next, bytes) };
 
-    ghost item_at = { block_at };
+    ghost item_at = { λ _. block_at };
 
     fn read(
         alloc: Global,
+        _version: u16,
         end: u32,
         next: Next,
         bytes: &[u8],
@@ -189,15 +196,16 @@ impl Readable for Function {
     #[tactic(auto, unfolding(crate::specs::Reading::function_at))]
     fn read(
         alloc: Global,
+        version: u16,
         end: u32,
         place: (Next, u16),
         bytes: &[u8],
     ) -> Result<(Function, ((Next, u16), &[u8])), ImageFault> {
-        let (head, rest) = function_head_of(end, place, bytes)?;
+        let (head, rest) = function_head_of(version, end, place, bytes)?;
         let (params, rest) = ranges_of(alloc, head.params, rest)?;
         let (results, rest) = ranges_of(alloc, head.results, rest)?;
         let first = Next::Exactly(head.entry);
-        let (blocks, (next, rest)) = items_of(alloc, end, head.blocks as u32, first, rest)?;
+        let (blocks, (next, rest)) = items_of(alloc, version, end, head.blocks as u32, first, rest)?;
         let function = Function {
             kind: head.kind,
             params: Items::new(params),
@@ -206,6 +214,7 @@ impl Readable for Function {
             frame: head.frame,
             stack_room: head.stack_room,
             budget: head.budget,
+            depth: head.depth,
             blocks: Items::new(blocks),
         };
         Ok((function, ((next, place.1 + head.blocks), rest)))
@@ -270,8 +279,8 @@ pub fn block_of(
     ensures { Gives (λ x. (x.0, (x.1.0, x.1.1.now))) result (block_at end (next, bytes.now)) }
 {
     let (head, rest) = block_head_of(end, next, bytes)?;
-    let (cells, (_, rest)) = items_of(alloc, end, head.cells as u32, 0, rest)?;
-    let (terms, (_, rest)) = items_of(alloc, end, head.terms as u32, 0, rest)?;
+    let (cells, (_, rest)) = items_of(alloc, 0, end, head.cells as u32, 0, rest)?;
+    let (terms, (_, rest)) = items_of(alloc, 0, end, head.terms as u32, 0, rest)?;
     let block = Block {
         address: head.address,
         fuel: head.fuel,
@@ -324,14 +333,26 @@ fn bounds_of(bytes: &[u8]) -> Result<(Bounds, &[u8]), ImageFault>
     Ok((bounds, rest))
 }
 
+/// How many frames calls push at one time, which version 3 alone tells.
+fn depth_of(version: u16, bytes: &[u8]) -> Result<(u16, &[u8]), ImageFault>
+    ensures { Gives (λ x. (x.0, x.1.now)) result (depth_at version bytes.now) }
+{
+    if version == 3 {
+        u16_in(bytes, 0, 256, ImageFault::Limit)
+    } else {
+        Ok((0, bytes))
+    }
+}
+
 /// What stands before a function's ranges. `place` is where it may begin, and how many blocks the functions before it have.
 #[tactic(auto, unfolding(crate::specs::Reading::function_head_at))]
 pub fn function_head_of(
+    version: u16,
     end: u32,
     place: (Next, u16),
     bytes: &[u8],
 ) -> Result<(FunctionHead, &[u8]), ImageFault>
-    ensures reads { Gives (λ x. (x.0, x.1.now)) result (function_head_at end place bytes.now) }
+    ensures reads { Gives (λ x. (x.0, x.1.now)) result (function_head_at version end place bytes.now) }
     ensures bound { IfOk result (λ x. place.1 + x.0.blocks ≤ 4096) }
 {
     let (counts, rest) = counts_of(bytes)?;
@@ -340,6 +361,7 @@ pub fn function_head_of(
         return Err(ImageFault::Order);
     }
     let (bounds, rest) = bounds_of(rest)?;
+    let (depth, rest) = depth_of(version, rest)?;
     let room = 4096u16.saturating_sub(place.1);
     let (blocks, rest) = u16_in(rest, 1, room, ImageFault::Limit)?;
     let head = FunctionHead {
@@ -350,6 +372,7 @@ pub fn function_head_of(
         frame: bounds.frame,
         stack_room: bounds.stack_room,
         budget: bounds.budget,
+        depth,
         blocks,
     };
     Ok((head, rest))
@@ -359,7 +382,7 @@ pub fn function_head_of(
 pub fn ranges_of(alloc: Global, count: u8, bytes: &[u8]) -> Result<(Vec<Range>, &[u8]), ImageFault>
     ensures { Gives (λ x. (x.0.items, x.1.now)) result (items_at range_at count bytes.now) }
 {
-    let (ranges, ((), rest)) = items_of(alloc, 0, count as u32, (), bytes)?;
+    let (ranges, ((), rest)) = items_of(alloc, 0, 0, count as u32, (), bytes)?;
     Ok((ranges, rest))
 }
 
@@ -381,7 +404,7 @@ fn services_in(bytes: &[u8]) -> Result<((u16, Services), &[u8]), ImageFault>
 {
     let (_, rest) = u32_in(bytes, 0x5342_5838, 0x5342_5838, ImageFault::Magic)?;
     let (version, rest) = u16_at(rest)?;
-    if version != 1 && version != 2 {
+    if !(1 <= version && version <= 3) {
         return Err(ImageFault::Version);
     }
     let (bits, rest) = u16_at(rest)?;
@@ -403,7 +426,7 @@ fn data_length_of(bytes: &[u8]) -> Result<(u32, &[u8]), ImageFault>
     Ok((data_bytes, rest))
 }
 
-/// How many bytes of data version 1 has, or how many regions version 2 has.
+/// How many bytes of data version 1 has, or how many regions versions 2 and 3 have.
 #[tactic(auto, unfolding(crate::specs::Reading::data_count_at))]
 fn data_count_of(version: u16, bytes: &[u8]) -> Result<(u32, &[u8]), ImageFault>
     ensures reads { Gives (λ x. (x.0, x.1.now)) result (data_count_at version bytes.now) }
@@ -445,11 +468,12 @@ impl Readable for Shape {
 
     ghost at = { λ pages bytes. (pages, bytes) };
 
-    ghost item_at = { λ _. shape_at };
+    ghost item_at = { λ _ _. shape_at };
 
     #[tactic(auto, unfolding(crate::specs::Reading::shape_at))]
     fn read(
         _alloc: Global,
+        _version: u16,
         _end: u32,
         pages: u16,
         bytes: &[u8],
@@ -481,7 +505,7 @@ fn shape_of(alloc: Global, count: u32) -> Result<Vec<Shape>, AllocError>
     Ok(shapes)
 }
 
-/// The regions' lengths and kinds, which version 2 has behind its header.
+/// The regions' lengths and kinds, which versions 2 and 3 have behind the header.
 #[tactic(auto, unfolding(crate::specs::Reading::shapes_at))]
 pub fn shapes_of(
     alloc: Global,
@@ -494,7 +518,7 @@ pub fn shapes_of(
     if header.version == 1 {
         return Ok((shape_of(alloc, header.data_count)?, bytes));
     }
-    let (shapes, (_, rest)) = items_of(alloc, 0, header.data_count, 0, bytes)?;
+    let (shapes, (_, rest)) = items_of(alloc, 0, 0, header.data_count, 0, bytes)?;
     Ok((shapes, rest))
 }
 
@@ -537,11 +561,12 @@ fn parts_of(alloc: Global, bytes: &[u8]) -> Result<(Parts, &[u8]), ImageFault>
 {
     let (header, rest) = header_of(bytes)?;
     let (shapes, rest) = shapes_of(alloc, header, rest)?;
+    let version = header.version;
     let end = CODE_START + 4 * header.words;
     let first = (Next::Exactly(CODE_START), 0);
-    let (words, ((), rest)) = items_of(alloc, end, header.words, (), rest)?;
+    let (words, ((), rest)) = items_of(alloc, version, end, header.words, (), rest)?;
     let (regions, rest) = regions_of(alloc, shapes.as_slice(), rest)?;
-    let (functions, (_, rest)) = items_of(alloc, end, header.functions as u32, first, rest)?;
+    let (functions, (_, rest)) = items_of(alloc, version, end, header.functions as u32, first, rest)?;
     let parts = Parts {
         version: header.version,
         services: header.services,

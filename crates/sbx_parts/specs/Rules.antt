@@ -97,14 +97,19 @@ Place = Next × ℕ
 abbrev pub ranges_keep : List Range → Result (Unit {0}) ImageFault
 ranges_keep rs = each (λ _ r. range_keeps r) tt rs
 
-unfoldable pub function_keeps : ℕ → Place → Function → Result Place ImageFault
-function_keeps end place f = do
+-- how many frames calls push at one time: version 3 alone tells it
+abbrev pub is_depth : ℕ → ℕ → Bool
+is_depth version depth = if version == 3 then nat_le depth 256 else depth == 0
+
+unfoldable pub function_keeps : ℕ → ℕ → Place → Function → Result Place ImageFault
+function_keeps version end place f = do
   _ ← wants (between 0 6 (length f.params)) fault.Limit
   _ ← wants (between 0 6 (length f.results)) fault.Limit
   _ ← wants (admits end place.0 f.entry) fault.Order
   _ ← wants (between 0 4096 f.frame) fault.Limit
   _ ← wants (between 0 65536 f.stack_room) fault.Limit
   _ ← wants (between 0 1099511627775 f.budget) fault.Limit
+  _ ← wants (is_depth version f.depth) fault.Limit
   _ ← wants (between 1 (4096 - place.1) (length f.blocks)) fault.Limit
   _ ← ranges_keep f.params
   _ ← ranges_keep f.results
@@ -117,7 +122,7 @@ is_known services = bit_and services 7 == services
 
 -- the versions that are known
 abbrev pub is_version : ℕ → Bool
-is_version n = between 1 2 n
+is_version n = between 1 3 n
 
 -- whole double words
 abbrev pub is_data_length : ℕ → Bool
@@ -129,7 +134,7 @@ is_one_region [] = true
 is_one_region (r ∷ []) = r.writable && (nat_lt 0 (length r.bytes) && is_data_length (length r.bytes))
 is_one_region (r ∷ s ∷ rest) = false
 
--- the regions where their bytes or they themselves are counted: version 2 has up to 8
+-- the regions where their bytes or they themselves are counted: versions 2 and 3 have up to 8
 abbrev pub is_data : ℕ → List Region → Bool
 is_data version regions = if version == 1 then is_one_region regions else nat_le (length regions) 8
 
@@ -152,5 +157,5 @@ parts_keep p = do
   _ ← wants (between 1 16 p.stack_pages) fault.Limit
   _ ← wants (between 1 256 (length p.functions)) fault.Limit
   _ ← each region_keeps 0 p.regions
-  _ ← each (function_keeps (code_start + 4 * length p.words)) (Exactly code_start, 0) p.functions
+  _ ← each (function_keeps p.version (code_start + 4 * length p.words)) (Exactly code_start, 0) p.functions
   Ok tt

@@ -30,6 +30,7 @@ pub record IsTypedBlock (b : Block) : Type 0 where
 
 pub record IsTypedFunction (f : Function) : Type 0 where
   pub entry : f.entry < 2 ^ 32
+  pub depth : f.depth < 2 ^ 16
   pub params : AllByRecursion IsTypedRange f.params
   pub results : AllByRecursion IsTypedRange f.results
   pub blocks : AllByRecursion IsTypedBlock f.blocks

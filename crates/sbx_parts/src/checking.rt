@@ -2,7 +2,7 @@
 ghost use Rattle.std.specs.Prelude.{◌≡◌, ◌≤◌, ◌+◌, ◌-◌, true, false, MatchResult, IfOk};
 ghost use Rattle.sbx_parts.specs.declared.order.Next.TheVariants.{Exactly};
 ghost use Rattle.sbx_parts.specs.declared.fault.ImageFault.TheVariants as fault;
-ghost use Rattle.sbx_parts.specs.Rules.{wants, between, range_keeps, location_keeps, cell_keeps, term_keeps, block_keeps, function_keeps, parts_keep, is_data, is_one_region, region_keeps, is_known, is_version, each, code_start};
+ghost use Rattle.sbx_parts.specs.Rules.{wants, between, range_keeps, location_keeps, cell_keeps, term_keeps, block_keeps, function_keeps, parts_keep, is_data, is_one_region, region_keeps, is_known, is_version, is_depth, each, code_start};
 
 use crate::fault::ImageFault;
 use crate::lists::{Checked, check_each};
@@ -31,11 +31,11 @@ fn is_known(services: Services) -> bool
     services.0 & 7 == services.0
 }
 
-/// Whether the version is one that is known: 1 or 2.
+/// Whether the version is one that is known: 1 to 3.
 fn is_version(version: u16) -> bool
     ensures { result ≡ is_version version }
 {
-    between(1, 2, version as u64)
+    between(1, 3, version as u64)
 }
 
 /// Whether regions are data of version 1: none, or one that has whole double words, up to 262,144 bytes, and may be written.
@@ -52,7 +52,7 @@ fn is_one_region(regions: &[Region]) -> bool
     }
 }
 
-/// Whether a version may have the regions, where they are counted: version 2 has up to 8.
+/// Whether a version may have the regions, where they are counted: versions 2 and 3 have up to 8.
 fn is_data(version: u16, regions: &[Region]) -> bool
     ensures { result ≡ is_data version regions.now }
 {
@@ -60,6 +60,17 @@ fn is_data(version: u16, regions: &[Region]) -> bool
         is_one_region(regions)
     } else {
         regions.len() <= 8
+    }
+}
+
+/// Whether a function of a version may have the depth, which version 3 alone tells.
+fn is_depth(version: u16, depth: u16) -> bool
+    ensures { result ≡ is_depth version depth }
+{
+    if version == 3 {
+        depth <= 256
+    } else {
+        depth == 0
     }
 }
 
@@ -86,10 +97,10 @@ fn check_count(before: u16, count: usize) -> Result<u16, ImageFault>
 impl Checked for Region {
     type State = u16;
 
-    ghost keeps = { λ _. region_keeps };
+    ghost keeps = { λ _ _. region_keeps };
 
     #[tactic(auto, unfolding(crate::specs::Rules::region_keeps))]
-    fn check(&self, _end: u32, pages: u16) -> Result<u16, ImageFault> {
+    fn check(&self, _version: u16, _end: u32, pages: u16) -> Result<u16, ImageFault> {
         let count = self.bytes.len();
         wants(is_length_behind(pages, count), ImageFault::Limit)?;
         Ok(pages + pages_for(count) as u16)
@@ -99,10 +110,10 @@ impl Checked for Region {
 impl Checked for Range {
     type State = ();
 
-    ghost keeps = { λ _ _ range. range_keeps range };
+    ghost keeps = { λ _ _ _ range. range_keeps range };
 
     #[tactic(auto, unfolding(crate::specs::Rules::range_keeps))]
-    fn check(&self, _end: u32, _state: ()) -> Result<(), ImageFault> {
+    fn check(&self, _version: u16, _end: u32, _state: ()) -> Result<(), ImageFault> {
         if self.hi < self.lo {
             return Err(ImageFault::Range);
         }
@@ -113,12 +124,12 @@ impl Checked for Range {
 impl Checked for Cell {
     type State = u16;
 
-    ghost keeps = { λ _. cell_keeps };
+    ghost keeps = { λ _ _. cell_keeps };
 
     #[tactic(auto, unfolding(crate::specs::Rules::cell_keeps))]
-    fn check(&self, end: u32, last: u16) -> Result<u16, ImageFault> {
+    fn check(&self, version: u16, end: u32, last: u16) -> Result<u16, ImageFault> {
         check_location(last, self.location)?;
-        self.range.check(end, ())?;
+        self.range.check(version, end, ())?;
         Ok(self.location)
     }
 }
@@ -126,10 +137,10 @@ impl Checked for Cell {
 impl Checked for Term {
     type State = u16;
 
-    ghost keeps = { λ _. term_keeps };
+    ghost keeps = { λ _ _. term_keeps };
 
     #[tactic(auto, unfolding(crate::specs::Rules::term_keeps))]
-    fn check(&self, _end: u32, last: u16) -> Result<u16, ImageFault> {
+    fn check(&self, _version: u16, _end: u32, last: u16) -> Result<u16, ImageFault> {
         check_location(last, self.location)?;
         wants(is_coefficient(self.coefficient), ImageFault::Limit)?;
         Ok(self.location)
@@ -139,18 +150,18 @@ impl Checked for Term {
 impl Checked for Block {
     type State = Next;
 
-    ghost keeps = { block_keeps };
+    ghost keeps = { λ _. block_keeps };
 
     #[tactic(auto, unfolding(crate::specs::Rules::block_keeps))]
-    fn check(&self, end: u32, next: Next) -> Result<Next, ImageFault> {
+    fn check(&self, version: u16, end: u32, next: Next) -> Result<Next, ImageFault> {
         let cells = self.cells.as_slice();
         let terms = self.terms.as_slice();
         wants(admits(end, next, self.address), ImageFault::Order)?;
         wants(between(0, 64, cells.len() as u64), ImageFault::Limit)?;
         wants(between(0, 8, terms.len() as u64), ImageFault::Limit)?;
         wants(is_fuel(self.fuel), ImageFault::Limit)?;
-        check_each(end, 0, cells)?;
-        check_each(end, 0, terms)?;
+        check_each(version, end, 0, cells)?;
+        check_each(version, end, 0, terms)?;
         Ok(Next::Above(self.address))
     }
 }
@@ -161,7 +172,7 @@ impl Checked for Function {
     ghost keeps = { function_keeps };
 
     #[tactic(auto, unfolding(crate::specs::Rules::function_keeps))]
-    fn check(&self, end: u32, place: (Next, u16)) -> Result<(Next, u16), ImageFault> {
+    fn check(&self, version: u16, end: u32, place: (Next, u16)) -> Result<(Next, u16), ImageFault> {
         let params = self.params.as_slice();
         let results = self.results.as_slice();
         let blocks = self.blocks.as_slice();
@@ -171,18 +182,19 @@ impl Checked for Function {
         wants(between(0, 4096, self.frame as u64), ImageFault::Limit)?;
         wants(between(0, 65536, self.stack_room as u64), ImageFault::Limit)?;
         wants(between(0, 0xFF_FFFF_FFFF, self.budget), ImageFault::Limit)?;
+        wants(is_depth(version, self.depth), ImageFault::Limit)?;
         let count = check_count(place.1, blocks.len())?;
-        check_each(end, (), params)?;
-        check_each(end, (), results)?;
-        let next = check_each(end, Next::Exactly(self.entry), blocks)?;
+        check_each(version, end, (), params)?;
+        check_each(version, end, (), results)?;
+        let next = check_each(version, end, Next::Exactly(self.entry), blocks)?;
         Ok((next, place.1 + count))
     }
 }
 
-fn check_functions(end: u32, functions: &[Function]) -> Result<(Next, u16), ImageFault>
-    ensures { result ≡ each (function_keeps end) (Exactly code_start, 0) functions.now }
+fn check_functions(version: u16, end: u32, functions: &[Function]) -> Result<(Next, u16), ImageFault>
+    ensures { result ≡ each (function_keeps version end) (Exactly code_start, 0) functions.now }
 {
-    check_each(end, (Next::Exactly(CODE_START), 0), functions)
+    check_each(version, end, (Next::Exactly(CODE_START), 0), functions)
 }
 
 impl Parts {
@@ -204,8 +216,8 @@ impl Parts {
             ImageFault::Limit,
         )?;
         let end = CODE_START + 4 * count as u32;
-        check_each(end, 0, regions)?;
-        check_functions(end, self.functions.as_slice())?;
+        check_each(self.version, end, 0, regions)?;
+        check_functions(self.version, end, self.functions.as_slice())?;
         Ok(())
     }
 }

@@ -47,6 +47,7 @@ impl Typed for Function {
 
     fn fits(&self) {
         let _entry = self.entry;
+        let _depth = self.depth;
         each_fits(self.params.as_slice());
         each_fits(self.results.as_slice());
         each_fits(self.blocks.as_slice());
