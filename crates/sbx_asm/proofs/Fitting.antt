@@ -48,7 +48,7 @@ use Rattle.sbx_asm.specs.declared.draft.Draft.{Draft}
 use Rattle.sbx_asm.specs.Stages.Places.{code_end, has_room, moved_on, directed, place_after}
 use Rattle.sbx_asm.specs.Rules.{Values, is_code}
 use Rattle.sbx_asm.specs.Stages.Labels.{Labels}
-use Rattle.sbx_asm.specs.Stages.Drafts.{block_of, function_of, noted_where, told_empty, with_block, close_block, with_function, close_headed, close_function, counted, fresh_block, open_block, headed, begin_function, begin_block_of, begin_block, malformed, takes_ranges, takes_annotations, param_if, add_param, result_if, add_result, cell_if, add_cell, term_if, add_term, fuel_if, fuel_by, add_fuel, services_by, add_services, stack_by, add_stack, leave_region, close_region, choose_data, begin_region, with_bytes, closed, data_checked, with_data, with_zeros, add_values, add_zeros, instruction_checked, with_words, directive_does, instruction_does, statement_does, behind_labels, draft_tokens, numbered_line, draft_line, empty_draft}
+use Rattle.sbx_asm.specs.Stages.Drafts.{block_of, function_of, noted_where, told_empty, with_block, close_block, with_function, close_headed, close_function, counted, fresh_block, open_block, headed, begin_function, begin_block_of, begin_block, malformed, takes_ranges, takes_annotations, param_if, add_param, result_if, add_result, depth_by, add_depth, cell_if, add_cell, term_if, add_term, fuel_if, fuel_by, add_fuel, services_by, add_services, stack_by, add_stack, leave_region, close_region, choose_data, begin_region, with_bytes, closed, data_checked, with_data, with_zeros, add_values, add_zeros, instruction_checked, with_words, directive_does, instruction_does, statement_does, behind_labels, draft_tokens, numbered_line, draft_line, empty_draft}
 use Rattle.sbx_asm.specs.Lines.{lines_of}
 use Rattle.sbx_asm.specs.Items.{all_lines}
 use Rattle.sbx_asm.specs.Images.{filled, region_with, version_with}
@@ -219,6 +219,15 @@ add_result_fits r d fits h = by (takes_ranges d.function d.block)
     by true = (h.0, record { head = h.1.head; params = h.1.params; results = append_all IsTypedRange d.function.results (r ∷ []) h.1.results (fits, tt); blocks = h.1.blocks }, h.2)
     by false = h
 
+add_depth_fits : (n : ℕ) (d : Draft) → DraftFits d → DraftFits (add_depth n d)
+unfolding add_depth
+add_depth_fits n d h = by d.function.head d.function.depth
+  where
+    by : (o : Option Head) (m : Option ℕ) → DraftFits (depth_by o m n d)
+    by (Some x) (Some y) = h
+    by (Some x) None = h
+    by None m = h
+
 add_cell_fits : (c : Cell) (d : Draft) → IsTypedCell c → DraftFits d → DraftFits (add_cell c d)
 unfolding add_cell
 add_cell_fits c d fits h = by (takes_annotations d.function d.block)
@@ -353,6 +362,7 @@ module _ (values : Values) (line : List ℕ) (ts : List Token) where
   directive_fits (directives.Function name kind frame room budget) d fits h = begin_function_fits kind frame room budget d h
   directive_fits (directives.Param r) d fits h = add_param_fits r d fits h
   directive_fits (directives.Result r) d fits h = add_result_fits r d fits h
+  directive_fits (directives.Depth n) d fits h = add_depth_fits n d h
   directive_fits (directives.Block name) d fits h = begin_block_fits d h
   directive_fits (directives.Cell c) d fits h = add_cell_fits c d fits h
   directive_fits (directives.Fuel z) d fits h = add_fuel_fits z d fits h
@@ -414,13 +424,14 @@ some_services : (o : Option Services) → IfSome o HasBits → HasBits (unwrap_o
 some_services (Some x) h = h
 some_services None h = omega arith
 
-version_fits : (regions : Bool) → version_with regions < 2 ^ 16
-version_fits true = omega arith
-version_fits false = omega arith
+version_fits : (depths regions : Bool) → version_with depths regions < 2 ^ 16
+version_fits true regions = omega arith
+version_fits false true = omega arith
+version_fits false false = omega arith
 
 parts_fit : (d : Draft) → DraftFits d → PartsFit (parts_in d)
 unfolding parts_in
-parts_fit d h = record { version = version_fits d.region.has_region; services = some_services d.services h.0.services; words = h.0.words; regions = h.0.regions; functions = h.0.functions }
+parts_fit d h = record { version = version_fits d.has_depth d.region.has_region; services = some_services d.services h.0.services; words = h.0.words; regions = h.0.regions; functions = h.0.functions }
 
 closed_fits : (d : Draft) → DraftFits d → DraftFits (closed d)
 closed_fits d h = close_function_fits (close_region d) (close_region_fits d h)

@@ -124,6 +124,7 @@ directive_fits line keywords.Stack os = then_any Fits (numbered 1 16 os) _ (λ _
 directive_fits line keywords.Function os = function_fits line os
 directive_fits line keywords.Param os = then_all IsTypedRange Fits (ranged os) _ (ranged_fits os) (λ r h. h)
 directive_fits line keywords.Result os = then_all IsTypedRange Fits (ranged os) _ (ranged_fits os) (λ r h. h)
+directive_fits line keywords.Depth os = then_any Fits (numbered 0 256 os) _ (λ _. tt)
 directive_fits line keywords.Block os = then_any Fits (one os >>= plain_name) _ (λ _. tt)
 directive_fits line keywords.Cell os = cell_fits line os
 directive_fits line keywords.Fuel os = fuel_fits os
