@@ -131,15 +131,21 @@ fn bare_depths(rt: HostRuntime) -> Result<(), Fail> {
 }
 
 /// The bytes of an image by the format's fields: the header, the word, the function with its depth, and its block.
-const WHOLE: &str = "534258380003000000000001000000010001\
-01000000000000000004000000000000000000000000000000000001\
-000500010004000000000000\
-0000000000000000";
+static WHOLE: [&str; 4] = [
+    "534258380003000000000001000000010001",
+    "01000000",
+    "00000000000400000000000000000000000000000000000100050001",
+    "00040000000000000000000000000000",
+];
 
 #[test]
 fn writes_depths(rt: HostRuntime) -> Result<(), Fail> {
+    let mut wanted = String::new(rt.alloc());
+    for piece in &WHOLE {
+        wanted.push_str(piece)?;
+    }
     let found = written(rt.alloc(), ".function f,leaf,0,0,1\n.depth 5\n nop")?;
-    same(&rt, "whole", &found, WHOLE);
+    same(&rt, "whole", &found, &wanted);
     Ok(())
 }
 
@@ -152,6 +158,10 @@ fn chain(alloc: Global) -> Result<String, AllocError> {
     for number in 0..CHAIN {
         write!(text, ".function f{number},framed,96,96,9\n")?;
         write!(text, ".depth {}\n save %sp,-96,%sp\n", CHAIN - number)?;
+        if number + 1 < CHAIN {
+            write!(text, " call f{}\n nop\n", number + 1)?;
+        }
+        text.push_str(" ret\n restore\n")?;
     }
     Ok(text)
 }
