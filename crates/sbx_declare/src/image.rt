@@ -158,11 +158,7 @@ fn push_function(
 }
 
 /// The functions of an image of that version.
-fn push_functions(
-    out: &mut String,
-    version: u16,
-    functions: &[Function],
-) -> Result<(), AllocError>
+fn push_functions(out: &mut String, version: u16, functions: &[Function]) -> Result<(), AllocError>
     ensures { OnOk result (string_bytes out.new ≡ string_bytes out.old ++ functions_text version functions.now) }
 {
     let mut number = 0;

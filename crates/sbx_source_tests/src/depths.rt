@@ -75,7 +75,10 @@ static INSIDE: [(&str, &str); 27] = [
         ".depth 2\n nop\n.function g,leaf,0,0,1\n.depth 2\n nop",
         "version 3, depths 2 2, regions",
     ),
-    (".data\n.depth 1\n.text\n nop", "version 3, depths 1, regions"),
+    (
+        ".data\n.depth 1\n.text\n nop",
+        "version 3, depths 1, regions",
+    ),
     (
         ".depth 1\n nop\n.data\n.byte 1",
         "version 3, depths 1, regions rw 8",
@@ -115,10 +118,7 @@ fn depths(rt: HostRuntime) -> Result<(), Fail> {
 static BARE: [(&str, &str); 3] = [
     (".depth 1", "line 1: A4"),
     (".depth 257", "line 1: A2"),
-    (
-        ".function f,leaf,0,0\n.depth 1\n nop",
-        "line 1: A2",
-    ),
+    (".function f,leaf,0,0\n.depth 1\n nop", "line 1: A2"),
 ];
 
 #[test]
