@@ -1,6 +1,6 @@
 -- What the stages make of lines without faults is the image of the lines.
 use Rattle.std.proofs.Common.{◌≡◌, ℕ, ◌*◌, Bool, true, false, cond, ℤ, pos, List, [], ◌∷◌, ◌++◌, length, map, Option, None, Some, Result, Ok, Err, refl, sym, ap, ◌∙◌, append_assoc}
-use Rattle.std.specs.Prelude.{not, ◌||◌, nat_lt, nat_le, replicate}
+use Rattle.std.specs.Prelude.{not, ◌&&◌, ◌||◌, nat_lt, nat_le, replicate}
 use Rattle.std.specs.Option.{is_some, unwrap_or}
 use Rattle.std.specs.List.{fold, list_any, flat_map}
 use Rattle.std.proofs.lemmas.List.{append-nil}
