@@ -3,7 +3,7 @@ use Rattle.std.proofs.Common.{◌≡◌, ℕ, suc, ◌+◌, ◌-◌, ◌*◌, �
 use Rattle.std.specs.Prelude.{Bool, false, ◌==◌, if◌then◌else◌}
 use Rattle.std.specs.Int.{w8, w16, w32, w64, to_be_bytes}
 use Rattle.std.specs.List.{flat_map, AllByRecursion}
-use Rattle.std.proofs.lemmas.Bool.{leb-true, le-leb}
+use Rattle.std.proofs.lemmas.Bool.{eqb-true, leb-true, le-leb}
 use Rattle.std.proofs.lemmas.List.{append-nil}
 use Rattle.std.proofs.lemmas.List.Concat.{flat_map-cons}
 use Rattle.sbx_parts.specs.declared.fault.ImageFault.{ImageFault}
@@ -32,7 +32,7 @@ use Rattle.sbx_parts.specs.Regions.{byte_count, pages_for}
 use Rattle.sbx_image.proofs.DataLaws.{both_are, count_keeps, one_again}
 use Rattle.sbx_image.proofs.RegionLaws.{shape_code, shape_keeps, shapes_of, shapes_spelled}
 use Rattle.sbx_image.proofs.Fields.{bind_ok, wanted, both_true, ok_is, wants_true, number_reads, number_in_reads, signed_reads, bytes_again, wide8, wide16, wide32, wide64, signed32, signed64}
-use Rattle.sbx_image.proofs.TakesLaws.{head_text, HeadKeeps, counts_text, data_keeps, data_of, data_text, HeaderKeeps, lengths_at}
+use Rattle.sbx_image.proofs.TakesLaws.{depth_code, depth_keeps, head_text, HeadKeeps, counts_text, data_keeps, data_of, data_text, HeaderKeeps, lengths_at}
 use Rattle.sbx_parts.proofs.Limits.{range_kept, location_kept, cell_kept, term_kept, block_kept, function_kept, parts_kept}
 
 -- a step that gives what is known, and then the rest
@@ -148,32 +148,43 @@ bounds_read h rest frame stack_room budget =
     (then_is _ _ _ _ (number_in_reads w32 (2 ^ 32) wide32 0 65536 fault.Limit h.stack_room r1 r2 refl (lit< tt) stack_room)
     (then_is _ _ _ _ (number_in_reads w64 (2 ^ 64) wide64 0 1099511627775 fault.Limit h.budget r2 rest refl (lit< tt) budget) refl))
 
-function_head_reads : (end : ℕ) (place : Place) (h : FunctionHead) (bytes rest : List ℕ) → bytes ≡ head_text h ++ rest → h.entry < 2 ^ 32 → HeadKeeps end place h → function_head_at end place bytes ≡ Ok (h, rest)
+zero_again : (n : ℕ) → (n == 0) ≡ true → 0 ≡ n
+zero_again n e = sym (eqb-true n 0 e)
+
+depth_reads : (told : Bool) (n : ℕ) (rest : List ℕ) → depth_keeps told n ≡ true → (if told then number_in w16 0 256 fault.Limit (depth_code told n ++ rest) else Ok (0, depth_code told n ++ rest)) ≡ Ok (n, rest)
+depth_reads true n rest keeps = number_in_reads w16 (2 ^ 16) wide16 0 256 fault.Limit n (to_be_bytes w16 n ++ rest) rest refl (lit< tt) (both_are (leb 0 n) (leb n 256) (le-leb 0 n (omega arith)) keeps)
+depth_reads false n rest keeps = ap (λ (m : ℕ). Ok (m, rest)) (zero_again n keeps)
+
+function_head_reads : (version end : ℕ) (place : Place) (h : FunctionHead) (bytes rest : List ℕ) → bytes ≡ head_text version h ++ rest → h.entry < 2 ^ 32 → HeadKeeps version end place h → function_head_at version end place bytes ≡ Ok (h, rest)
 unfolding function_head_at
-function_head_reads end place h bytes rest b entry k =
+function_head_reads version end place h bytes rest b entry k =
     let counts : Counts = record { kind = h.kind; params = h.params; results = h.results } in
     let bounds : Bounds = record { frame = h.frame; stack_room = h.stack_room; budget = h.budget } in
-    let r3 = to_be_bytes w16 h.blocks ++ rest in
+    let r4 = to_be_bytes w16 h.blocks ++ rest in
+    let r3 = depth_code (version == 3) h.depth ++ r4 in
     let r2 = to_be_bytes w32 h.frame ++ (to_be_bytes w32 h.stack_room ++ (to_be_bytes w64 h.budget ++ r3)) in
     let r1 = to_be_bytes w32 h.entry ++ r2 in
-    then_is _ _ _ _ (counts_read counts bytes r1 b k.params k.results)
+    let in_turn : bytes ≡ to_be_bytes w8 (kind_code h.kind) ++ (to_be_bytes w8 h.params ++ (to_be_bytes w8 h.results ++ (to_be_bytes w8 0 ++ r1)))
+    = b ∙ ap (λ (t : List ℕ). to_be_bytes w8 (kind_code h.kind) ++ (to_be_bytes w8 h.params ++ (to_be_bytes w8 h.results ++ (to_be_bytes w8 0 ++ (to_be_bytes w32 h.entry ++ (to_be_bytes w32 h.frame ++ (to_be_bytes w32 h.stack_room ++ (to_be_bytes w64 h.budget ++ t)))))))) (append_assoc (depth_code (version == 3) h.depth) (to_be_bytes w16 h.blocks) rest) in
+    then_is _ _ _ _ (counts_read counts bytes r1 in_turn k.params k.results)
     (then_is _ _ _ _ (number_reads w32 (2 ^ 32) wide32 h.entry r1 r2 refl entry)
     (then_is _ _ _ _ (wants_true _ fault.Order k.entry)
     (then_is _ _ _ _ (bounds_read bounds r3 k.frame k.stack_room k.budget)
-    (then_is _ _ _ _ (number_in_reads w16 (2 ^ 16) wide16 1 (4096 - place.1) fault.Limit h.blocks r3 rest refl (omega arith) k.blocks) refl))))
+    (then_is _ _ _ _ (depth_reads (version == 3) h.depth r4 k.depth)
+    (then_is _ _ _ _ (number_in_reads w16 (2 ^ 16) wide16 1 (4096 - place.1) fault.Limit h.blocks r4 rest refl (omega arith) k.blocks) refl)))))
 
-function_reads : (end : ℕ) (place : Place) (f : Function) (state : Place) (rest : List ℕ) → IsTypedFunction f → function_keeps end place f ≡ Ok state → function_at end (place, function_text f ++ rest) ≡ Ok (f, (state, rest))
+function_reads : (version end : ℕ) (place : Place) (f : Function) (state : Place) (rest : List ℕ) → IsTypedFunction f → function_keeps version end place f ≡ Ok state → function_at version end (place, function_text version f ++ rest) ≡ Ok (f, (state, rest))
 unfolding function_at function_head_text function_text
-function_reads end place f state rest typed e =
-    let k = function_kept end place f state e in
-    let head : FunctionHead = record { kind = f.kind; params = length f.params; results = length f.results; entry = f.entry; frame = f.frame; stack_room = f.stack_room; budget = f.budget; blocks = length f.blocks } in
+function_reads version end place f state rest typed e =
+    let k = function_kept version end place f state e in
+    let head : FunctionHead = record { kind = f.kind; params = length f.params; results = length f.results; entry = f.entry; frame = f.frame; stack_room = f.stack_room; budget = f.budget; depth = f.depth; blocks = length f.blocks } in
     let params = flat_map range_text f.params in
     let results = flat_map range_text f.results in
     let blocks = flat_map block_text f.blocks in
-    let grouped : function_text f ++ rest ≡ head_text head ++ (params ++ (results ++ (blocks ++ rest))) = unnest4 (head_text head) params results blocks rest in
-    let keeps : HeadKeeps end place head = record { params = k.param_count; results = k.result_count; entry = k.entry; frame = k.frame; stack_room = k.stack_room; budget = k.budget; blocks = k.block_count } in
+    let grouped : function_text version f ++ rest ≡ head_text version head ++ (params ++ (results ++ (blocks ++ rest))) = unnest4 (head_text version head) params results blocks rest in
+    let keeps : HeadKeeps version end place head = record { params = k.param_count; results = k.result_count; entry = k.entry; frame = k.frame; stack_room = k.stack_room; budget = k.budget; depth = k.depth; blocks = k.block_count } in
     let same : (k.next, place.1 + length f.blocks) ≡ state = ap (λ (n : Next). (n, place.1 + length f.blocks)) k.next_is ∙ ap (λ (m : ℕ). (state.0, m)) k.blocks_is in
-    then_is _ _ _ _ (function_head_reads end place head (function_text f ++ rest) (params ++ (results ++ (blocks ++ rest))) grouped typed.entry keeps)
+    then_is _ _ _ _ (function_head_reads version end place head (function_text version f ++ rest) (params ++ (results ++ (blocks ++ rest))) grouped typed.entry keeps)
     (then_is _ _ _ _ (items_read range_at (λ _ y. y) (λ _ r. range_keeps r) range_text IsTypedRange (λ _ r _ y t g. range_reads r y t g) f.params tt tt (results ++ (blocks ++ rest)) typed.params k.params)
     (then_is _ _ _ _ (items_read range_at (λ _ y. y) (λ _ r. range_keeps r) range_text IsTypedRange (λ _ r _ y t g. range_reads r y t g) f.results tt tt (blocks ++ rest) typed.results k.results)
     (then_is _ _ _ _ (items_read (block_at end) (λ s y. (s, y)) (block_keeps end) block_text IsTypedBlock (block_reads end) f.blocks (Exactly f.entry) k.next rest typed.blocks k.blocks)
@@ -294,7 +305,7 @@ parts_read p rest typed e =
     let header : Header = record { version = p.version; services = p.services; words = length p.words; data_count = if one then byte_count p.regions else length p.regions; stack_pages = p.stack_pages; functions = length p.functions } in
     let shapes = if one then [] else flat_map shape_text p.regions in
     let words = flat_map (to_be_bytes w32) p.words in
-    let functions = flat_map function_text p.functions in
+    let functions = flat_map (function_text p.version) p.functions in
     let bytes = flat_map region_text p.regions in
     let end = code_start + 4 * length p.words in
     let behind = words ++ (bytes ++ (functions ++ rest)) in
@@ -305,7 +316,7 @@ parts_read p rest typed e =
     (then_is _ _ _ _ (shapes_read one p.regions k.last_pages behind k.regions k.lengths)
     (then_is _ _ _ _ (items_read (number_at w32) (λ _ y. y) any_word (to_be_bytes w32) (λ w. w < 2 ^ 32) (λ _ w _ y t _. word_reads w y t) p.words tt tt (bytes ++ (functions ++ rest)) typed.words (all_words p.words))
     (then_is _ _ _ _ (regions_again p.regions (functions ++ rest))
-    (then_is _ _ _ _ (items_read (function_at end) (λ s y. (s, y)) (function_keeps end) function_text IsTypedFunction (function_reads end) p.functions (Exactly code_start, 0) k.last rest typed.functions k.functions) refl))))
+    (then_is _ _ _ _ (items_read (function_at p.version end) (λ s y. (s, y)) (function_keeps p.version end) (function_text p.version) IsTypedFunction (function_reads p.version end) p.functions (Exactly code_start, 0) k.last rest typed.functions k.functions) refl))))
 
 pub reading_again : (p : Parts) → IsTyped p → parts_keep p ≡ Ok tt → reading (spelling p) ≡ Ok p
 unfolding reading

@@ -1,9 +1,9 @@
 -- What is read is spelled so, and keeps the rules: a law for each part of an image.
-use Rattle.std.proofs.Common.{◌≡◌, ℕ, zero, suc, ◌+◌, ◌-◌, ◌*◌, ◌^◌, ◌≤◌, true, cond, ltb, eqb, List, [], ◌∷◌, ◌++◌, length, Result, Ok, refl, sym, ap, subst, ◌∙◌, arith}
+use Rattle.std.proofs.Common.{◌≡◌, ℕ, zero, suc, ◌+◌, ◌-◌, ◌*◌, ◌^◌, ◌≤◌, true, cond, ltb, leb, eqb, List, [], ◌∷◌, ◌++◌, length, Result, Ok, refl, sym, ap, subst, ◌∙◌, arith}
 use Rattle.std.specs.Prelude.{Bool, false, ◌==◌, if◌then◌else◌}
 use Rattle.std.specs.Int.{w8, w16, w32, w64, to_be_bytes}
 use Rattle.std.specs.List.{flat_map}
-use Rattle.std.proofs.lemmas.Bool.{eqb-true}
+use Rattle.std.proofs.lemmas.Bool.{eqb-true, le-leb}
 use Rattle.std.proofs.lemmas.List.{append-nil, nil_from_length}
 use Rattle.std.proofs.lemmas.List.Concat.{flat_map-cons}
 use Rattle.sbx_parts.specs.declared.fault.ImageFault.{ImageFault}
@@ -25,7 +25,7 @@ use Rattle.sbx_parts.specs.declared.parts.Block.{Block}
 use Rattle.sbx_parts.specs.declared.parts.Function.{Function}
 use Rattle.sbx_parts.specs.declared.parts.Parts.{Parts}
 use Rattle.sbx_parts.specs.declared.services.Services.{Services}
-use Rattle.sbx_parts.specs.Rules.{◌>>=◌, between, each, Place, code_start, admits, is_fuel, is_coefficient, is_known, is_version, is_data_length, in_order, range_keeps, location_keeps, cell_keeps, term_keeps, block_keeps, function_keeps, parts_keep}
+use Rattle.sbx_parts.specs.Rules.{◌>>=◌, between, each, Place, code_start, admits, is_fuel, is_coefficient, is_known, is_version, is_depth, is_data_length, in_order, range_keeps, location_keeps, cell_keeps, term_keeps, block_keeps, function_keeps, parts_keep}
 use Rattle.sbx_image.specs.Reading.{number_at, number_in, items_at, range_at, location_at, cell_at, term_at, block_head_at, block_at, kind_at, counts_at, bounds_at, function_head_at, function_at, services_at, data_length_at, data_count_at, header_at, shape_at, shapes_at, shape_of, parts_at, reading}
 use Rattle.sbx_image.specs.Spelling.{IsBytes, signed, kind_code, range_text, region_text, cell_text, term_text, block_text, function_head_text, function_text, shape_text, data_count_text, shapes_text, header_text, spelling}
 use Rattle.sbx_parts.specs.declared.parts.Region.{Region}
@@ -145,17 +145,25 @@ block_takes end next bytes x fits e =
 
 -- ---- functions
 
--- what a head spells, before the lists that it counts
-abbrev pub head_text : FunctionHead → List ℕ
-head_text h = to_be_bytes w8 (kind_code h.kind) ++ to_be_bytes w8 h.params ++ to_be_bytes w8 h.results ++ to_be_bytes w8 0 ++ to_be_bytes w32 h.entry ++ to_be_bytes w32 h.frame ++ to_be_bytes w32 h.stack_room ++ to_be_bytes w64 h.budget ++ to_be_bytes w16 h.blocks
+-- how many frames calls push at one time, where the version tells it
+abbrev pub depth_code : Bool → ℕ → List ℕ
+depth_code told n = if told then to_be_bytes w16 n else []
 
-pub record HeadKeeps (end : ℕ) (place : Place) (h : FunctionHead) : Type 0 where
+abbrev pub depth_keeps : Bool → ℕ → Bool
+depth_keeps told n = if told then leb n 256 else n == 0
+
+-- what a head spells, before the lists that it counts
+abbrev pub head_text : ℕ → FunctionHead → List ℕ
+head_text version h = to_be_bytes w8 (kind_code h.kind) ++ to_be_bytes w8 h.params ++ to_be_bytes w8 h.results ++ to_be_bytes w8 0 ++ to_be_bytes w32 h.entry ++ to_be_bytes w32 h.frame ++ to_be_bytes w32 h.stack_room ++ to_be_bytes w64 h.budget ++ depth_code (version == 3) h.depth ++ to_be_bytes w16 h.blocks
+
+pub record HeadKeeps (version end : ℕ) (place : Place) (h : FunctionHead) : Type 0 where
   pub params : between 0 6 h.params ≡ true
   pub results : between 0 6 h.results ≡ true
   pub entry : admits end place.0 h.entry ≡ true
   pub frame : between 0 4096 h.frame ≡ true
   pub stack_room : between 0 65536 h.stack_room ≡ true
   pub budget : between 0 1099511627775 h.budget ≡ true
+  pub depth : is_depth version h.depth ≡ true
   pub blocks : between 1 (4096 - place.1) h.blocks ≡ true
 
 code_again : (n : ℕ) → between 0 1 n ≡ true → kind_code (cond (eqb n 0) Leaf Framed) ≡ n
@@ -216,47 +224,56 @@ bounds_take bytes before left x t e =
     × (between 0 4096 y.0.frame ≡ true) × (between 0 65536 y.0.stack_room ≡ true) × (between 0 1099511627775 y.0.budget ≡ true)) (ok_is made x budget.2)
     (whole, t0.1, t1.1, t2.1)
 
-pub function_head_takes : (end : ℕ) (place : Place) (bytes : List ℕ) (x : FunctionHead × List ℕ) → IsBytes bytes → function_head_at end place bytes ≡ Ok x
-    → Takes bytes (head_text x.0) x.1 × HeadKeeps end place x.0
+depth_takes : (told : Bool) (bytes : List ℕ) (x : ℕ × List ℕ) → IsBytes bytes → (if told then number_in w16 0 256 fault.Limit bytes else Ok (0, bytes)) ≡ Ok x → Takes bytes (depth_code told x.0) x.1 × (depth_keeps told x.0 ≡ true)
+depth_takes true bytes x fits e =
+    let t = number_in_takes w16 (2 ^ 16) wide16 0 256 fault.Limit bytes x fits e in
+    (t.0, le-leb _ _ (is_between 0 256 x.0 t.1).1)
+depth_takes false bytes x fits e =
+    subst (λ (y : ℕ × List ℕ). Takes bytes [] y.1 × ((y.0 == 0) ≡ true)) (ok_is (0, bytes) x e) (record { parts = refl; rest_fits = fits }, refl)
+
+pub function_head_takes : (version end : ℕ) (place : Place) (bytes : List ℕ) (x : FunctionHead × List ℕ) → IsBytes bytes → function_head_at version end place bytes ≡ Ok x
+    → Takes bytes (head_text version x.0) x.1 × HeadKeeps version end place x.0
 unfolding function_head_at
-function_head_takes end place bytes x fits e =
+function_head_takes version end place bytes x fits e =
     let counts = bind_ok _ _ _ e in
     let entry = bind_ok _ _ _ counts.2 in
     let admitted = wanted (admits end place.0 entry.0.0) fault.Order _ _ entry.2 in
     let bounds = bind_ok _ _ _ admitted.1 in
-    let blocks = bind_ok _ _ _ bounds.2 in
+    let depth = bind_ok _ _ _ bounds.2 in
+    let blocks = bind_ok _ _ _ depth.2 in
     let t0 = counts_takes bytes counts.0 fits counts.1 in
     let t1 = number_takes w32 (2 ^ 32) wide32 counts.0.1 entry.0 t0.0.rest_fits entry.1 in
     let t2 = bounds_take bytes _ entry.0.1 bounds.0 (Takes-then _ _ _ _ _ t0.0 t1.0) bounds.1 in
-    let t3 = number_in_takes w16 (2 ^ 16) wide16 1 (4096 - place.1) fault.Limit bounds.0.1 blocks.0 t2.0.rest_fits blocks.1 in
-    let whole = Takes-then _ _ _ _ _ t2.0 t3.0 in
-    let made : FunctionHead × List ℕ = (record { kind = counts.0.0.kind; params = counts.0.0.params; results = counts.0.0.results; entry = entry.0.0; frame = bounds.0.0.frame; stack_room = bounds.0.0.stack_room; budget = bounds.0.0.budget; blocks = blocks.0.0 }, blocks.0.1) in
-    subst (λ (y : FunctionHead × List ℕ). Takes bytes (head_text y.0) y.1 × HeadKeeps end place y.0) (ok_is made x blocks.2)
-    (whole, record { params = t0.1; results = t0.2; entry = admitted.0; frame = t2.1; stack_room = t2.2; budget = t2.3; blocks = t3.1 })
+    let t3 = depth_takes (version == 3) bounds.0.1 depth.0 t2.0.rest_fits depth.1 in
+    let t4 = number_in_takes w16 (2 ^ 16) wide16 1 (4096 - place.1) fault.Limit depth.0.1 blocks.0 t3.0.rest_fits blocks.1 in
+    let whole = Takes-then _ _ _ _ _ (Takes-then _ _ _ _ _ t2.0 t3.0) t4.0 in
+    let made : FunctionHead × List ℕ = (record { kind = counts.0.0.kind; params = counts.0.0.params; results = counts.0.0.results; entry = entry.0.0; frame = bounds.0.0.frame; stack_room = bounds.0.0.stack_room; budget = bounds.0.0.budget; depth = depth.0.0; blocks = blocks.0.0 }, blocks.0.1) in
+    subst (λ (y : FunctionHead × List ℕ). Takes bytes (head_text version y.0) y.1 × HeadKeeps version end place y.0) (ok_is made x blocks.2)
+    (whole, record { params = t0.1; results = t0.2; entry = admitted.0; frame = t2.1; stack_room = t2.2; budget = t2.3; depth = t3.1; blocks = t4.1 })
 
-function_takes : (end : ℕ) (place : Place) (bytes : List ℕ) (x : Function × (Place × List ℕ)) → IsBytes bytes → function_at end (place, bytes) ≡ Ok x → Takes bytes (function_text x.0) x.1.1 × (function_keeps end place x.0 ≡ Ok x.1.0)
+function_takes : (version end : ℕ) (place : Place) (bytes : List ℕ) (x : Function × (Place × List ℕ)) → IsBytes bytes → function_at version end (place, bytes) ≡ Ok x → Takes bytes (function_text version x.0) x.1.1 × (function_keeps version end place x.0 ≡ Ok x.1.0)
 unfolding function_at function_head_text function_text function_keeps
-function_takes end place bytes x fits e =
+function_takes version end place bytes x fits e =
     let head = bind_ok _ _ _ e in
     let params = bind_ok _ _ _ head.2 in
     let results = bind_ok _ _ _ params.2 in
     let blocks = bind_ok _ _ _ results.2 in
-    let h = function_head_takes end place bytes head.0 fits head.1 in
+    let h = function_head_takes version end place bytes head.0 fits head.1 in
     let p = items_take range_at (λ y. y) (λ _. tt) (λ _ r. range_keeps r) range_text (λ y z f k. range_takes y z f k) head.0.0.params head.0.1 params.0 h.0.rest_fits params.1 in
     let r = items_take range_at (λ y. y) (λ _. tt) (λ _ r. range_keeps r) range_text (λ y z f k. range_takes y z f k) head.0.0.results params.0.1 results.0 p.0.rest_fits results.1 in
     let b = items_take (block_at end) (λ y. y.1) (λ y. y.0) (block_keeps end) block_text (λ y z f k. block_takes end y.0 y.1 z f k) head.0.0.blocks (Exactly head.0.0.entry, results.0.1) blocks.0 r.0.rest_fits blocks.1 in
     let lists = Takes-then _ _ _ _ _ (Takes-then _ _ _ _ _ (Takes-then _ _ _ _ _ h.0 p.0) r.0) b.0 in
-    let counted : FunctionHead = record { kind = head.0.0.kind; params = length params.0.0; results = length results.0.0; entry = head.0.0.entry; frame = head.0.0.frame; stack_room = head.0.0.stack_room; budget = head.0.0.budget; blocks = length blocks.0.0 } in
+    let counted : FunctionHead = record { kind = head.0.0.kind; params = length params.0.0; results = length results.0.0; entry = head.0.0.entry; frame = head.0.0.frame; stack_room = head.0.0.stack_room; budget = head.0.0.budget; depth = head.0.0.depth; blocks = length blocks.0.0 } in
     let same : head.0.0 ≡ counted = rw (p.1, r.1, b.1) refl in
-    let whole = subst (λ (g : FunctionHead). Takes bytes (head_text g ++ flat_map range_text params.0.0 ++ flat_map range_text results.0.0 ++ flat_map block_text blocks.0.0) blocks.0.1.1) same lists in
-    let k : HeadKeeps end place counted = subst (HeadKeeps end place) same h.1 in
-    let made : Function × (Place × List ℕ) = (record { kind = head.0.0.kind; params = params.0.0; results = results.0.0; entry = head.0.0.entry; frame = head.0.0.frame; stack_room = head.0.0.stack_room; budget = head.0.0.budget; blocks = blocks.0.0 }, ((blocks.0.1.0, place.1 + head.0.0.blocks), blocks.0.1.1)) in
-    subst (λ (y : Function × (Place × List ℕ)). Takes bytes (function_text y.0) y.1.1 × (function_keeps end place y.0 ≡ Ok y.1.0)) (ok_is made x blocks.2)
-    (whole, rw (k.params, k.results, k.entry, k.frame, k.stack_room, k.budget, k.blocks, p.2, r.2, b.2) (ap (λ (n : ℕ). Ok (blocks.0.1.0, place.1 + n)) b.1))
+    let whole = subst (λ (g : FunctionHead). Takes bytes (head_text version g ++ flat_map range_text params.0.0 ++ flat_map range_text results.0.0 ++ flat_map block_text blocks.0.0) blocks.0.1.1) same lists in
+    let k : HeadKeeps version end place counted = subst (HeadKeeps version end place) same h.1 in
+    let made : Function × (Place × List ℕ) = (record { kind = head.0.0.kind; params = params.0.0; results = results.0.0; entry = head.0.0.entry; frame = head.0.0.frame; stack_room = head.0.0.stack_room; budget = head.0.0.budget; depth = head.0.0.depth; blocks = blocks.0.0 }, ((blocks.0.1.0, place.1 + head.0.0.blocks), blocks.0.1.1)) in
+    subst (λ (y : Function × (Place × List ℕ)). Takes bytes (function_text version y.0) y.1.1 × (function_keeps version end place y.0 ≡ Ok y.1.0)) (ok_is made x blocks.2)
+    (whole, rw (k.params, k.results, k.entry, k.frame, k.stack_room, k.budget, k.depth, k.blocks, p.2, r.2, b.2) (ap (λ (n : ℕ). Ok (blocks.0.1.0, place.1 + n)) b.1))
 
 -- ---- the whole
 
--- how many bytes of data version 1 has, or how many regions version 2 has
+-- how many bytes of data version 1 has, or how many regions versions 2 and 3 have
 abbrev pub data_text : Bool → ℕ → List ℕ
 data_text one n = if one then to_be_bytes w32 n else to_be_bytes w16 n
 
@@ -361,22 +378,23 @@ parts_take bytes x fits e =
     let regions = bind_ok _ _ _ words.2 in
     let functions = bind_ok _ _ _ regions.2 in
     let end = code_start + 4 * header.0.0.words in
-    let one = header.0.0.version == 1 in
+    let version : ℕ = header.0.0.version in
+    let one = version == 1 in
     let h = header_takes bytes header.0 fits header.1 in
     let s = shapes_take one header.0.0.data_count header.0.1 shapes.0 h.0.rest_fits shapes.1 in
     let w = items_take (number_at w32) (λ y. y) (λ _. tt) (λ _ _. Ok tt) (to_be_bytes w32) (λ y z f k. word_takes y z f k) header.0.0.words shapes.0.1 words.0 s.0.rest_fits words.1 in
     let d = regions_take shapes.0.0 words.0.1 regions.0 w.0.rest_fits regions.1 in
-    let f = items_take (function_at end) (λ y. y.1) (λ y. y.0) (function_keeps end) function_text (λ y z g k. function_takes end y.0 y.1 z g k) header.0.0.functions ((Exactly code_start, 0), regions.0.1) functions.0 d.0.rest_fits functions.1 in
+    let f = items_take (function_at version end) (λ y. y.1) (λ y. y.0) (function_keeps version end) (function_text version) (λ y z g k. function_takes version end y.0 y.1 z g k) header.0.0.functions ((Exactly code_start, 0), regions.0.1) functions.0 d.0.rest_fits functions.1 in
     let lists = Takes-then _ _ _ _ _ (Takes-then _ _ _ _ _ (Takes-then _ _ _ _ _ (Takes-then _ _ _ _ _ h.0 s.0) w.0) d.0) f.0 in
     let r = regions_read one header.0.0.data_count shapes.0.0 regions.0.0 s.1 d.1 h.1.data_count in
     let counted : Header = record { version = header.0.0.version; services = header.0.0.services; words = length words.0.0; data_count = if one then byte_count regions.0.0 else length regions.0.0; stack_pages = header.0.0.stack_pages; functions = length functions.0.0 } in
     let same : header.0.0 ≡ counted = rw (w.1, ← r.count, f.1) refl in
-    let whole = subst (λ (g : Header). Takes bytes (counts_text g ++ shapes_code one shapes.0.0 ++ flat_map (to_be_bytes w32) words.0.0 ++ flat_map region_text regions.0.0 ++ flat_map function_text functions.0.0) functions.0.1.1) same lists in
+    let whole = subst (λ (g : Header). Takes bytes (counts_text g ++ shapes_code one shapes.0.0 ++ flat_map (to_be_bytes w32) words.0.0 ++ flat_map region_text regions.0.0 ++ flat_map (function_text version) functions.0.0) functions.0.1.1) same lists in
     let k : HeaderKeeps counted = subst HeaderKeeps same h.1 in
-    let in_turn : each (function_keeps (code_start + 4 * length words.0.0)) (Exactly code_start, 0) functions.0.0 ≡ Ok functions.0.1.0 = subst (λ (n : ℕ). each (function_keeps (code_start + 4 * n)) (Exactly code_start, 0) functions.0.0 ≡ Ok functions.0.1.0) (sym w.1) f.2 in
-    let lengths = subst (λ (t : List ℕ). Takes bytes (counts_text counted ++ t ++ flat_map (to_be_bytes w32) words.0.0 ++ flat_map region_text regions.0.0 ++ flat_map function_text functions.0.0) functions.0.1.1) r.spelled whole in
+    let in_turn : each (function_keeps version (code_start + 4 * length words.0.0)) (Exactly code_start, 0) functions.0.0 ≡ Ok functions.0.1.0 = subst (λ (n : ℕ). each (function_keeps version (code_start + 4 * n)) (Exactly code_start, 0) functions.0.0 ≡ Ok functions.0.1.0) (sym w.1) f.2 in
+    let lengths = subst (λ (t : List ℕ). Takes bytes (counts_text counted ++ t ++ flat_map (to_be_bytes w32) words.0.0 ++ flat_map region_text regions.0.0 ++ flat_map (function_text version) functions.0.0) functions.0.1.1) r.spelled whole in
     let named = subst (λ (t : List ℕ). Takes bytes (to_be_bytes w32 0x53425838 ++ to_be_bytes w16 header.0.0.version ++ to_be_bytes w16 header.0.0.services.0 ++ to_be_bytes w32 (length words.0.0) ++ t ++ to_be_bytes w16 header.0.0.stack_pages ++ to_be_bytes w16 (length functions.0.0)
-    ++ (if one then [] else flat_map shape_text regions.0.0) ++ flat_map (to_be_bytes w32) words.0.0 ++ flat_map region_text regions.0.0 ++ flat_map function_text functions.0.0) functions.0.1.1) (data_of one regions.0.0) lengths in
+    ++ (if one then [] else flat_map shape_text regions.0.0) ++ flat_map (to_be_bytes w32) words.0.0 ++ flat_map region_text regions.0.0 ++ flat_map (function_text version) functions.0.0) functions.0.1.1) (data_of one regions.0.0) lengths in
     let made : Parts × List ℕ = (record { version = header.0.0.version; services = header.0.0.services; words = words.0.0; regions = regions.0.0; stack_pages = header.0.0.stack_pages; functions = functions.0.0 }, functions.0.1.1) in
     subst (λ (y : Parts × List ℕ). Takes bytes (spelling y.0) y.1 × (parts_keep y.0 ≡ Ok tt)) (ok_is made x functions.2)
     (named, rw (k.version, k.services, k.words, r.kept, k.stack_pages, k.functions, r.lengths, in_turn) refl)

@@ -48,11 +48,11 @@ impl Image {
         }
     }
 
-    /// The version of the format, 1 or 2.
+    /// The version of the format, 1 to 3.
     pub fn version(&self) -> u16
         ensures value { result ≡ self.now.version }
         ensures some { 1 ≤ result }
-        ensures few { result ≤ 2 }
+        ensures few { result ≤ 3 }
     {
         self.parts.version
     }

@@ -22,6 +22,9 @@ pub trait Readable: Drop {
     ghost use Rattle.sbx_parts.specs.declared.fault.ImageFault.{ImageFault};
     ghost use Rattle.sbx_image.specs.Reading.{Gives};
 
+    /// What its fields' bounds need of the image, the same for each item: the address behind the code, say.
+    type Setting: Copy;
+
     /// What an item leaves for the next one of its list, as the last location.
     type State: Copy;
 
@@ -31,37 +34,34 @@ pub trait Readable: Drop {
     /// The bytes that are still to be read, behind an item that left a state.
     ghost at: { Self.State → List ℕ → Cursor };
 
-    /// The item at a cursor, in an image of a version whose code ends at an address, and the cursor behind it.
-    ghost item_at: { ℕ → ℕ → Cursor → Result (Self × Cursor) ImageFault };
+    /// The item at a cursor, and the cursor behind it.
+    ghost item_at: { Self.Setting → Cursor → Result (Self × Cursor) ImageFault };
 
-    /// The item at the front; behind it, what it leaves and the bytes that are still to be read. `end` is the address behind
-    /// the code.
+    /// The item at the front; behind it, what it leaves and the bytes that are still to be read.
     fn read(
         alloc: Global,
-        version: u16,
-        end: u32,
+        setting: Self::Setting,
         state: Self::State,
         bytes: &[u8],
     ) -> Result<(Self, (Self::State, &[u8])), ImageFault>
-        ensures { Gives (λ x. (x.0, at x.1.0 x.1.1.now)) result (item_at version end (at state bytes.now)) };
+        ensures { Gives (λ x. (x.0, at x.1.0 x.1.1.now)) result (item_at setting (at state bytes.now)) };
 }
 
 /// So many items, one after the other; behind them, what the last one leaves.
 fn items_of<T: Readable>(
     alloc: Global,
-    version: u16,
-    end: u32,
+    setting: T::Setting,
     count: u32,
     first: T::State,
     bytes: &[u8],
 ) -> Result<(Vec<T>, (T::State, &[u8])), ImageFault>
-    ensures { Gives (λ x. (x.0.items, T.at x.1.0 x.1.1.now)) result (items_at (T.item_at version end) count (T.at first bytes.now)) }
+    ensures { Gives (λ x. (x.0.items, T.at x.1.0 x.1.1.now)) result (items_at (T.item_at setting) count (T.at first bytes.now)) }
 {
     let mut items = Vec::with_capacity(alloc, count as usize)?;
     let mut state = first;
     let mut rest = bytes;
     for _ in 0..count {
-        let (item, (next, after)) = T::read(alloc, version, end, state, rest)?;
+        let (item, (next, after)) = T::read(alloc, setting, state, rest)?;
         items.push(item)?;
         state = next;
         rest = after;
@@ -70,18 +70,19 @@ fn items_of<T: Readable>(
 }
 
 impl Readable for u32 {
+    type Setting = ();
+
     type State = ();
 
     ghost Cursor = { List ℕ };
 
     ghost at = { λ _ bytes. bytes };
 
-    ghost item_at = { λ _ _. number_at w32 };
+    ghost item_at = { λ _. number_at w32 };
 
     fn read(
         _alloc: Global,
-        _version: u16,
-        _end: u32,
+        _setting: (),
         _state: (),
         bytes: &[u8],
     ) -> Result<(u32, ((), &[u8])), ImageFault> {
@@ -91,18 +92,19 @@ impl Readable for u32 {
 }
 
 impl Readable for Range {
+    type Setting = ();
+
     type State = ();
 
     ghost Cursor = { List ℕ };
 
     ghost at = { λ _ bytes. bytes };
 
-    ghost item_at = { λ _ _. range_at };
+    ghost item_at = { λ _. range_at };
 
     fn read(
         _alloc: Global,
-        _version: u16,
-        _end: u32,
+        _setting: (),
         _state: (),
         bytes: &[u8],
     ) -> Result<(Range, ((), &[u8])), ImageFault> {
@@ -112,19 +114,20 @@ impl Readable for Range {
 }
 
 impl Readable for Cell {
+    type Setting = ();
+
     type State = u16;
 
     ghost Cursor = { ℕ × List ℕ };
 
     ghost at = { λ last bytes. (last, bytes) };
 
-    ghost item_at = { λ _ _. cell_at };
+    ghost item_at = { λ _. cell_at };
 
     #[tactic(auto, unfolding(crate::specs::Reading::cell_at))]
     fn read(
         _alloc: Global,
-        _version: u16,
-        _end: u32,
+        _setting: (),
         last: u16,
         bytes: &[u8],
     ) -> Result<(Cell, (u16, &[u8])), ImageFault> {
@@ -135,19 +138,20 @@ impl Readable for Cell {
 }
 
 impl Readable for Term {
+    type Setting = ();
+
     type State = u16;
 
     ghost Cursor = { ℕ × List ℕ };
 
     ghost at = { λ last bytes. (last, bytes) };
 
-    ghost item_at = { λ _ _. term_at };
+    ghost item_at = { λ _. term_at };
 
     #[tactic(auto, unfolding(crate::specs::Reading::term_at))]
     fn read(
         _alloc: Global,
-        _version: u16,
-        _end: u32,
+        _setting: (),
         last: u16,
         bytes: &[u8],
     ) -> Result<(Term, (u16, &[u8])), ImageFault> {
@@ -165,17 +169,18 @@ impl Readable for Term {
 }
 
 impl Readable for Block {
+    type Setting = u32;
+
     type State = Next;
 
     ghost Cursor = { Next × List ℕ };
 
     ghost at = { λ next bytes. (next, bytes) };
 
-    ghost item_at = { λ _. block_at };
+    ghost item_at = { block_at };
 
     fn read(
         alloc: Global,
-        _version: u16,
         end: u32,
         next: Next,
         bytes: &[u8],
@@ -185,27 +190,29 @@ impl Readable for Block {
 }
 
 impl Readable for Function {
+    type Setting = (u16, u32);
+
     type State = (Next, u16);
 
     ghost Cursor = { Place × List ℕ };
 
     ghost at = { λ place bytes. (place, bytes) };
 
-    ghost item_at = { function_at };
+    ghost item_at = { λ setting. function_at setting.0 setting.1 };
 
     #[tactic(auto, unfolding(crate::specs::Reading::function_at))]
     fn read(
         alloc: Global,
-        version: u16,
-        end: u32,
+        setting: (u16, u32),
         place: (Next, u16),
         bytes: &[u8],
     ) -> Result<(Function, ((Next, u16), &[u8])), ImageFault> {
+        let (version, end) = setting;
         let (head, rest) = function_head_of(version, end, place, bytes)?;
         let (params, rest) = ranges_of(alloc, head.params, rest)?;
         let (results, rest) = ranges_of(alloc, head.results, rest)?;
         let first = Next::Exactly(head.entry);
-        let (blocks, (next, rest)) = items_of(alloc, version, end, head.blocks as u32, first, rest)?;
+        let (blocks, (next, rest)) = items_of(alloc, end, head.blocks as u32, first, rest)?;
         let function = Function {
             kind: head.kind,
             params: Items::new(params),
@@ -279,8 +286,8 @@ pub fn block_of(
     ensures { Gives (λ x. (x.0, (x.1.0, x.1.1.now))) result (block_at end (next, bytes.now)) }
 {
     let (head, rest) = block_head_of(end, next, bytes)?;
-    let (cells, (_, rest)) = items_of(alloc, 0, end, head.cells as u32, 0, rest)?;
-    let (terms, (_, rest)) = items_of(alloc, 0, end, head.terms as u32, 0, rest)?;
+    let (cells, (_, rest)) = items_of(alloc, (), head.cells as u32, 0, rest)?;
+    let (terms, (_, rest)) = items_of(alloc, (), head.terms as u32, 0, rest)?;
     let block = Block {
         address: head.address,
         fuel: head.fuel,
@@ -382,7 +389,7 @@ pub fn function_head_of(
 pub fn ranges_of(alloc: Global, count: u8, bytes: &[u8]) -> Result<(Vec<Range>, &[u8]), ImageFault>
     ensures { Gives (λ x. (x.0.items, x.1.now)) result (items_at range_at count bytes.now) }
 {
-    let (ranges, ((), rest)) = items_of(alloc, 0, 0, count as u32, (), bytes)?;
+    let (ranges, ((), rest)) = items_of(alloc, (), count as u32, (), bytes)?;
     Ok((ranges, rest))
 }
 
@@ -462,19 +469,20 @@ pub fn header_of(bytes: &[u8]) -> Result<(Header, &[u8]), ImageFault>
 }
 
 impl Readable for Shape {
+    type Setting = ();
+
     type State = u16;
 
     ghost Cursor = { ℕ × List ℕ };
 
     ghost at = { λ pages bytes. (pages, bytes) };
 
-    ghost item_at = { λ _ _. shape_at };
+    ghost item_at = { λ _. shape_at };
 
     #[tactic(auto, unfolding(crate::specs::Reading::shape_at))]
     fn read(
         _alloc: Global,
-        _version: u16,
-        _end: u32,
+        _setting: (),
         pages: u16,
         bytes: &[u8],
     ) -> Result<(Shape, (u16, &[u8])), ImageFault> {
@@ -518,7 +526,7 @@ pub fn shapes_of(
     if header.version == 1 {
         return Ok((shape_of(alloc, header.data_count)?, bytes));
     }
-    let (shapes, (_, rest)) = items_of(alloc, 0, 0, header.data_count, 0, bytes)?;
+    let (shapes, (_, rest)) = items_of(alloc, (), header.data_count, 0, bytes)?;
     Ok((shapes, rest))
 }
 
@@ -561,12 +569,11 @@ fn parts_of(alloc: Global, bytes: &[u8]) -> Result<(Parts, &[u8]), ImageFault>
 {
     let (header, rest) = header_of(bytes)?;
     let (shapes, rest) = shapes_of(alloc, header, rest)?;
-    let version = header.version;
-    let end = CODE_START + 4 * header.words;
+    let setting = (header.version, CODE_START + 4 * header.words);
     let first = (Next::Exactly(CODE_START), 0);
-    let (words, ((), rest)) = items_of(alloc, version, end, header.words, (), rest)?;
+    let (words, ((), rest)) = items_of(alloc, (), header.words, (), rest)?;
     let (regions, rest) = regions_of(alloc, shapes.as_slice(), rest)?;
-    let (functions, (_, rest)) = items_of(alloc, version, end, header.functions as u32, first, rest)?;
+    let (functions, (_, rest)) = items_of(alloc, setting, header.functions as u32, first, rest)?;
     let parts = Parts {
         version: header.version,
         services: header.services,

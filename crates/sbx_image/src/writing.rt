@@ -2,7 +2,7 @@
 ghost use Rattle.std.specs.Prelude.{◌≡◌, ◌<◌, ◌≤◌, ◌^◌, ◌++◌, length, OnOk, IfOk, All};
 ghost use Rattle.std.specs.Int.{w8, w16, w32, w64, to_be_bytes};
 ghost use Rattle.std.specs.List.{flat_map};
-ghost use Rattle.sbx_image.specs.Spelling.{kind_code, signed, IsCountedBlock, IsCountedFunction, block_text, cell_text, function_head_text, function_text, header_text, range_text, region_text, data_count_text, shape_text, shapes_text, spelling, term_text};
+ghost use Rattle.sbx_image.specs.Spelling.{kind_code, depth_text, signed, IsCountedBlock, IsCountedFunction, block_text, cell_text, function_head_text, function_text, header_text, range_text, region_text, data_count_text, shape_text, shapes_text, spelling, term_text};
 
 use crate::image::Image;
 use sbx_parts::{Block, Cell, Function, Kind, Range, Region, Term};
@@ -146,10 +146,21 @@ fn kind_code(kind: Kind) -> u8
     }
 }
 
+/// How many frames calls push at one time, which version 3 alone tells.
+fn put_depth(out: &mut Vec<u8>, version: u16, function: &Function) -> Result<(), AllocError>
+    ensures { OnOk result (out.new.items ≡ out.old.items ++ depth_text version function.now) }
+{
+    if version == 3 {
+        put_u16(out, function.depth)
+    } else {
+        Ok(())
+    }
+}
+
 #[tactic(auto, unfolding(crate::specs::Spelling::function_head_text))]
-fn put_function_head(out: &mut Vec<u8>, function: &Function) -> Result<(), AllocError>
+fn put_function_head(out: &mut Vec<u8>, version: u16, function: &Function) -> Result<(), AllocError>
     requires { IsCountedFunction function.now }
-    ensures { OnOk result (out.new.items ≡ out.old.items ++ function_head_text function.now) }
+    ensures { OnOk result (out.new.items ≡ out.old.items ++ function_head_text version function.now) }
 {
     put_u8(out, kind_code(function.kind))?;
     put_u8(out, function.params.len() as u8)?;
@@ -159,24 +170,32 @@ fn put_function_head(out: &mut Vec<u8>, function: &Function) -> Result<(), Alloc
     put_u32(out, function.frame)?;
     put_u32(out, function.stack_room)?;
     put_u64(out, function.budget)?;
+    put_depth(out, version, function)?;
     put_u16(out, function.blocks.len() as u16)
 }
 
-impl Writable for Function {
-    ghost text = { function_text };
-
-    ghost is_counted = { IsCountedFunction };
-
-    #[tactic(auto, unfolding(crate::specs::Spelling::function_text))]
-    fn put(&self, out: &mut Vec<u8>) -> Result<(), AllocError> {
-        put_function_head(out, self)?;
-        put_each(out, self.params.as_slice())?;
-        put_each(out, self.results.as_slice())?;
-        put_each(out, self.blocks.as_slice())
-    }
+#[tactic(auto, unfolding(crate::specs::Spelling::function_text))]
+fn put_function(out: &mut Vec<u8>, version: u16, function: &Function) -> Result<(), AllocError>
+    requires { IsCountedFunction function.now }
+    ensures { OnOk result (out.new.items ≡ out.old.items ++ function_text version function.now) }
+{
+    put_function_head(out, version, function)?;
+    put_each(out, function.params.as_slice())?;
+    put_each(out, function.results.as_slice())?;
+    put_each(out, function.blocks.as_slice())
 }
 
-/// How many bytes of data version 1 has, or how many regions version 2 has.
+/// Each function, as the image's version has it.
+fn put_functions(out: &mut Vec<u8>, image: &Image) -> Result<(), AllocError>
+    ensures { OnOk result (out.new.items ≡ out.old.items ++ flat_map (function_text image.now.version) image.now.functions) }
+{
+    for function in image.functions() {
+        put_function(out, image.version(), function)?;
+    }
+    Ok(())
+}
+
+/// How many bytes of data version 1 has, or how many regions versions 2 and 3 have.
 #[tactic(auto, unfolding(crate::specs::Spelling::data_count_text))]
 fn put_data_count(out: &mut Vec<u8>, image: &Image) -> Result<(), AllocError>
     ensures { OnOk result (out.new.items ≡ out.old.items ++ data_count_text image.now) }
@@ -235,6 +254,6 @@ pub fn write(image: &Image, alloc: Global) -> Result<Vec<u8>, AllocError>
     put_shapes(&mut out, image)?;
     put_each(&mut out, image.words())?;
     put_each(&mut out, image.regions())?;
-    put_each(&mut out, image.functions())?;
+    put_functions(&mut out, image)?;
     Ok(out)
 }

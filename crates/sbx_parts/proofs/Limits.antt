@@ -17,7 +17,7 @@ use Rattle.sbx_parts.specs.declared.parts.Parts.{Parts}
 use Rattle.sbx_parts.specs.declared.parts.Region.{Region}
 use Rattle.sbx_parts.specs.Regions.{AreData, IsSized, byte_count, page_rights, pages_for}
 use Rattle.sbx_parts.proofs.Placing.{page_count}
-use Rattle.sbx_parts.specs.Rules.{◌>>=◌, wants, between, each, Place, code_start, admits, is_location, is_fuel, is_coefficient, is_known, is_version, is_data, is_data_length, is_one_region, is_length_behind, region_keeps, in_order, range_keeps, location_keeps, cell_keeps, term_keeps, block_keeps, ranges_keep, function_keeps, parts_keep}
+use Rattle.sbx_parts.specs.Rules.{◌>>=◌, wants, between, each, Place, code_start, admits, is_location, is_fuel, is_coefficient, is_known, is_version, is_depth, is_data, is_data_length, is_one_region, is_length_behind, region_keeps, in_order, range_keeps, location_keeps, cell_keeps, term_keeps, block_keeps, ranges_keep, function_keeps, parts_keep}
 use Rattle.sbx_parts.specs.Widths.{IsCountedBlock, IsCountedFunction}
 use Rattle.sbx_parts.proofs.Steps.{bind_ok, wanted, wanted_last, both_true, is_between, ok_is}
 
@@ -82,13 +82,14 @@ block_kept end next b state e =
     let terms = bind_ok _ _ _ cells.2 in
     record { address = address.0; cell_count = cell_count.0; term_count = term_count.0; fuel = fuel.0; last_cell = cells.0; cells = cells.1; last_term = terms.0; terms = terms.1; state_is = ok_is _ _ terms.2 }
 
-pub record KeptFunction (end : ℕ) (place : Place) (f : Function) (state : Place) : Type 0 where
+pub record KeptFunction (version end : ℕ) (place : Place) (f : Function) (state : Place) : Type 0 where
   pub param_count : between 0 6 (length f.params) ≡ true
   pub result_count : between 0 6 (length f.results) ≡ true
   pub entry : admits end place.0 f.entry ≡ true
   pub frame : between 0 4096 f.frame ≡ true
   pub stack_room : between 0 65536 f.stack_room ≡ true
   pub budget : between 0 1099511627775 f.budget ≡ true
+  pub depth : is_depth version f.depth ≡ true
   pub block_count : between 1 (4096 - place.1) (length f.blocks) ≡ true
   pub params : ranges_keep f.params ≡ Ok tt
   pub results : ranges_keep f.results ≡ Ok tt
@@ -97,16 +98,17 @@ pub record KeptFunction (end : ℕ) (place : Place) (f : Function) (state : Plac
   pub next_is : next ≡ state.0
   pub blocks_is : place.1 + length f.blocks ≡ state.1
 
-pub function_kept : (end : ℕ) (place : Place) (f : Function) (state : Place) → function_keeps end place f ≡ Ok state → KeptFunction end place f state
+pub function_kept : (version end : ℕ) (place : Place) (f : Function) (state : Place) → function_keeps version end place f ≡ Ok state → KeptFunction version end place f state
 unfolding function_keeps
-function_kept end place f state e =
+function_kept version end place f state e =
     let param_count = wanted (between 0 6 (length f.params)) fault.Limit _ _ e in
     let result_count = wanted (between 0 6 (length f.results)) fault.Limit _ _ param_count.1 in
     let entry = wanted (admits end place.0 f.entry) fault.Order _ _ result_count.1 in
     let frame = wanted (between 0 4096 f.frame) fault.Limit _ _ entry.1 in
     let stack_room = wanted (between 0 65536 f.stack_room) fault.Limit _ _ frame.1 in
     let budget = wanted (between 0 1099511627775 f.budget) fault.Limit _ _ stack_room.1 in
-    let block_count = wanted (between 1 (4096 - place.1) (length f.blocks)) fault.Limit _ _ budget.1 in
+    let depth = wanted (is_depth version f.depth) fault.Limit _ _ budget.1 in
+    let block_count = wanted (between 1 (4096 - place.1) (length f.blocks)) fault.Limit _ _ depth.1 in
     let params = bind_ok _ _ _ block_count.1 in
     let results = bind_ok _ _ _ params.2 in
     let blocks = bind_ok _ _ _ results.2 in
@@ -118,6 +120,7 @@ function_kept end place f state e =
       frame = frame.0;
       stack_room = stack_room.0;
       budget = budget.0;
+      depth = depth.0;
       block_count = block_count.0;
       params = params.1;
       results = results.1;
@@ -137,7 +140,7 @@ pub record KeptParts (p : Parts) : Type 0 where
   pub last_pages : ℕ
   pub lengths : each region_keeps 0 p.regions ≡ Ok last_pages
   pub last : Place
-  pub functions : each (function_keeps (code_start + 4 * length p.words)) (Exactly code_start, 0) p.functions ≡ Ok last
+  pub functions : each (function_keeps p.version (code_start + 4 * length p.words)) (Exactly code_start, 0) p.functions ≡ Ok last
 
 pub parts_kept : (p : Parts) → parts_keep p ≡ Ok tt → KeptParts p
 unfolding parts_keep
@@ -149,7 +152,7 @@ parts_kept p e =
     let stack_pages = wanted (between 1 16 p.stack_pages) fault.Limit _ _ regions.1 in
     let function_count = wanted (between 1 256 (length p.functions)) fault.Limit _ _ stack_pages.1 in
     let lengths = bind_ok (each region_keeps 0 p.regions) _ tt function_count.1 in
-    let functions = bind_ok (each (function_keeps (code_start + 4 * length p.words)) (Exactly code_start, 0) p.functions) (λ _. Ok tt) tt lengths.2 in
+    let functions = bind_ok (each (function_keeps p.version (code_start + 4 * length p.words)) (Exactly code_start, 0) p.functions) (λ _. Ok tt) tt lengths.2 in
     record { version = version.0; services = services.0; word_count = word_count.0; regions = regions.0; stack_pages = stack_pages.0; function_count = function_count.0; last_pages = lengths.0; lengths = lengths.1; last = functions.0; functions = functions.1 }
 
 -- the code has 1 to 65,536 words
@@ -226,9 +229,9 @@ data_within p e =
       each = kept.sizes;
     }
 
--- two versions are known
-pub version_within : (p : Parts) → parts_keep p ≡ Ok tt → (1 ≤ p.version) × (p.version ≤ 2)
-version_within p e = is_between 1 2 p.version (parts_kept p e).version
+-- three versions are known
+pub version_within : (p : Parts) → parts_keep p ≡ Ok tt → (1 ≤ p.version) × (p.version ≤ 3)
+version_within p e = is_between 1 3 p.version (parts_kept p e).version
 
 -- 1 to 16 pages of stack
 pub stack_within : (p : Parts) → parts_keep p ≡ Ok tt → (1 ≤ p.stack_pages) × (p.stack_pages ≤ 16)
@@ -253,9 +256,9 @@ block_counted end next b state e =
     let k = block_kept end next b state e in
     (omega (arith, (is_between 0 64 (length b.cells) k.cell_count).1), omega (arith, (is_between 0 8 (length b.terms) k.term_count).1))
 
-pub function_counted : (end : ℕ) (place : Place) (f : Function) (state : Place) → function_keeps end place f ≡ Ok state → IsCountedFunction f
-function_counted end place f state e =
-    let k = function_kept end place f state e in
+pub function_counted : (version end : ℕ) (place : Place) (f : Function) (state : Place) → function_keeps version end place f ≡ Ok state → IsCountedFunction f
+function_counted version end place f state e =
+    let k = function_kept version end place f state e in
     record {
       params = omega (arith, (is_between 0 6 (length f.params) k.param_count).1);
       results = omega (arith, (is_between 0 6 (length f.results) k.result_count).1);
@@ -266,4 +269,4 @@ function_counted end place f state e =
 pub functions_counted : (p : Parts) → parts_keep p ≡ Ok tt → All IsCountedFunction p.functions
 functions_counted p e =
     let k = parts_kept p e in
-    All-from_recursion IsCountedFunction p.functions (each_all (function_keeps (code_start + 4 * length p.words)) IsCountedFunction (function_counted (code_start + 4 * length p.words)) p.functions (Exactly code_start, 0) k.last k.functions)
+    All-from_recursion IsCountedFunction p.functions (each_all (function_keeps p.version (code_start + 4 * length p.words)) IsCountedFunction (function_counted p.version (code_start + 4 * length p.words)) p.functions (Exactly code_start, 0) k.last k.functions)

@@ -138,12 +138,12 @@ fine_after end bs entry out some entry_in blocks =
     let stands = block_stands end (Exactly entry) bs out blocks (entry_in.low, entry_in.whole, entry_in.high) k.0 (omega (arith, k.1)) in
     subst (IsFine end) (sym (stands.last k.1)) stands.is_in.low
 
-function_stands : (end : ℕ) (place : Place) (fs : List Function) (out : Place) → each (function_keeps end) place fs ≡ Ok out → IsFine end place.0 → (f : ℕ) → f < length fs → FunctionStands end fs f
+function_stands : (version end : ℕ) (place : Place) (fs : List Function) (out : Place) → each (function_keeps version end) place fs ≡ Ok out → IsFine end place.0 → (f : ℕ) → f < length fs → FunctionStands end fs f
 unfolding each
-function_stands end place [] out e fine f less = absurd (omega arith)
-function_stands end place (x ∷ []) out e fine zero less =
-    let first = bind_ok (function_keeps end place x) (λ s. each (function_keeps end) s []) out e in
-    let kept = function_kept end place x first.0 first.1 in
+function_stands version end place [] out e fine f less = absurd (omega arith)
+function_stands version end place (x ∷ []) out e fine zero less =
+    let first = bind_ok (function_keeps version end place x) (λ s. each (function_keeps version end) s []) out e in
+    let kept = function_kept version end place x first.0 first.1 in
     record {
       entry = admitted end place.0 x.entry fine kept.entry;
       some = (is_between 1 (4096 - place.1) (length x.blocks) kept.block_count).0;
@@ -151,12 +151,12 @@ function_stands end place (x ∷ []) out e fine zero less =
       blocks = kept.blocks;
       next = λ h. absurd (omega arith);
     }
-function_stands end place (x ∷ []) out e fine (suc f) less = absurd (omega arith)
-function_stands end place (x ∷ y ∷ ys) out e fine zero less =
-    let first = bind_ok (function_keeps end place x) (λ s. each (function_keeps end) s (y ∷ ys)) out e in
-    let kept = function_kept end place x first.0 first.1 in
-    let second = bind_ok (function_keeps end first.0 y) (λ s. each (function_keeps end) s ys) out first.2 in
-    let then_kept = function_kept end first.0 y second.0 second.1 in
+function_stands version end place (x ∷ []) out e fine (suc f) less = absurd (omega arith)
+function_stands version end place (x ∷ y ∷ ys) out e fine zero less =
+    let first = bind_ok (function_keeps version end place x) (λ s. each (function_keeps version end) s (y ∷ ys)) out e in
+    let kept = function_kept version end place x first.0 first.1 in
+    let second = bind_ok (function_keeps version end first.0 y) (λ s. each (function_keeps version end) s ys) out first.2 in
+    let then_kept = function_kept version end first.0 y second.0 second.1 in
     record {
       entry = admitted end place.0 x.entry fine kept.entry;
       some = (is_between 1 (4096 - place.1) (length x.blocks) kept.block_count).0;
@@ -164,11 +164,11 @@ function_stands end place (x ∷ y ∷ ys) out e fine zero less =
       blocks = kept.blocks;
       next = λ h. subst (λ n. admits end n y.entry ≡ true) (sym kept.next_is) then_kept.entry;
     }
-function_stands end place (x ∷ y ∷ ys) out e fine (suc f) less =
-    let first = bind_ok (function_keeps end place x) (λ s. each (function_keeps end) s (y ∷ ys)) out e in
-    let kept = function_kept end place x first.0 first.1 in
+function_stands version end place (x ∷ y ∷ ys) out e fine (suc f) less =
+    let first = bind_ok (function_keeps version end place x) (λ s. each (function_keeps version end) s (y ∷ ys)) out e in
+    let kept = function_kept version end place x first.0 first.1 in
     let x_in = admitted end place.0 x.entry fine kept.entry in
-    let s = function_stands end first.0 (y ∷ ys) out first.2 (subst (IsFine end) kept.next_is (fine_after end x.blocks x.entry kept.next (is_between 1 (4096 - place.1) (length x.blocks) kept.block_count).0 x_in kept.blocks)) f (omega arith) in
+    let s = function_stands version end first.0 (y ∷ ys) out first.2 (subst (IsFine end) kept.next_is (fine_after end x.blocks x.entry kept.next (is_between 1 (4096 - place.1) (length x.blocks) kept.block_count).0 x_in kept.blocks)) f (omega arith) in
     record { entry = s.entry; some = s.some; out = s.out; blocks = s.blocks; next = λ h. s.next (omega arith) }
 
 -- ---- where functions and blocks start, with the end as one more start
@@ -195,7 +195,7 @@ module _ (parts : Parts) (keeps : parts_keep parts ≡ Ok tt) where
   functions f is =
       let kept = parts_kept parts keeps in
       let some = (words_within parts keeps).0 in
-      function_stands (code_end parts) (Exactly code_start, 0) parts.functions kept.last kept.functions (omega arith, refl, omega arith) f is
+      function_stands parts.version (code_end parts) (Exactly code_start, 0) parts.functions kept.last kept.functions (omega arith, refl, omega arith) f is
 
   blocks : (f : ℕ) (is : IsFunction parts f) (b : ℕ) → b < length (function_at parts f).blocks → BlockStands (code_end parts) (function_at parts f).blocks (functions f is).out b
   unfolding IsFine
@@ -378,12 +378,12 @@ module _ (parts : Parts) (keeps : parts_keep parts ≡ Ok tt) where
   first_at f b = omega arith
 
 -- the first function begins the code
-begins : (end count : ℕ) (fs : List Function) (out : Place) → 1 ≤ length fs → each (function_keeps end) (Exactly code_start, count) fs ≡ Ok out → (function_of fs 0).entry ≡ code_start
+begins : (version end count : ℕ) (fs : List Function) (out : Place) → 1 ≤ length fs → each (function_keeps version end) (Exactly code_start, count) fs ≡ Ok out → (function_of fs 0).entry ≡ code_start
 unfolding each
-begins end count [] out some e = absurd (omega arith)
-begins end count (x ∷ xs) out some e =
-    let first = bind_ok (function_keeps end (Exactly code_start, count) x) (λ s. each (function_keeps end) s xs) out e in
-    is_only end code_start x.entry (function_kept end (Exactly code_start, count) x first.0 first.1).entry
+begins version end count [] out some e = absurd (omega arith)
+begins version end count (x ∷ xs) out some e =
+    let first = bind_ok (function_keeps version end (Exactly code_start, count) x) (λ s. each (function_keeps version end) s xs) out e in
+    is_only end code_start x.entry (function_kept version end (Exactly code_start, count) x first.0 first.1).entry
 
 pub in_order : (parts : Parts) → parts_keep parts ≡ Ok tt → AreInOrder parts
 in_order parts keeps =
@@ -394,7 +394,7 @@ in_order parts keeps =
     let entry : (f : ℕ) → IsFunction parts f → IsBlock parts f 0 × ((function_at parts f).entry ≡ address_of parts f 0 0) =
     λ f is. ((is, (let some = (functions parts keeps f is).some in omega arith)), sym (first_at parts keeps f 0 ∙ first_block parts keeps f is)) in
     record {
-      first = ((entry 0 first_function).0, sym (entry 0 first_function).1 ∙ begins (code_end parts) 0 parts.functions kept.last some_function kept.functions);
+      first = ((entry 0 first_function).0, sym (entry 0 first_function).1 ∙ begins parts.version (code_end parts) 0 parts.functions kept.last some_function kept.functions);
       entries = entry;
       blocks = has_words parts keeps;
       ascending = λ f b c before is.

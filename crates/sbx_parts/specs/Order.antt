@@ -13,7 +13,7 @@ abbrev pub no_block : Block
 no_block = record { address = 0; fuel = pos 0; cells = []; terms = [] }
 
 abbrev pub no_function : Function
-no_function = record { kind = Leaf; params = []; results = []; entry = 0; frame = 0; stack_room = 0; budget = 0; blocks = [] }
+no_function = record { kind = Leaf; params = []; results = []; entry = 0; frame = 0; stack_room = 0; budget = 0; depth = 0; blocks = [] }
 
 abbrev pub or_function : Option Function → Function
 or_function None = no_function

@@ -95,12 +95,14 @@ fn check_count(before: u16, count: usize) -> Result<u16, ImageFault>
 }
 
 impl Checked for Region {
+    type Setting = ();
+
     type State = u16;
 
-    ghost keeps = { λ _ _. region_keeps };
+    ghost keeps = { λ _. region_keeps };
 
     #[tactic(auto, unfolding(crate::specs::Rules::region_keeps))]
-    fn check(&self, _version: u16, _end: u32, pages: u16) -> Result<u16, ImageFault> {
+    fn check(&self, _setting: (), pages: u16) -> Result<u16, ImageFault> {
         let count = self.bytes.len();
         wants(is_length_behind(pages, count), ImageFault::Limit)?;
         Ok(pages + pages_for(count) as u16)
@@ -108,12 +110,14 @@ impl Checked for Region {
 }
 
 impl Checked for Range {
+    type Setting = ();
+
     type State = ();
 
-    ghost keeps = { λ _ _ _ range. range_keeps range };
+    ghost keeps = { λ _ _ range. range_keeps range };
 
     #[tactic(auto, unfolding(crate::specs::Rules::range_keeps))]
-    fn check(&self, _version: u16, _end: u32, _state: ()) -> Result<(), ImageFault> {
+    fn check(&self, _setting: (), _state: ()) -> Result<(), ImageFault> {
         if self.hi < self.lo {
             return Err(ImageFault::Range);
         }
@@ -122,25 +126,29 @@ impl Checked for Range {
 }
 
 impl Checked for Cell {
+    type Setting = ();
+
     type State = u16;
 
-    ghost keeps = { λ _ _. cell_keeps };
+    ghost keeps = { λ _. cell_keeps };
 
     #[tactic(auto, unfolding(crate::specs::Rules::cell_keeps))]
-    fn check(&self, version: u16, end: u32, last: u16) -> Result<u16, ImageFault> {
+    fn check(&self, _setting: (), last: u16) -> Result<u16, ImageFault> {
         check_location(last, self.location)?;
-        self.range.check(version, end, ())?;
+        self.range.check((), ())?;
         Ok(self.location)
     }
 }
 
 impl Checked for Term {
+    type Setting = ();
+
     type State = u16;
 
-    ghost keeps = { λ _ _. term_keeps };
+    ghost keeps = { λ _. term_keeps };
 
     #[tactic(auto, unfolding(crate::specs::Rules::term_keeps))]
-    fn check(&self, _version: u16, _end: u32, last: u16) -> Result<u16, ImageFault> {
+    fn check(&self, _setting: (), last: u16) -> Result<u16, ImageFault> {
         check_location(last, self.location)?;
         wants(is_coefficient(self.coefficient), ImageFault::Limit)?;
         Ok(self.location)
@@ -148,31 +156,36 @@ impl Checked for Term {
 }
 
 impl Checked for Block {
+    type Setting = u32;
+
     type State = Next;
 
-    ghost keeps = { λ _. block_keeps };
+    ghost keeps = { block_keeps };
 
     #[tactic(auto, unfolding(crate::specs::Rules::block_keeps))]
-    fn check(&self, version: u16, end: u32, next: Next) -> Result<Next, ImageFault> {
+    fn check(&self, end: u32, next: Next) -> Result<Next, ImageFault> {
         let cells = self.cells.as_slice();
         let terms = self.terms.as_slice();
         wants(admits(end, next, self.address), ImageFault::Order)?;
         wants(between(0, 64, cells.len() as u64), ImageFault::Limit)?;
         wants(between(0, 8, terms.len() as u64), ImageFault::Limit)?;
         wants(is_fuel(self.fuel), ImageFault::Limit)?;
-        check_each(version, end, 0, cells)?;
-        check_each(version, end, 0, terms)?;
+        check_each((), 0, cells)?;
+        check_each((), 0, terms)?;
         Ok(Next::Above(self.address))
     }
 }
 
 impl Checked for Function {
+    type Setting = (u16, u32);
+
     type State = (Next, u16);
 
-    ghost keeps = { function_keeps };
+    ghost keeps = { λ setting. function_keeps setting.0 setting.1 };
 
     #[tactic(auto, unfolding(crate::specs::Rules::function_keeps))]
-    fn check(&self, version: u16, end: u32, place: (Next, u16)) -> Result<(Next, u16), ImageFault> {
+    fn check(&self, setting: (u16, u32), place: (Next, u16)) -> Result<(Next, u16), ImageFault> {
+        let (version, end) = setting;
         let params = self.params.as_slice();
         let results = self.results.as_slice();
         let blocks = self.blocks.as_slice();
@@ -184,17 +197,21 @@ impl Checked for Function {
         wants(between(0, 0xFF_FFFF_FFFF, self.budget), ImageFault::Limit)?;
         wants(is_depth(version, self.depth), ImageFault::Limit)?;
         let count = check_count(place.1, blocks.len())?;
-        check_each(version, end, (), params)?;
-        check_each(version, end, (), results)?;
-        let next = check_each(version, end, Next::Exactly(self.entry), blocks)?;
+        check_each((), (), params)?;
+        check_each((), (), results)?;
+        let next = check_each(end, Next::Exactly(self.entry), blocks)?;
         Ok((next, place.1 + count))
     }
 }
 
-fn check_functions(version: u16, end: u32, functions: &[Function]) -> Result<(Next, u16), ImageFault>
+fn check_functions(
+    version: u16,
+    end: u32,
+    functions: &[Function],
+) -> Result<(Next, u16), ImageFault>
     ensures { result ≡ each (function_keeps version end) (Exactly code_start, 0) functions.now }
 {
-    check_each(version, end, (Next::Exactly(CODE_START), 0), functions)
+    check_each((version, end), (Next::Exactly(CODE_START), 0), functions)
 }
 
 impl Parts {
@@ -216,7 +233,7 @@ impl Parts {
             ImageFault::Limit,
         )?;
         let end = CODE_START + 4 * count as u32;
-        check_each(self.version, end, 0, regions)?;
+        check_each((), 0, regions)?;
         check_functions(self.version, end, self.functions.as_slice())?;
         Ok(())
     }

@@ -10,35 +10,31 @@ pub trait Checked {
     ghost use Rattle.std.specs.Prelude.{◌≡◌, ℕ, Result};
     ghost use Rattle.sbx_parts.specs.declared.fault.ImageFault.{ImageFault};
 
+    /// What its rules need of the image, the same for each item: the address behind the code, say.
+    type Setting: Copy;
+
     /// What an item leaves for the next one of its list, as the last location.
     type State: Copy;
 
-    /// What the item leaves, behind an item that left a state, in an image of a version whose code ends at an address; or the
-    /// fault of its first field that breaks a rule.
-    ghost keeps: { ℕ → ℕ → Self.State → Self → Result Self.State ImageFault };
+    /// What the item leaves, behind an item that left a state; or the fault of its first field that breaks a rule.
+    ghost keeps: { Self.Setting → Self.State → Self → Result Self.State ImageFault };
 
-    /// What the item leaves, or the fault of its first field that breaks a rule. `end` is the address behind the code.
-    fn check(
-        &self,
-        version: u16,
-        end: u32,
-        state: Self::State,
-    ) -> Result<Self::State, ImageFault>
-        ensures { result ≡ keeps version end state self.now };
+    /// What the item leaves, or the fault of its first field that breaks a rule.
+    fn check(&self, setting: Self::Setting, state: Self::State) -> Result<Self::State, ImageFault>
+        ensures { result ≡ keeps setting state self.now };
 }
 
 /// Whether each item keeps its rules, one behind the other, and what the last one leaves.
 pub fn check_each<T: Checked>(
-    version: u16,
-    end: u32,
+    setting: T::Setting,
     first: T::State,
     items: &[T],
 ) -> Result<T::State, ImageFault>
-    ensures { result ≡ each (T.keeps version end) first items.now }
+    ensures { result ≡ each (T.keeps setting) first items.now }
 {
     let mut state = first;
     for item in items {
-        state = item.check(version, end, state)?;
+        state = item.check(setting, state)?;
     }
     Ok(state)
 }

@@ -159,18 +159,23 @@ module _ (more : List ℕ) where
       then_lasts _ _ _ _ _ (number_in_lasts more w32 0 65536 fault.Limit frame.1) (λ room.
       then_lasts _ _ _ _ _ (number_in_lasts more w64 0 1099511627775 fault.Limit room.1) (λ budget. done_lasts _ _)))
 
-  pub function_head_lasts : (end : ℕ) (place : Place) (bytes : List ℕ) → Lasts (grown more) (function_head_at end place bytes) (function_head_at end place (bytes ++ more))
+  depth_lasts : (told : Bool) (bytes : List ℕ) → Lasts (grown more) (if told then number_in w16 0 256 fault.Limit bytes else Ok (0, bytes)) (if told then number_in w16 0 256 fault.Limit (bytes ++ more) else Ok (0, bytes ++ more))
+  depth_lasts true bytes = number_in_lasts more w16 0 256 fault.Limit bytes
+  depth_lasts false bytes = done_lasts _ _
+
+  pub function_head_lasts : (version end : ℕ) (place : Place) (bytes : List ℕ) → Lasts (grown more) (function_head_at version end place bytes) (function_head_at version end place (bytes ++ more))
   unfolding function_head_at
-  function_head_lasts end place bytes =
+  function_head_lasts version end place bytes =
       then_lasts _ _ _ _ _ (counts_last bytes) (λ counts.
       then_lasts _ _ _ _ _ (number_lasts more w32 counts.1) (λ entry. test_lasts (admits end place.0 entry.0) fault.Order _ _
       (then_lasts _ _ _ _ _ (bounds_last entry.1) (λ bounds.
-      then_lasts _ _ _ _ _ (number_in_lasts more w16 1 (4096 - place.1) fault.Limit bounds.1) (λ blocks. done_lasts _ _)))))
+      then_lasts _ _ _ _ _ (depth_lasts (version == 3) bounds.1) (λ depth.
+      then_lasts _ _ _ _ _ (number_in_lasts more w16 1 (4096 - place.1) fault.Limit depth.1) (λ blocks. done_lasts _ _))))))
 
-  function_lasts : (end : ℕ) (cursor : Place × List ℕ) → Lasts (grown_after more) (function_at end cursor) (function_at end (cursor.0, cursor.1 ++ more))
+  function_lasts : (version end : ℕ) (cursor : Place × List ℕ) → Lasts (grown_after more) (function_at version end cursor) (function_at version end (cursor.0, cursor.1 ++ more))
   unfolding function_at
-  function_lasts end cursor =
-      then_lasts _ _ _ _ _ (function_head_lasts end cursor.0 cursor.1) (λ head.
+  function_lasts version end cursor =
+      then_lasts _ _ _ _ _ (function_head_lasts version end cursor.0 cursor.1) (λ head.
       then_lasts _ _ _ _ _ (ranges_last head.0.params head.1) (λ params.
       then_lasts _ _ _ _ _ (ranges_last head.0.results params.1) (λ results.
       then_lasts _ _ _ _ _ (items_last longer_after (block_at end) (block_lasts end) head.0.blocks (Exactly head.0.entry, results.1)) (λ blocks. done_lasts _ _))))
@@ -227,7 +232,7 @@ module _ (more : List ℕ) where
       then_lasts _ _ _ _ _ (shapes_last header.0 header.1) (λ shapes.
       then_lasts _ _ _ _ _ (items_last longer (number_at w32) (number_lasts more w32) header.0.words shapes.1) (λ words.
       then_lasts _ _ _ _ _ (regions_last shapes.0 words.1) (λ regions.
-      then_lasts _ _ _ _ _ (items_last longer_after (function_at (code_start + 4 * header.0.words)) (function_lasts (code_start + 4 * header.0.words)) header.0.functions ((Exactly code_start, 0), regions.1)) (λ functions. done_lasts _ _)))))
+      then_lasts _ _ _ _ _ (items_last longer_after (function_at header.0.version (code_start + 4 * header.0.words)) (function_lasts header.0.version (code_start + 4 * header.0.words)) header.0.functions ((Exactly code_start, 0), regions.1)) (λ functions. done_lasts _ _)))))
 
   -- ---- the end of the bytes
 

@@ -175,14 +175,19 @@ bounds_leave bytes =
     then_leaves 0 after after frame.1 _ _ (number_in_leaves 0 w32 (omega arith) 0 65536 fault.Limit frame.1) (λ room.
     then_leaves 0 after after room.1 _ _ (number_in_leaves 0 w64 (omega arith) 0 1099511627775 fault.Limit room.1) (λ budget. done_leaves after _)))
 
-pub function_head_leaves : (end : ℕ) (place : Place) (bytes : List ℕ) → Leaves 1 after bytes (function_head_at end place bytes)
+depth_leaves : (told : Bool) (bytes : List ℕ) → Leaves 0 after bytes (if told then number_in w16 0 256 fault.Limit bytes else Ok (0, bytes))
+depth_leaves true bytes = number_in_leaves 0 w16 (omega arith) 0 256 fault.Limit bytes
+depth_leaves false bytes = done_leaves after _
+
+pub function_head_leaves : (version end : ℕ) (place : Place) (bytes : List ℕ) → Leaves 1 after bytes (function_head_at version end place bytes)
 unfolding function_head_at
-function_head_leaves end place bytes =
+function_head_leaves version end place bytes =
     then_leaves 1 after after bytes _ _ (counts_leave bytes) (λ counts.
     then_leaves 0 after after counts.1 _ _ (number_leaves 0 w32 (omega arith) counts.1) (λ entry.
     test_leaves 0 after entry.1 (admits end place.0 entry.0) fault.Order _
     (then_leaves 0 after after entry.1 _ _ (bounds_leave entry.1) (λ bounds.
-    then_leaves 0 after after bounds.1 _ _ (number_in_leaves 0 w16 (omega arith) 1 (4096 - place.1) fault.Limit bounds.1) (λ blocks. done_leaves after _)))))
+    then_leaves 0 after after bounds.1 _ _ (depth_leaves (version == 3) bounds.1) (λ depth.
+    then_leaves 0 after after depth.1 _ _ (number_in_leaves 0 w16 (omega arith) 1 (4096 - place.1) fault.Limit depth.1) (λ blocks. done_leaves after _))))))
 
 services_leave : (bytes : List ℕ) → Leaves 1 after bytes (services_at bytes)
 unfolding services_at

@@ -81,19 +81,19 @@ placed x = Ok x.1
 unfoldable pub block_item : ℕ → Next → List ℕ → Result (Next × List ℕ) ImageFault
 block_item end next bytes = block_at end (next, bytes) >>= placed
 
-block_then : (end left total n : ℕ) (next : Next) (bytes : List ℕ)
-    → rest_of (Blocks end left next total (suc n)) bytes ≡ (block_item end next bytes >>= λ x. rest_of (Blocks end left x.0 total n) x.1)
+block_then : (version end left total n : ℕ) (next : Next) (bytes : List ℕ)
+    → rest_of (Blocks version end left next total (suc n)) bytes ≡ (block_item end next bytes >>= λ x. rest_of (Blocks version end left x.0 total n) x.1)
 unfolding rest_of items_at block_item
-block_then end left total n next bytes = cases (block_at end (next, bytes)) where
-  cases : (r : Result (Block × (Next × List ℕ)) ImageFault) → ((r >>= λ first. items_at (block_at end) n first.1 >>= joined first.0) >>= λ read. functions_end end left (read.1.0, total) read.1.1)
-      ≡ ((r >>= placed) >>= λ x. items_at (block_at end) n (x.0, x.1) >>= λ read. functions_end end left (read.1.0, total) read.1.1)
-  cases (Ok b) = then_then (items_at (block_at end) n b.1) (joined b.0) (λ read. functions_end end left (read.1.0, total) read.1.1)
+block_then version end left total n next bytes = cases (block_at end (next, bytes)) where
+  cases : (r : Result (Block × (Next × List ℕ)) ImageFault) → ((r >>= λ first. items_at (block_at end) n first.1 >>= joined first.0) >>= λ read. functions_end version end left (read.1.0, total) read.1.1)
+      ≡ ((r >>= placed) >>= λ x. items_at (block_at end) n (x.0, x.1) >>= λ read. functions_end version end left (read.1.0, total) read.1.1)
+  cases (Ok b) = then_then (items_at (block_at end) n b.1) (joined b.0) (λ read. functions_end version end left (read.1.0, total) read.1.1)
   cases (Err e) = refl
 
-pub block_reads : (end left total n : ℕ) (next : Next) → Reads (Blocks end left next total (suc n)) (λ x. Blocks end left x total n) (block_item end next)
+pub block_reads : (version end left total n : ℕ) (next : Next) → Reads (Blocks version end left next total (suc n)) (λ x. Blocks version end left x total n) (block_item end next)
 unfolding block_item
-block_reads end left total n next = record {
-  same = block_then end left total n next;
+block_reads version end left total n next = record {
+  same = block_then version end left total n next;
   lasts = λ more bytes. then_lasts _ _ _ _ _ (block_lasts more end (next, bytes)) (λ x. done_lasts _ _);
   leaves = λ bytes. then_leaves 1 (λ x. x.1.1) rest_at bytes _ _ (block_leaves end next bytes) (λ x. done_leaves rest_at x.1);
 }
@@ -106,19 +106,19 @@ pub block_err : (end : ℕ) (next : Next) (bytes : List ℕ) (e : ImageFault) �
 unfolding block_item
 block_err end next bytes e p = rw p refl
 
-no_blocks : (end left total : ℕ) (next : Next) (bytes : List ℕ) → rest_of (Functions end left next total) bytes ≡ rest_of (Blocks end left next total 0) bytes
+no_blocks : (version end left total : ℕ) (next : Next) (bytes : List ℕ) → rest_of (Functions version end left next total) bytes ≡ rest_of (Blocks version end left next total 0) bytes
 unfolding rest_of items_at
-no_blocks end left total next bytes = refl
+no_blocks version end left total next bytes = refl
 
 -- What is whole at a stage is whole at one that reads alike.
 alike : (one other : Stage) → ((bytes : List ℕ) → rest_of one bytes ≡ rest_of other bytes) → (bytes : List ℕ) (r : Result (Stage × ℕ) ImageFault) → IsWhole one bytes r → IsWhole other bytes r
 alike one other same bytes (Ok x) p = (p.0, p.1, λ more. sym (same (bytes ++ more)) ∙ p.2 more)
 alike one other same bytes (Err e) p = λ kept. (λ short. rw (sym (same bytes)) ((p kept).0 short), λ ne more. rw (sym (same (bytes ++ more))) ((p kept).1 ne more))
 
-pub last_block : (end left total blocks : ℕ) (next : Next) (stage : Stage) (bytes : List ℕ) (r : Result (Stage × ℕ) ImageFault) → stage ≡ Blocks end left next total blocks → blocks ≡ 0
-    → IsWhole (Functions end left next total) bytes r → IsWhole stage bytes r
-last_block end left total blocks next stage bytes r is none p =
-    rw (is, none) (alike (Functions end left next total) (Blocks end left next total 0) (no_blocks end left total next) bytes r p)
+pub last_block : (version end left total blocks : ℕ) (next : Next) (stage : Stage) (bytes : List ℕ) (r : Result (Stage × ℕ) ImageFault) → stage ≡ Blocks version end left next total blocks → blocks ≡ 0
+    → IsWhole (Functions version end left next total) bytes r → IsWhole stage bytes r
+last_block version end left total blocks next stage bytes r is none p =
+    rw (is, none) (alike (Functions version end left next total) (Blocks version end left next total 0) (no_blocks version end left total next) bytes r p)
 
 -- ---- a function's head and ranges
 
@@ -146,80 +146,80 @@ then_5 : {G H P R B F Z : Type 0} (g : Result G ImageFault) (h : G → Result H 
 then_5 (Ok v) h p r b made k = then_4 (h v) (p v) (r v) (b v) (made v) k
 then_5 (Err e) h p r b made k = refl
 
-functions_then : (end left : ℕ) (place : Place) (bytes : List ℕ)
-    → functions_end end (suc left) place bytes ≡ (function_at end (place, bytes) >>= λ f. functions_end end left f.1.0 f.1.1)
+functions_then : (version end left : ℕ) (place : Place) (bytes : List ℕ)
+    → functions_end version end (suc left) place bytes ≡ (function_at version end (place, bytes) >>= λ f. functions_end version end left f.1.0 f.1.1)
 unfolding functions_end items_at
-functions_then end left place bytes = cases (function_at end (place, bytes)) where
+functions_then version end left place bytes = cases (function_at version end (place, bytes)) where
   cases : (r : Result (Function × (Place × List ℕ)) ImageFault)
-      → ((r >>= λ first. items_at (function_at end) left first.1 >>= joined first.0) >>= λ functions. wants (length functions.1.1 == 0) fault.Trailing)
-      ≡ (r >>= λ f. items_at (function_at end) left f.1 >>= λ functions. wants (length functions.1.1 == 0) fault.Trailing)
-  cases (Ok f) = then_then (items_at (function_at end) left f.1) (joined f.0) (λ functions. wants (length functions.1.1 == 0) fault.Trailing)
+      → ((r >>= λ first. items_at (function_at version end) left first.1 >>= joined first.0) >>= λ functions. wants (length functions.1.1 == 0) fault.Trailing)
+      ≡ (r >>= λ f. items_at (function_at version end) left f.1 >>= λ functions. wants (length functions.1.1 == 0) fault.Trailing)
+  cases (Ok f) = then_then (items_at (function_at version end) left f.1) (joined f.0) (λ functions. wants (length functions.1.1 == 0) fault.Trailing)
   cases (Err e) = refl
 
 -- a head and its ranges, as the head
-unfoldable pub function_item : ℕ → Place → List ℕ → Result (FunctionHead × List ℕ) ImageFault
-function_item end place bytes = do
-  head ← function_head_at end place bytes
+unfoldable pub function_item : ℕ → ℕ → Place → List ℕ → Result (FunctionHead × List ℕ) ImageFault
+function_item version end place bytes = do
+  head ← function_head_at version end place bytes
   params ← items_at range_at head.0.params head.1
   results ← items_at range_at head.0.results params.1
   Ok (head.0, results.1)
 
 -- head and ranges first, and then as many blocks as the head says
-function_then : (end left total : ℕ) (next : Next) (bytes : List ℕ)
-    → rest_of (Functions end (suc left) next total) bytes
-    ≡ (function_head_at end (next, total) bytes >>= λ h. items_at range_at h.0.params h.1 >>= λ p. items_at range_at h.0.results p.1 >>= λ r. rest_of (Blocks end left (Exactly h.0.entry) (total + h.0.blocks) h.0.blocks) r.1)
+function_then : (version end left total : ℕ) (next : Next) (bytes : List ℕ)
+    → rest_of (Functions version end (suc left) next total) bytes
+    ≡ (function_head_at version end (next, total) bytes >>= λ h. items_at range_at h.0.params h.1 >>= λ p. items_at range_at h.0.results p.1 >>= λ r. rest_of (Blocks version end left (Exactly h.0.entry) (total + h.0.blocks) h.0.blocks) r.1)
 unfolding rest_of function_at
-function_then end left total next bytes = functions_then end left (next, total) bytes ∙
+function_then version end left total next bytes = functions_then version end left (next, total) bytes ∙
     then_4 {H = FunctionHead × List ℕ} {P = List Range × List ℕ} {R = List Range × List ℕ} {B = List Block × (Next × List ℕ)} {F = Function × (Place × List ℕ)}
-    (function_head_at end (next, total) bytes) (λ x. items_at range_at x.0.params x.1) (λ x y. items_at range_at x.0.results y.1) (λ x y z. items_at (block_at end) x.0.blocks (Exactly x.0.entry, z.1))
-    (λ x y z w. (record { kind = x.0.kind; params = y.0; results = z.0; entry = x.0.entry; frame = x.0.frame; stack_room = x.0.stack_room; budget = x.0.budget; blocks = w.0 }, ((w.1.0, total + x.0.blocks), w.1.1)))
-    (λ x. functions_end end left x.1.0 x.1.1)
+    (function_head_at version end (next, total) bytes) (λ x. items_at range_at x.0.params x.1) (λ x y. items_at range_at x.0.results y.1) (λ x y z. items_at (block_at end) x.0.blocks (Exactly x.0.entry, z.1))
+    (λ x y z w. (record { kind = x.0.kind; params = y.0; results = z.0; entry = x.0.entry; frame = x.0.frame; stack_room = x.0.stack_room; budget = x.0.budget; depth = x.0.depth; blocks = w.0 }, ((w.1.0, total + x.0.blocks), w.1.1)))
+    (λ x. functions_end version end left x.1.0 x.1.1)
 
-pub function_reads : (end left total : ℕ) (next : Next) → Reads (Functions end (suc left) next total) (λ h. Blocks end left (Exactly h.entry) (total + h.blocks) h.blocks) (function_item end (next, total))
+pub function_reads : (version end left total : ℕ) (next : Next) → Reads (Functions version end (suc left) next total) (λ h. Blocks version end left (Exactly h.entry) (total + h.blocks) h.blocks) (function_item version end (next, total))
 unfolding function_item
-function_reads end left total next = record {
-  same = λ bytes. function_then end left total next bytes ∙ sym
+function_reads version end left total next = record {
+  same = λ bytes. function_then version end left total next bytes ∙ sym
       (then_3 {P = FunctionHead × List ℕ} {R = List Range × List ℕ} {B = List Range × List ℕ} {F = FunctionHead × List ℕ}
-      (function_head_at end (next, total) bytes) (λ x. items_at range_at x.0.params x.1) (λ x y. items_at range_at x.0.results y.1) (λ x y z. (x.0, z.1))
-      (λ x. rest_of (Blocks end left (Exactly x.0.entry) (total + x.0.blocks) x.0.blocks) x.1));
+      (function_head_at version end (next, total) bytes) (λ x. items_at range_at x.0.params x.1) (λ x y. items_at range_at x.0.results y.1) (λ x y z. (x.0, z.1))
+      (λ x. rest_of (Blocks version end left (Exactly x.0.entry) (total + x.0.blocks) x.0.blocks) x.1));
   lasts = λ more bytes.
-      then_lasts _ _ _ _ _ (function_head_lasts more end (next, total) bytes) (λ head.
+      then_lasts _ _ _ _ _ (function_head_lasts more version end (next, total) bytes) (λ head.
       then_lasts _ _ _ _ _ (ranges_last more head.0.params head.1) (λ params.
       then_lasts _ _ _ _ _ (ranges_last more head.0.results params.1) (λ results. done_lasts _ _)));
   leaves = λ bytes.
-      then_leaves 1 rest_at rest_at bytes _ _ (function_head_leaves end (next, total) bytes) (λ head.
+      then_leaves 1 rest_at rest_at bytes _ _ (function_head_leaves version end (next, total) bytes) (λ head.
       then_leaves 0 rest_at rest_at head.1 _ _ (ranges_leave head.0.params head.1) (λ params.
       then_leaves 0 rest_at rest_at params.1 _ _ (ranges_leave head.0.results params.1) (λ results. done_leaves rest_at _)));
 }
 
-pub function_ok : (end : ℕ) (place : Place) (bytes : List ℕ) (h : FunctionHead × List ℕ) (p r : List Range × List ℕ)
-    → function_head_at end place bytes ≡ Ok h → items_at range_at h.0.params h.1 ≡ Ok p → items_at range_at h.0.results p.1 ≡ Ok r → function_item end place bytes ≡ Ok (h.0, r.1)
+pub function_ok : (version end : ℕ) (place : Place) (bytes : List ℕ) (h : FunctionHead × List ℕ) (p r : List Range × List ℕ)
+    → function_head_at version end place bytes ≡ Ok h → items_at range_at h.0.params h.1 ≡ Ok p → items_at range_at h.0.results p.1 ≡ Ok r → function_item version end place bytes ≡ Ok (h.0, r.1)
 unfolding function_item
-function_ok end place bytes h p r eh ep er = rw (eh, ep, er) refl
+function_ok version end place bytes h p r eh ep er = rw (eh, ep, er) refl
 
-pub head_err : (end : ℕ) (place : Place) (bytes : List ℕ) (e : ImageFault) → function_head_at end place bytes ≡ Err e → function_item end place bytes ≡ Err e
+pub head_err : (version end : ℕ) (place : Place) (bytes : List ℕ) (e : ImageFault) → function_head_at version end place bytes ≡ Err e → function_item version end place bytes ≡ Err e
 unfolding function_item
-head_err end place bytes e p = rw p refl
+head_err version end place bytes e p = rw p refl
 
-pub params_err : (end : ℕ) (place : Place) (bytes : List ℕ) (h : FunctionHead × List ℕ) (e : ImageFault)
-    → function_head_at end place bytes ≡ Ok h → items_at range_at h.0.params h.1 ≡ Err e → function_item end place bytes ≡ Err e
+pub params_err : (version end : ℕ) (place : Place) (bytes : List ℕ) (h : FunctionHead × List ℕ) (e : ImageFault)
+    → function_head_at version end place bytes ≡ Ok h → items_at range_at h.0.params h.1 ≡ Err e → function_item version end place bytes ≡ Err e
 unfolding function_item
-params_err end place bytes h e eh p = rw (eh, p) refl
+params_err version end place bytes h e eh p = rw (eh, p) refl
 
-pub results_err : (end : ℕ) (place : Place) (bytes : List ℕ) (h : FunctionHead × List ℕ) (q : List Range × List ℕ) (e : ImageFault)
-    → function_head_at end place bytes ≡ Ok h → items_at range_at h.0.params h.1 ≡ Ok q → items_at range_at h.0.results q.1 ≡ Err e → function_item end place bytes ≡ Err e
+pub results_err : (version end : ℕ) (place : Place) (bytes : List ℕ) (h : FunctionHead × List ℕ) (q : List Range × List ℕ) (e : ImageFault)
+    → function_head_at version end place bytes ≡ Ok h → items_at range_at h.0.params h.1 ≡ Ok q → items_at range_at h.0.results q.1 ≡ Err e → function_item version end place bytes ≡ Err e
 unfolding function_item
-results_err end place bytes h q e eh eq p = rw (eh, eq, p) refl
+results_err version end place bytes h q e eh eq p = rw (eh, eq, p) refl
 
 -- Behind the last function the bytes end.
-pub ends_here : (end left total : ℕ) (next : Next) (bytes : List ℕ) → left ≡ 0 → length bytes ≡ 0 → IsWhole (Functions end left next total) bytes (Err fault.Short)
+pub ends_here : (version end left total : ℕ) (next : Next) (bytes : List ℕ) → left ≡ 0 → length bytes ≡ 0 → IsWhole (Functions version end left next total) bytes (Err fault.Short)
 unfolding rest_of functions_end items_at
-ends_here end left total next bytes none empty kept =
+ends_here version end left total next bytes none empty kept =
     (λ short. rw (none, nil_from_length bytes empty) refl, λ ne more. absurd (ne refl))
 
-pub more_behind : (end left total : ℕ) (next : Next) (bytes : List ℕ) → left ≡ 0 → (length bytes == 0) ≡ false → IsWhole (Functions end left next total) bytes (Err fault.Trailing)
+pub more_behind : (version end left total : ℕ) (next : Next) (bytes : List ℕ) → left ≡ 0 → (length bytes == 0) ≡ false → IsWhole (Functions version end left next total) bytes (Err fault.Trailing)
 unfolding rest_of functions_end items_at
-more_behind end left total next bytes none some kept =
+more_behind version end left total next bytes none some kept =
     (λ short. absurd cc, λ ne more. rw (none, ne_eqb (length (bytes ++ more)) 0 (λ e. eqb-false (length bytes) 0 some (omega (arith, e, length-append bytes more)))) refl)
 
 -- ---- header, lengths and kinds
@@ -235,11 +235,11 @@ closed (Err e) = refl
 
 front_then : (bytes : List ℕ)
     → rest_of Front bytes
-    ≡ (header_at bytes >>= λ h. shapes_at h.0 h.1 >>= λ s. items_at (number_at w32) h.0.words s.1 >>= λ w. regions_at s.0 w.1 >>= λ d. rest_of (Functions (code_start + 4 * h.0.words) h.0.functions (Exactly code_start) 0) d.1)
+    ≡ (header_at bytes >>= λ h. shapes_at h.0 h.1 >>= λ s. items_at (number_at w32) h.0.words s.1 >>= λ w. regions_at s.0 w.1 >>= λ d. rest_of (Functions h.0.version (code_start + 4 * h.0.words) h.0.functions (Exactly code_start) 0) d.1)
 unfolding rest_of reading parts_at functions_end
 front_then bytes = closed (parts_at bytes) ∙
     then_5 {G = Header × List ℕ} {H = List Shape × List ℕ} {P = List ℕ × List ℕ} {R = List Region × List ℕ} {B = List Function × (Place × List ℕ)} {F = Parts × List ℕ}
-    (header_at bytes) (λ v. shapes_at v.0 v.1) (λ v x. items_at (number_at w32) v.0.words x.1) (λ v x y. regions_at x.0 y.1) (λ v x y z. items_at (function_at (code_start + 4 * v.0.words)) v.0.functions ((Exactly code_start, 0), z.1))
+    (header_at bytes) (λ v. shapes_at v.0 v.1) (λ v x. items_at (number_at w32) v.0.words x.1) (λ v x y. regions_at x.0 y.1) (λ v x y z. items_at (function_at v.0.version (code_start + 4 * v.0.words)) v.0.functions ((Exactly code_start, 0), z.1))
     (λ v x y z w. (record { version = v.0.version; services = v.0.services; words = y.0; regions = z.0; stack_pages = v.0.stack_pages; functions = w.0 }, w.1.1))
     (λ x. wants (length x.1 == 0) fault.Trailing)
 
@@ -284,10 +284,10 @@ regions_lack (s ∷ shapes) bytes lt =
     ]
 
 -- So they are so many bytes.
-body_then : (n : ℕ) (shapes : List Shape) (end left : ℕ) (bytes : List ℕ)
-    → (items_at (number_at w32) n bytes >>= λ w. regions_at shapes w.1 >>= λ d. rest_of (Functions end left (Exactly code_start) 0) d.1) ≡ rest_of (Body (4 * n + shape_bytes shapes) end left) bytes
+body_then : (n : ℕ) (shapes : List Shape) (version end left : ℕ) (bytes : List ℕ)
+    → (items_at (number_at w32) n bytes >>= λ w. regions_at shapes w.1 >>= λ d. rest_of (Functions version end left (Exactly code_start) 0) d.1) ≡ rest_of (Body (4 * n + shape_bytes shapes) version end left) bytes
 unfolding rest_of
-body_then n shapes end left bytes =
+body_then n shapes version end left bytes =
     elim (cases_lt (length bytes) (4 * n + shape_bytes shapes)) [
       | inl lacks ↦
           elim (cases_lt (length bytes) (4 * n)) [
@@ -311,7 +311,7 @@ front_item bytes = do
   Ok ((header.0, shapes.0), shapes.1)
 
 abbrev after_front : Header × List Shape → Stage
-after_front h = Body (4 * h.0.words + shape_bytes h.1) (code_start + 4 * h.0.words) h.0.functions
+after_front h = Body (4 * h.0.words + shape_bytes h.1) h.0.version (code_start + 4 * h.0.words) h.0.functions
 
 then_same : {X Y : Type 0} (r : Result X ImageFault) (f g : X → Result Y ImageFault) → ((x : X) → f x ≡ g x) → (r >>= f) ≡ (r >>= g)
 then_same (Ok x) f g h = h x
@@ -321,7 +321,7 @@ pub front_reads : Reads Front after_front front_item
 unfolding front_item
 front_reads = record {
   same = λ bytes. front_then bytes
-      ∙ then_same (header_at bytes) _ _ (λ h. then_same (shapes_at h.0 h.1) _ _ (λ s. body_then h.0.words s.0 (code_start + 4 * h.0.words) h.0.functions s.1))
+      ∙ then_same (header_at bytes) _ _ (λ h. then_same (shapes_at h.0 h.1) _ _ (λ s. body_then h.0.words s.0 h.0.version (code_start + 4 * h.0.words) h.0.functions s.1))
       ∙ sym
       (then_2 {R = Header × List ℕ} {B = List Shape × List ℕ} {F = (Header × List Shape) × List ℕ}
       (header_at bytes) (λ x. shapes_at x.0 x.1) (λ x y. ((x.0, y.0), y.1)) (λ x. rest_of (after_front x.0) x.1));
@@ -347,29 +347,29 @@ shapes_err bytes h behind e eh p = rw (eh, p) refl
 
 -- ---- words and data
 
-body_reads : (count end left : ℕ) → 0 < count → Reads (Body count end left) (λ _. Functions end left (Exactly code_start) 0) (bytes_at count)
+body_reads : (count version end left : ℕ) → 0 < count → Reads (Body count version end left) (λ _. Functions version end left (Exactly code_start) 0) (bytes_at count)
 unfolding rest_of
-body_reads count end left some = record {
+body_reads count version end left some = record {
   same = λ bytes. refl;
   lasts = λ more bytes. bytes_last more count bytes;
   leaves = λ bytes. bytes_leave 1 count (omega (arith, some)) bytes;
 }
 
-pub body_lacks : (count end left : ℕ) (bytes : List ℕ) → 0 < count → length bytes < count → IsWhole (Body count end left) bytes (Err fault.Short)
-body_lacks count end left bytes some lt = whole_err _ _ _ (body_reads count end left some) bytes fault.Short (λ _. rw (lt-ltb _ _ lt) refl)
+pub body_lacks : (count version end left : ℕ) (bytes : List ℕ) → 0 < count → length bytes < count → IsWhole (Body count version end left) bytes (Err fault.Short)
+body_lacks count version end left bytes some lt = whole_err _ _ _ (body_reads count version end left some) bytes fault.Short (λ _. rw (lt-ltb _ _ lt) refl)
 
-pub body_whole : (count end left : ℕ) (bytes : List ℕ) → 0 < count → count ≤ length bytes → IsWhole (Body count end left) bytes (Ok (Functions end left (Exactly code_start) 0, count))
-body_whole count end left bytes some le =
-    whole_ok _ _ _ (body_reads count end left some) bytes (take count bytes) (drop count bytes) count (rw (le-ltb _ _ le) refl) (omega (arith, le, length-drop count bytes))
+pub body_whole : (count version end left : ℕ) (bytes : List ℕ) → 0 < count → count ≤ length bytes → IsWhole (Body count version end left) bytes (Ok (Functions version end left (Exactly code_start) 0, count))
+body_whole count version end left bytes some le =
+    whole_ok _ _ _ (body_reads count version end left some) bytes (take count bytes) (drop count bytes) count (rw (le-ltb _ _ le) refl) (omega (arith, le, length-drop count bytes))
 
-no_body : (end left : ℕ) (bytes : List ℕ) → rest_of (Functions end left (Exactly code_start) 0) bytes ≡ rest_of (Body 0 end left) bytes
+no_body : (version end left : ℕ) (bytes : List ℕ) → rest_of (Functions version end left (Exactly code_start) 0) bytes ≡ rest_of (Body 0 version end left) bytes
 unfolding rest_of
-no_body end left bytes = let none : 0 ≤ length bytes = omega arith in rw (le-ltb _ _ none) refl
+no_body version end left bytes = let none : 0 ≤ length bytes = omega arith in rw (le-ltb _ _ none) refl
 
-pub behind_body : (count end left : ℕ) (stage : Stage) (bytes : List ℕ) (r : Result (Stage × ℕ) ImageFault) → stage ≡ Body count end left → count ≡ 0
-    → IsWhole (Functions end left (Exactly code_start) 0) bytes r → IsWhole stage bytes r
-behind_body count end left stage bytes r is none p =
-    rw (is, none) (alike (Functions end left (Exactly code_start) 0) (Body 0 end left) (no_body end left) bytes r p)
+pub behind_body : (count version end left : ℕ) (stage : Stage) (bytes : List ℕ) (r : Result (Stage × ℕ) ImageFault) → stage ≡ Body count version end left → count ≡ 0
+    → IsWhole (Functions version end left (Exactly code_start) 0) bytes r → IsWhole stage bytes r
+behind_body count version end left stage bytes r is none p =
+    rw (is, none) (alike (Functions version end left (Exactly code_start) 0) (Body 0 version end left) (no_body version end left) bytes r p)
 
 -- ---- from a stage on
 

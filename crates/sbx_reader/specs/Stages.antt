@@ -11,20 +11,20 @@ use Rattle.sbx_reader.specs.declared.stages.Stage.TheVariants.{Front, Body, Func
 use Rattle.sbx_reader.specs.Fronts.{lasting, front}
 
 -- so many functions, and the end of the bytes
-unfoldable pub functions_end : ℕ → ℕ → Place → List ℕ → Result (Unit {0}) ImageFault
-functions_end end left place bytes = do
-  functions ← items_at (function_at end) left (place, bytes)
+unfoldable pub functions_end : ℕ → ℕ → ℕ → Place → List ℕ → Result (Unit {0}) ImageFault
+functions_end version end left place bytes = do
+  functions ← items_at (function_at version end) left (place, bytes)
   wants (length functions.1.1 == 0) fault.Trailing
 
 -- The bytes behind what was read, to their end: the whole image, so many bytes and then functions, so many functions, or so many blocks and then
 -- functions.
 unfoldable pub rest_of : Stage → List ℕ → Result (Unit {0}) ImageFault
 rest_of Front bytes = reading bytes >>= λ _. Ok tt
-rest_of (Body count end left) bytes = bytes_at count bytes >>= λ body. functions_end end left (Exactly code_start, 0) body.1
-rest_of (Functions end left next total) bytes = functions_end end left (next, total) bytes
-rest_of (Blocks end left next total blocks) bytes = do
+rest_of (Body count version end left) bytes = bytes_at count bytes >>= λ body. functions_end version end left (Exactly code_start, 0) body.1
+rest_of (Functions version end left next total) bytes = functions_end version end left (next, total) bytes
+rest_of (Blocks version end left next total blocks) bytes = do
   read ← items_at (block_at end) blocks (next, bytes)
-  functions_end end left (read.1.0, total) read.1.1
+  functions_end version end left (read.1.0, total) read.1.1
 
 abbrev pub lasting_of : Result (Unit {0}) ImageFault → Result (Unit {0}) ImageFault
 lasting_of (Ok x) = Ok tt

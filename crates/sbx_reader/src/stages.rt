@@ -9,18 +9,18 @@ use sbx_image::{
 use std::alloc::Global;
 use v8_map::CODE_START;
 
-/// What comes next. `end` is the address behind the code, `left` how many functions come behind the one that is read, and
-/// `total` how many blocks the functions have up to that one.
+/// What comes next. `version` is the image's, `end` the address behind the code, `left` how many functions come behind the one
+/// that is read, and `total` how many blocks the functions have up to that one.
 #[derive(Clone, Copy)]
 pub enum Stage {
     /// Header, and the regions' lengths and kinds.
     Front,
     /// So many bytes of words and data, the first number, behind which functions come, the last number.
-    Body(usize, u32, u16),
+    Body(usize, u16, u32, u16),
     /// A function, its head and ranges first; behind the last one the end.
-    Functions(u32, u16, Next, u16),
+    Functions(u16, u32, u16, Next, u16),
     /// So many blocks of a function, the last number.
-    Blocks(u32, u16, Next, u16, u16),
+    Blocks(u16, u32, u16, Next, u16, u16),
 }
 
 /// How far the rest of some bytes lies in them.
@@ -37,37 +37,52 @@ fn front_item(alloc: Global, bytes: &[u8]) -> Result<(Stage, usize), ImageFault>
     let (header, rest) = header_of(bytes)?;
     let (shapes, rest) = shapes_of(alloc, header, rest)?;
     let count = 4 * header.words as usize + shape_bytes(shapes.as_slice()) as usize;
-    let stage = Stage::Body(count, CODE_START + 4 * header.words, header.functions);
+    let end = CODE_START + 4 * header.words;
+    let stage = Stage::Body(count, header.version, end, header.functions);
     Ok((stage, read_of(bytes, rest)))
 }
 
 /// Words and data: a word or a byte of data has no fault of its own, so all are skipped at once.
-fn body_item(count: usize, end: u32, left: u16, bytes: &[u8]) -> Result<(Stage, usize), ImageFault>
+fn body_item(
+    count: usize,
+    version: u16,
+    end: u32,
+    left: u16,
+    bytes: &[u8],
+) -> Result<(Stage, usize), ImageFault>
     requires { 0 < count }
-    ensures { IsWhole (Body count end left) bytes.now result }
+    ensures { IsWhole (Body count version end left) bytes.now result }
 {
     if bytes.len() < count {
         return Err(ImageFault::Short);
     }
-    let stage = Stage::Functions(end, left, Next::Exactly(CODE_START), 0);
+    let stage = Stage::Functions(version, end, left, Next::Exactly(CODE_START), 0);
     Ok((stage, count))
 }
 
 /// A function's head and ranges.
 fn function_item(
     alloc: Global,
+    version: u16,
     end: u32,
     left: u16,
     place: (Next, u16),
     bytes: &[u8],
 ) -> Result<(Stage, usize), ImageFault>
-    ensures { IsWhole (Functions end (suc left) place.0 place.1) bytes.now result }
+    ensures { IsWhole (Functions version end (suc left) place.0 place.1) bytes.now result }
 {
-    let (head, rest) = function_head_of(end, place, bytes)?;
+    let (head, rest) = function_head_of(version, end, place, bytes)?;
     let (_, rest) = ranges_of(alloc, head.params, rest)?;
     let (_, rest) = ranges_of(alloc, head.results, rest)?;
     let first = Next::Exactly(head.entry);
-    let stage = Stage::Blocks(end, left, first, place.1 + head.blocks, head.blocks);
+    let stage = Stage::Blocks(
+        version,
+        end,
+        left,
+        first,
+        place.1 + head.blocks,
+        head.blocks,
+    );
     Ok((stage, read_of(bytes, rest)))
 }
 
@@ -77,21 +92,28 @@ fn whole_item(alloc: Global, stage: Stage, bytes: &[u8]) -> Result<(Stage, usize
 {
     match stage {
         Stage::Front => front_item(alloc, bytes),
-        Stage::Body(count, end, left) => {
+        Stage::Body(count, version, end, left) => {
             if count > 0 {
-                body_item(count, end, left, bytes)
+                body_item(count, version, end, left, bytes)
             } else {
-                function_or_end(alloc, end, left, (Next::Exactly(CODE_START), 0), bytes)
+                function_or_end(
+                    alloc,
+                    version,
+                    end,
+                    left,
+                    (Next::Exactly(CODE_START), 0),
+                    bytes,
+                )
             }
         }
-        Stage::Functions(end, left, next, total) => {
-            function_or_end(alloc, end, left, (next, total), bytes)
+        Stage::Functions(version, end, left, next, total) => {
+            function_or_end(alloc, version, end, left, (next, total), bytes)
         }
-        Stage::Blocks(end, left, next, total, blocks) => {
+        Stage::Blocks(version, end, left, next, total, blocks) => {
             if blocks > 0 {
-                block_item(alloc, end, left, (next, total), blocks - 1, bytes)
+                block_item(alloc, version, end, left, (next, total), blocks - 1, bytes)
             } else {
-                function_or_end(alloc, end, left, (next, total), bytes)
+                function_or_end(alloc, version, end, left, (next, total), bytes)
             }
         }
     }
@@ -100,15 +122,16 @@ fn whole_item(alloc: Global, stage: Stage, bytes: &[u8]) -> Result<(Stage, usize
 /// A function's head and ranges where one is left; else the end.
 fn function_or_end(
     alloc: Global,
+    version: u16,
     end: u32,
     left: u16,
     place: (Next, u16),
     bytes: &[u8],
 ) -> Result<(Stage, usize), ImageFault>
-    ensures { IsWhole (Functions end left place.0 place.1) bytes.now result }
+    ensures { IsWhole (Functions version end left place.0 place.1) bytes.now result }
 {
     if left > 0 {
-        return function_item(alloc, end, left - 1, place, bytes);
+        return function_item(alloc, version, end, left - 1, place, bytes);
     }
     if bytes.is_empty() {
         Err(ImageFault::Short)
@@ -120,17 +143,18 @@ fn function_or_end(
 /// A block.
 fn block_item(
     alloc: Global,
+    version: u16,
     end: u32,
     left: u16,
     place: (Next, u16),
     blocks: u16,
     bytes: &[u8],
 ) -> Result<(Stage, usize), ImageFault>
-    ensures { IsWhole (Blocks end left place.0 place.1 (suc blocks)) bytes.now result }
+    ensures { IsWhole (Blocks version end left place.0 place.1 (suc blocks)) bytes.now result }
 {
     let (_, (next, rest)) = block_of(alloc, end, place.0, bytes)?;
     Ok((
-        Stage::Blocks(end, left, next, place.1, blocks),
+        Stage::Blocks(version, end, left, next, place.1, blocks),
         read_of(bytes, rest),
     ))
 }
