@@ -6,6 +6,6 @@ mod depth;
 mod room;
 
 pub use arrivals::push_arrivals;
-pub use depth::push_depth;
+pub use depth::push_depth_sides;
 pub use room::push_room;
 pub use sbx_worked::push_fuel;
