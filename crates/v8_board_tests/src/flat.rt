@@ -15,15 +15,12 @@ fn gives(row: &Row, machine: &Plain<'_>, ran: &Ran) -> bool {
     exits && machine.output() == row.output && ran.path.len() == row.steps
 }
 
-/// The run with this fill, if it gives what the row says.
-fn run_of(alloc: Global, image: &Image, row: &Row, fill: u32) -> Result<Option<Ran>, Fail> {
+/// The run with this fill, and whether it gives what the row says.
+fn run_of(alloc: Global, image: &Image, row: &Row, fill: u32) -> Result<(Ran, bool), Fail> {
     let mut machine = Plain::new(alloc, image, row.input, fill)?;
     let ran = machine.run(alloc, image, fill, 100_000)?;
-    if gives(row, &machine, &ran) {
-        Ok(Some(ran))
-    } else {
-        Ok(None)
-    }
+    let is_given = gives(row, &machine, &ran);
+    Ok((ran, is_given))
 }
 
 fn is_same(first: &Place, second: &Place) -> bool {
@@ -55,20 +52,15 @@ fn costs(image: &Image, row: &Row, path: &[Place]) -> bool {
 
 /// Whether the run with ones gives the row, along this path.
 fn agrees(alloc: Global, image: &Image, row: &Row, path: &[Place]) -> Result<bool, Fail> {
-    match run_of(alloc, image, row, 0xFFFF_FFFF)? {
-        Some(ones) => Ok(are_same(path, &ones.path)),
-        None => Ok(false),
-    }
+    let (ones, is_given) = run_of(alloc, image, row, 0xFFFF_FFFF)?;
+    Ok(is_given && are_same(path, &ones.path))
 }
 
 /// Whether both fills of open words give the row, along one path.
 fn gives_both(alloc: Global, image: &Image, row: &Row) -> Result<bool, Fail> {
-    match run_of(alloc, image, row, 0)? {
-        Some(zeros) => Ok(
-            costs(image, row, &zeros.path) && agrees(alloc, image, row, &zeros.path)?,
-        ),
-        None => Ok(false),
-    }
+    let (zeros, is_given) = run_of(alloc, image, row, 0)?;
+    let agreed = agrees(alloc, image, row, &zeros.path)?;
+    Ok(is_given && agreed && costs(image, row, &zeros.path))
 }
 
 /// Whether the row is so.

@@ -70,16 +70,28 @@ fn machine_of<'a, const N: usize>(
     }
 }
 
+/// Where code stands: PC, nPC and the condition codes.
+type Spot = (u32, u32, Icc);
+
 impl<const N: usize> Boards<'_, N> {
-    /// A turn of both, if it is the same.
-    fn turn(&mut self) -> Option<Turn> {
+    /// A turn of both, if it is the same: whether it is a step of the flat machine.
+    fn turn(&mut self) -> Option<bool> {
         let Ok(one) = self.board.step() else {
             return None;
         };
         let Ok(other) = self.machine.step() else {
             return None;
         };
-        if one == other { Some(one) } else { None }
+        if one == other {
+            Some(is_step(&one))
+        } else {
+            None
+        }
+    }
+
+    /// Where they stand.
+    fn spot(&self) -> Spot {
+        (self.machine.pc(), self.machine.npc(), self.icc())
     }
 
     /// Whether user code has the turn.
@@ -110,26 +122,27 @@ fn flats_of<'a>(alloc: Global, image: &Image, input: &'a [u8]) -> Option<Flats<'
     Some(Flats { zeros, ones })
 }
 
+/// Where a flat machine stands.
+fn spot_of(flat: &Plain<'_>) -> Spot {
+    (flat.pc(), flat.npc(), flat.icc())
+}
+
+/// Whether a flat machine has the row's exit word and output.
+fn has_exited(flat: &Plain<'_>, row: &Row) -> bool {
+    flat.exit() == Some(row.status) && flat.output() == row.output
+}
+
 /// Whether the word is the flat machine's, or depends there on an open one.
 fn is_theirs(word: u32, zeros: u32, ones: u32) -> bool {
     word == zeros || zeros != ones
 }
 
 impl Flats<'_> {
-    /// Whether both are at the same place, with the same output.
-    fn are_one(&self) -> bool {
-        let (one, other) = (&self.zeros, &self.ones);
-        one.pc() == other.pc()
-            && one.npc() == other.npc()
-            && one.icc() == other.icc()
-            && one.output() == other.output()
-    }
-
-    /// Whether both have this exit word and output.
-    fn have_exited(&self, row: &Row) -> bool {
-        self.zeros.exit() == Some(row.status)
-            && self.ones.exit() == Some(row.status)
-            && self.zeros.output() == row.output
+    /// Whether both are at this place, with this output.
+    fn are_at(&self, spot: Spot, output: &[u8]) -> bool {
+        (spot_of(&self.zeros), spot_of(&self.ones)) == (spot, spot)
+            && self.zeros.output() == output
+            && self.ones.output() == output
     }
 
     /// Whether the registers of the board's current window are theirs.
@@ -147,13 +160,8 @@ impl Flats<'_> {
 
     /// Whether the board stands where they do.
     fn are_shown<const N: usize>(&self, boards: &Boards<'_, N>) -> bool {
-        let machine = &boards.machine;
-        machine.pc() == self.zeros.pc()
-            && machine.npc() == self.zeros.npc()
-            && boards.icc() == self.zeros.icc()
-            && is_theirs(machine.y(), self.zeros.y(), self.ones.y())
-            && boards.board.port().output() == self.zeros.output()
-            && self.are_one()
+        self.are_at(boards.spot(), boards.board.port().output())
+            && is_theirs(boards.machine.y(), self.zeros.y(), self.ones.y())
             && self.have_registers(boards)
     }
 
@@ -182,6 +190,23 @@ fn is_step(turn: &Turn) -> bool {
     }
 }
 
+/// Whether they are in step, and stay so for a turn.
+fn go_on<const N: usize>(
+    alloc: Global,
+    image: &Image,
+    boards: &mut Boards<'_, N>,
+    flats: &mut Flats<'_>,
+) -> bool {
+    if boards.is_user() && !flats.are_shown(boards) {
+        return false;
+    }
+    match boards.turn() {
+        Some(true) => flats.step(alloc, image),
+        Some(false) => true,
+        None => false,
+    }
+}
+
 /// Whether they stay in step for so many turns.
 fn stay_in_step<const N: usize>(
     alloc: Global,
@@ -191,17 +216,22 @@ fn stay_in_step<const N: usize>(
     turns: u64,
 ) -> bool {
     for _turn in 0..turns {
-        if boards.is_user() && !flats.are_shown(boards) {
-            return false;
-        }
-        let Some(turn) = boards.turn() else {
-            return false;
-        };
-        if is_step(&turn) && !flats.step(alloc, image) {
+        if !go_on(alloc, image, boards, flats) {
             return false;
         }
     }
     true
+}
+
+/// What the row's run on so many windows comes to.
+fn told_of(row: &Row, windows: u32) -> Outcome {
+    let (overflows, underflows, turns) = row.counts_on(windows);
+    Outcome {
+        ending: Ending::Exit(row.status),
+        turns,
+        overflows,
+        underflows,
+    }
 }
 
 /// Whether the boards, which have so many windows, and the flat machines stay in step, to the row's end.
@@ -213,16 +243,11 @@ fn end_in_step<const N: usize>(
     boards: &mut Boards<'_, N>,
     flats: &mut Flats<'_>,
 ) -> bool {
-    let (overflows, underflows, turns) = row.counts_on(windows);
-    let told = Outcome {
-        ending: Ending::Exit(row.status),
-        turns,
-        overflows,
-        underflows,
-    };
-    stay_in_step(alloc, image, boards, flats, turns)
+    let told = told_of(row, windows);
+    stay_in_step(alloc, image, boards, flats, told.turns)
         && boards.board.outcome() == told
-        && flats.have_exited(row)
+        && has_exited(&flats.zeros, row)
+        && has_exited(&flats.ones, row)
 }
 
 /// The same of these boards, and of flat machines at a start.

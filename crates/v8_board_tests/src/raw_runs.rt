@@ -161,13 +161,23 @@ fn bytes_of(alloc: Global, count: u32) -> Result<Vec<u8>, AllocError> {
     Ok(bytes)
 }
 
-/// Whether a loop of 12 turns that gets a byte and puts it out gives all of 3 MiB back.
-fn gives_back(alloc: Global) -> Result<bool, Fail> {
+/// A run of 37,748,736 turns of a loop of 12 turns that gets a byte and puts it out.
+fn long_echo(alloc: Global, input: &[u8]) -> Result<Raw, Fail> {
     // ta 1; ta 2; ba .-8; nop
     let image = raw_image(alloc, &[GET, PUT, 0x10BF_FFFE, NOP])?;
+    Ok(run_raw::<8>(alloc, &image, input, 37_748_736)?)
+}
+
+/// Whether a raw run of so many turns has put this out.
+fn gives(raw: &Raw, output: &[u8], turns: u64) -> bool {
+    raw.output.as_slice() == output && raw.outcome.turns == turns
+}
+
+/// Whether the loop gives all of 3 MiB back.
+fn gives_back(alloc: Global) -> Result<bool, Fail> {
     let input = bytes_of(alloc, 3_145_728)?;
-    let raw = run_raw::<8>(alloc, &image, &input, 37_748_736)?;
-    Ok(raw.output.as_slice() == input.as_slice() && raw.outcome.turns == 37_748_736)
+    let raw = long_echo(alloc, &input)?;
+    Ok(gives(&raw, &input, 37_748_736))
 }
 
 #[test]
@@ -182,6 +192,14 @@ fn chain_image(alloc: Global, shape: Shape) -> Result<Image, Fail> {
     raw_image(alloc, &words)
 }
 
+/// A chain's raw run on `N` windows.
+fn chain_run<const N: usize>(alloc: Global, shape: Shape) -> Result<Raw, Fail>
+    requires { (4 ≤ N) × (N ≤ 32) }
+{
+    let image = chain_image(alloc, shape)?;
+    Ok(run_raw::<N>(alloc, &image, b"", 10_000)?)
+}
+
 /// Whether a chain exits on `N` windows with this status, these counts, and `!` put out.
 fn chain_ends<const N: usize>(
     alloc: Global,
@@ -191,8 +209,7 @@ fn chain_ends<const N: usize>(
 ) -> Result<bool, Fail>
     requires { (4 ≤ N) × (N ≤ 32) }
 {
-    let image = chain_image(alloc, shape)?;
-    let raw = run_raw::<N>(alloc, &image, b"", 10_000)?;
+    let raw = chain_run::<N>(alloc, shape)?;
     Ok(exits(&raw, status, counts) && raw.output.as_slice() == b"!".as_slice())
 }
 
@@ -215,6 +232,14 @@ fn chains_of_calls_return(rt: HostRuntime) -> Result<(), Fail> {
     Ok(())
 }
 
+/// A raw run over eight bytes of data.
+fn data_run<const N: usize>(alloc: Global, words: &[u32]) -> Result<Raw, Fail>
+    requires { (4 ≤ N) × (N ≤ 32) }
+{
+    let image = data_image(alloc, words)?;
+    Ok(run_raw::<N>(alloc, &image, b"", 100)?)
+}
+
 /// Whether a raw run over eight bytes of data exits with 0 after so many turns, references a page of code and one of data, and
 /// modifies these.
 fn marks<const N: usize>(
@@ -225,8 +250,7 @@ fn marks<const N: usize>(
 ) -> Result<bool, Fail>
     requires { (4 ≤ N) × (N ≤ 32) }
 {
-    let image = data_image(alloc, words)?;
-    let raw = run_raw::<N>(alloc, &image, b"", 100)?;
+    let raw = data_run::<N>(alloc, words)?;
     let used = PageUse {
         referenced: [1, 1, 0],
         modified,

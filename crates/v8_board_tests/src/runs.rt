@@ -247,18 +247,34 @@ fn exits_after(board: &mut Tested, turns: u64) -> bool {
     ends(board, &Ok(outcome(Ending::Exit(0), turns, 0)), 0)
 }
 
+/// Whether a board, loaded with words over eight bytes of data, exits after so many turns, having used a page of code and one of data,
+/// and modified these.
+fn exits_over_data(
+    board: &mut Tested,
+    alloc: Global,
+    words: &[u32],
+    turns: u64,
+    modified: [u64; 3],
+) -> Result<bool, Fail> {
+    board.load(&data_image(alloc, words)?);
+    Ok(exits_after(board, turns) && used(board, [1, 1, 0], modified))
+}
+
+/// Whether a board finds no data where it is loaded with an image without.
+fn finds_no_data(board: &mut Tested, alloc: Global) -> Result<bool, Fail> {
+    load(board, alloc, &LOADS)?;
+    let refused = Ok(outcome(Ending::Trapped(TrapType::new(0x09)), 4, 0));
+    Ok(ends(board, &refused, 0x306) && used_code_alone(board))
+}
+
 /// A board that has run an image with a page of data is loaded with one without, whose load finds no page there, and with the first
 /// again, whose pages have no marks but its own.
 #[test]
 fn another_image_runs_on_its_own_pages(rt: HostRuntime) -> Result<(), Fail> {
     let alloc = rt.alloc();
     let mut board = board(alloc, 0)?;
-    board.load(&data_image(alloc, &STORES_AFTER_A_LOAD)?);
-    assert!(rt; exits_after(&mut board, 7) && used(&board, [1, 1, 0], [0, 1, 0]));
-    load(&mut board, alloc, &LOADS)?;
-    let refused = Ok(outcome(Ending::Trapped(TrapType::new(0x09)), 4, 0));
-    assert!(rt; ends(&mut board, &refused, 0x306) && used_code_alone(&board));
-    board.load(&data_image(alloc, &LOADS)?);
-    assert!(rt; exits_after(&mut board, 6) && used(&board, [1, 1, 0], [0, 0, 0]));
+    assert!(rt; exits_over_data(&mut board, alloc, &STORES_AFTER_A_LOAD, 7, [0, 1, 0])?);
+    assert!(rt; finds_no_data(&mut board, alloc)?);
+    assert!(rt; exits_over_data(&mut board, alloc, &LOADS, 6, [0, 0, 0])?);
     Ok(())
 }
