@@ -45,7 +45,7 @@ impl<R: Read, W: Write + Drop> Read for Hearer<'_, R, W> {
 }
 
 /// The writer of a conversation. No clause can say what a cell holds, so its contract has the counts of writes and not their
-/// bytes; each call is that of the writer in the cell.
+/// bytes. A write takes all: the writer in the cell keeps it, and passes a whole line on by one call of the system.
 #[derive(Drop)]
 struct Speaker<'a, W: Write + Drop> {
     out: &'a RefCell<LineWriter<W>>,
@@ -53,7 +53,8 @@ struct Speaker<'a, W: Write + Drop> {
 
 impl<W: Write + Drop> Write for Speaker<'_, W> {
     fn write(&mut self, buf: &[u8]) -> io::Result<usize> {
-        self.out.try_borrow_mut()?.write(buf)
+        self.out.try_borrow_mut()?.write_all(buf)?;
+        Ok(buf.len())
     }
 
     fn flush(&mut self) -> io::Result<()> {
