@@ -21,11 +21,12 @@ mod ways;
 
 use anyhow::{Result, anyhow};
 use loops::Loop;
+use sbx_image::Image;
 use shapes::Shape;
 use std::env;
 use std::time::Instant;
 use verdicts::timed_verdict;
-use ways::Way;
+use ways::{Told, Way};
 
 /// What is measured: a loop's turns, or a shape's verification.
 #[derive(Clone, Copy, PartialEq, Eq)]
@@ -105,21 +106,32 @@ fn planned(rt: &HostRuntime) -> Result<Plan> {
     Ok(plan)
 }
 
-/// Measures a loop in each way of the plan.
-fn measure_loop(rt: &HostRuntime, plan: Plan, loop_name: &str, measured: Loop) -> Result<()> {
-    let Ok(image) = loops::image(rt.alloc(), measured.words()) else {
-        return Err(anyhow!("the loop is no image"));
-    };
+/// What a way tells of a loop's image, and its time in microseconds, loading included.
+fn timed(rt: &HostRuntime, way: Way, image: &Image, turns: u64) -> Result<(Told, u128)> {
+    let begin = Instant::now(rt)?;
+    let told = way.drive(rt.alloc(), image, turns)?;
+    let time = begin.elapsed(rt)?;
+    Ok((told, time.as_micros()))
+}
+
+/// Measures a loop's image in each way of the plan.
+fn measure_image(rt: &HostRuntime, plan: Plan, loop_name: &str, image: &Image) -> Result<()> {
     for (way_name, way) in WAYS {
         if plan.only_way.unwrap_or(way) == way {
-            let begin = Instant::now(rt)?;
-            let told = way.drive(rt.alloc(), &image, plan.turns)?;
-            let time = begin.elapsed(rt)?.as_micros();
+            let (told, time) = timed(rt, way, image, plan.turns)?;
             println!(rt; "{loop_name} by {way_name}: {told}")?;
             eprintln!(rt; "{loop_name} by {way_name}: {time} us")?;
         }
     }
     Ok(())
+}
+
+/// Measures a loop in each way of the plan.
+fn measure_loop(rt: &HostRuntime, plan: Plan, name: &str, measured: Loop) -> Result<()> {
+    match loops::image(rt.alloc(), measured.words()) {
+        Ok(image) => measure_image(rt, plan, name, &image),
+        Err(_fault) => Err(anyhow!("the loop is no image")),
+    }
 }
 
 /// Verifies an image of the shape, prints the verdict, and gives the time in microseconds.
