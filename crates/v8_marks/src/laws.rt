@@ -1,0 +1,8 @@
+//! Laws of R and M, the marks of pages. Each is the contract of a function that does nothing.
+ghost use Rattle.v8_marks.specs.Marks.{TurnsMark};
+
+/// A turn of a contained board, whatever its code, marks the entry of the page that it fetched a word from, and that of the page that
+/// its access reached: R, and M if it stored. No other entry of a page of code, data or stack changes, and those in nothing else.
+pub fn turns_mark_what_they_reach()
+    ensures { TurnsMark }
+{}
