@@ -14,7 +14,6 @@ use Rattle.v8_core.specs.Paths.{marked_ram}
 use Rattle.v8_core.specs.Permissions.{access_type, permits, rights_of}
 use Rattle.v8_core.specs.Walked.{Page, root_of, walked}
 use Rattle.v8_core.specs.Access.{Access}
-use Rattle.v8_core.specs.AccessKind.{AccessKind}
 use Rattle.v8_core.specs.MmuRegs.{MmuRegs}
 use Rattle.v8_core.specs.MmuFault.{MmuFault}
 use Rattle.v8_core.specs.Cpu.{Cpu}

@@ -1,12 +1,11 @@
 -- A turn marks the pages of its fetch and of its access.
-use Rattle.std.proofs.Common.{◌≡◌, ℕ, ◌+◌, ◌*◌, ◌%◌, ◌^◌, ◌<◌, ◌≤◌, ◌⊎◌, inl, inr, Bool, true, false, List, Option, Some, None, IsSome, Result, Ok, Err, refl, sym, ap, ◌∙◌, subst, arith}
-use Rattle.std.proofs.Math.Nat.{mod-lt}
+use Rattle.std.proofs.Common.{◌≡◌, ℕ, ◌^◌, ◌<◌, ◌⊎◌, inl, inr, Bool, true, false, List, Option, Some, None, IsSome, Result, Ok, Err, refl, sym, ap, ◌∙◌, subst, arith}
 use Rattle.v8_core.specs.Table.{meaning}
 use Rattle.v8_core.specs.Operation.{Operation}
 use Rattle.v8_core.specs.Operation.TheVariants.{Transfer}
 use Rattle.v8_core.specs.Operations.{operation_of}
 use Rattle.v8_core.specs.Transfer.{Transfer as Moving}
-use Rattle.v8_core.specs.Transfers.{sent, size_of, writes_memory}
+use Rattle.v8_core.specs.Transfers.{sent, writes_memory}
 use Rattle.v8_core.specs.MemoryOperand.{MemoryOperand}
 use Rattle.v8_core.specs.Windows.{reg_of}
 use Rattle.v8_core.specs.Ram.{entry_of}
@@ -19,7 +18,7 @@ use Rattle.v8_core.specs.MmuRegs.{MmuRegs}
 use Rattle.v8_core.specs.MmuFault.{MmuFault}
 use Rattle.v8_core.specs.Cpu.{Cpu}
 use Rattle.v8_core.specs.Effects.{address_of}
-use Rattle.v8_core.specs.Traps.{entered, first_trap}
+use Rattle.v8_core.specs.Traps.{first_trap}
 use Rattle.v8_core.specs.declared.access.Moved.{Moved}
 use Rattle.v8_core.specs.declared.access.Moved.TheVariants.{Done, Fault}
 use Rattle.v8_core.specs.declared.turn.DataAccess.{DataAccess}
@@ -35,7 +34,7 @@ use Rattle.v8_contained.specs.Contained.{Contents, IsContained, IsRunning, IsSup
 use Rattle.v8_contained.specs.Contained.{Acts, Branches, Enters, Handles, Leaves, Retries, Returns, Slips}
 use Rattle.v8_marks.specs.Marks.{TurnsMark, after_access, after_fetch, after_turn, entry_at, reached}
 use Rattle.v8_marks.proofs.Placing.{mark_reaches}
-use Rattle.v8_marks.proofs.Moving.{IsEnd, Moves, mem_of, move_marks, walk_ends}
+use Rattle.v8_marks.proofs.Moving.{IsEnd, Moves, move_marks, walk_ends}
 
 -- ---- a fetch
 
