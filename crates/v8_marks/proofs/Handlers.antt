@@ -32,7 +32,8 @@ use Rattle.v8_contained.specs.Contained.{Contents, IsContained, IsShaped}
 use Rattle.v8_contained.proofs.Law.{turns_contained}
 use Rattle.v8_marks.specs.Marks.{after_access, after_fetch, after_turn, entry_at, is_in, reached, with_mark}
 use Rattle.v8_marks.specs.Handlers.{after_handler, holds_some}
-use Rattle.v8_marks.proofs.Reaching.{Reaches, ran_reaches, reach_of, reaches_are}
+use Rattle.v8_marks.specs.Users.{reach_of}
+use Rattle.v8_marks.proofs.Reaching.{Reaches, ran_reaches, reaches_are}
 use Rattle.v8_marks.proofs.Turning.{turns_mark}
 
 -- ---- entries in a row

@@ -4,6 +4,7 @@
 --   Turning      a fetch, an operation, a turn
 --   Reaching     what a turn that ran told of its access
 --   Handlers     entries in a row; a handler's turns
+--   Users, Services      turns of user code, and its calls of services
 --   Overflow, Underflow      the first and the last double word of the 64 bytes
 pub mod Placing
 pub mod Moving
@@ -12,3 +13,5 @@ pub mod Reaching
 pub mod Handlers
 pub mod Overflow
 pub mod Underflow
+pub mod Users
+pub mod Services

@@ -25,22 +25,13 @@ use Rattle.v8_core.specs.Steps.{acts, attempts, ends, executes, executes_or, nex
 use Rattle.v8_core.proofs.Turns.{Ready, tries_as}
 use Rattle.v8_loaded.specs.Board.{Device, board}
 use Rattle.v8_marks.specs.Marks.{after_access, reached}
-
--- what an operation reaches where it takes no trap
-abbrev pub reach_of : (n : ℕ) → Cpu n → Operation → Option (ℕ × Bool)
-reach_of n cpu (Transfer t o) = Some (place_of n cpu o, writes_memory t)
-reach_of n cpu _ = None
+use Rattle.v8_marks.specs.Users.{after_reach, reach_of}
 
 -- an access is that
 abbrev pub Reaches : Option (ℕ × Bool) → Option DataAccess → Type 0
 Reaches None access = access ≡ None
 Reaches (Some r) None = ⊥
 Reaches (Some r) (Some a) = (a.va ≡ r.0) × (a.store ≡ r.1)
-
--- and what it does to an entry
-abbrev pub after_reach : ℕ → Option (ℕ × Bool) → Option ℕ → Option ℕ
-after_reach i None entry = entry
-after_reach i (Some r) entry = reached i r.0 r.1 entry
 
 pub reaches_are : (i : ℕ) (r : Option (ℕ × Bool)) (access : Option DataAccess) (entry : Option ℕ) → Reaches r access → after_access i access entry ≡ after_reach i r entry
 reaches_are i None access entry e = ap (λ o. after_access i o entry) e
@@ -70,6 +61,15 @@ executes_fine : (n : ℕ) (mmu : MmuRegs) (op : Operation) (x : World n Device) 
 executes_fine n mmu op x None = acts_fine n mmu op x
 executes_fine n mmu op x (Some t) = λ e. absurd (cc)
 
+-- an operation that is no load or store reaches nothing
+acts_none : (n : ℕ) (mmu : MmuRegs) (op : Operation) (x : World n Device) → reach_of n x.cpu op ≡ None → (acts board n mmu op x).0.access ≡ None
+acts_none n mmu (Transfer t o) x none = absurd (cc)
+acts_none n mmu _ x none = refl
+
+executes_none : (n : ℕ) (mmu : MmuRegs) (op : Operation) (x : World n Device) (o : Option ℕ) → reach_of n x.cpu op ≡ None → (executes_or board n mmu op x o).0.access ≡ None
+executes_none n mmu op x None none = acts_none n mmu op x none
+executes_none n mmu op x (Some t) none = refl
+
 -- ---- a turn
 
 not_ran : (traps : Bool) (t : ℕ) → (if traps then Trapped t else ErrorMode t) ≡ Ran → ⊥
@@ -88,6 +88,10 @@ end_word n x w access (Some t) mid = refl
 end_pc : (n : ℕ) (x : World n Device) (w : ℕ) (access : Option DataAccess) (t : Option ℕ) (mid : World n Device) → (ends board n x (Some w) access t mid).0.pc ≡ x.cpu.control.pc
 end_pc n x w access None mid = refl
 end_pc n x w access (Some t) mid = refl
+
+end_access : (n : ℕ) (x : World n Device) (w : ℕ) (access : Option DataAccess) (t : Option ℕ) (mid : World n Device) → (ends board n x (Some w) access t mid).0.access ≡ access
+end_access n x w access None mid = refl
+end_access n x w access (Some t) mid = refl
 
 module _ (n : ℕ) (mmu : MmuRegs) (x : World n Device) (w : ℕ) (marks : List ℕ) (op : Operation) (ready : Ready board n x.cpu x.memory.device)
     (fetch : fetches mmu x.cpu.control.pc (record { user = is_user n x.cpu; kind = Fetch }) x.memory.ram ≡ (Ok w, marks)) (asks : operation_of (meaning w) ≡ op) where
@@ -111,3 +115,7 @@ module _ (n : ℕ) (mmu : MmuRegs) (x : World n Device) (w : ℕ) (marks : List 
   ran_reaches ran =
       subst (λ (t : Turn × World n Device). Reaches (reach_of n x.cpu op) t.0.access) (sym told)
       (end_fine n x (reach_of n x.cpu op) w done.0.access done.0.trap done.1 (executes_fine n mmu op mid (first_trap n x.cpu op)) (sym (ap (λ (t : Turn × World n Device). t.0.event) told) ∙ ran))
+
+  pub none_reached : reach_of n x.cpu op ≡ None → (next board n mmu x).0.access ≡ None
+  none_reached none =
+      ap (λ (t : Turn × World n Device). t.0.access) told ∙ end_access n x w done.0.access done.0.trap done.1 ∙ executes_none n mmu op mid (first_trap n x.cpu op) none
