@@ -15,6 +15,7 @@ use Rattle.v8_loaded.proofs.Users.{user_kept, user_page}
 use Rattle.v8_services.specs.Services.{Calls, MayReturn, vector_marked}
 use Rattle.v8_services.proofs.Served.{exit_law, get_law, put_law}
 use Rattle.v8_marks.specs.Marks.{entry_at, reached}
+use Rattle.v8_marks.specs.Users.{ServicesMark}
 use Rattle.v8_marks.proofs.Placing.{mark_reaches}
 
 table_beside : (n : ℕ) (g : Pages) (words ram : List ℕ) (i : ℕ) → i < 192 → AreFew g → IsLoaded n g words ram → entry_at (table_marked ram) i ≡ entry_at ram i
@@ -65,3 +66,7 @@ module _ (n : ℕ) (g : Pages) (words : List ℕ) (mmu : MmuRegs) (x : World n D
 
   pub put_marks : MayReturn n x → Calls words k 2 → entry_at (after board n mmu 5 x).memory.ram i ≡ reached i x.cpu.control.pc false (entry_at x.memory.ram i)
   put_marks may is = ap (λ (w : World n Device). entry_at w.memory.ram i) (put_law n g words mmu x k u may is).is ∙ back_reached true
+
+pub services_mark : ServicesMark
+services_mark n g words mmu x k u =
+    (λ is i less. exit_marks n g words mmu x k u i less is, λ may is i less. get_marks n g words mmu x k u i less may is, λ may is i less. put_marks n g words mmu x k u i less may is)

@@ -10,7 +10,9 @@ use Rattle.v8_core.specs.Accesses.{World, place_of}
 use Rattle.v8_core.specs.Steps.{next}
 use Rattle.v8_contained.specs.Layout.{Pages}
 use Rattle.v8_contained.specs.Board.{Device, board}
+use Rattle.v8_loaded.specs.Turns.{after}
 use Rattle.v8_loaded.specs.Users.{AsksFor, RunsUser}
+use Rattle.v8_services.specs.Services.{Calls, MayReturn}
 use Rattle.v8_marks.specs.Marks.{entry_at, reached}
 
 -- what an operation reaches where it takes no trap: an address, and whether it stores there
@@ -28,3 +30,13 @@ abbrev pub UsersMark : Type 0
 UsersMark =
     (n : ℕ) (g : Pages) (words : List ℕ) (mmu : MmuRegs) (x : World n Device) (k : ℕ) → RunsUser n g words mmu x k → (i : ℕ) → i < 192 → (op : Operation) → AsksFor words k op → (next board n mmu x).0.event ≡ Ran →
     entry_at (next board n mmu x).1.memory.ram i ≡ after_reach i (reach_of n x.cpu op) (reached i x.cpu.control.pc false (entry_at x.memory.ram i))
+
+-- so many turns after it was called, the entries are those after the fetch of the call
+abbrev pub MarksTheCall : (n : ℕ) → MmuRegs → World n Device → ℕ → Type 0
+MarksTheCall n mmu x turns = (i : ℕ) → i < 192 → entry_at (after board n mmu turns x).memory.ram i ≡ reached i x.cpu.control.pc false (entry_at x.memory.ram i)
+
+-- exit, and get and put, which come back
+abbrev pub ServicesMark : Type 0
+ServicesMark =
+    (n : ℕ) (g : Pages) (words : List ℕ) (mmu : MmuRegs) (x : World n Device) (k : ℕ) → RunsUser n g words mmu x k →
+    (Calls words k 0 → MarksTheCall n mmu x 3) × (MayReturn n x → Calls words k 1 → MarksTheCall n mmu x 5) × (MayReturn n x → Calls words k 2 → MarksTheCall n mmu x 5)

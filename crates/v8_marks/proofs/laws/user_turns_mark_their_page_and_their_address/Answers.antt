@@ -1,5 +1,4 @@
 use Rattle.v8_marks.proofs.Users.{users_mark}
-use Rattle.v8_marks.proofs.Services.{exit_marks}
 use Rattle.v8_marks.proofs.laws.user_turns_mark_their_page_and_their_address.Goals as goal
 
 pub returns : goal.returns
