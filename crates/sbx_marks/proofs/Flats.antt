@@ -1,8 +1,8 @@
 -- Two flat runs of a checked image on one input, whatever their open words: they stand at the same place, and their calls at the same bases.
-use Rattle.std.proofs.Common.{◌≡◌, ℕ, zero, suc, ◌+◌, ◌<◌, ◌≤◌, inl, inr, Bool, true, false, List, [], ◌∷◌, length, Option, Some, None, refl, sym, ap, ◌∙◌, subst, arith}
+use Rattle.std.proofs.Common.{◌≡◌, ℕ, zero, suc, ◌+◌, ◌<◌, ◌≤◌, inl, inr, Bool, List, [], ◌∷◌, length, Option, Some, None, sym, ap, ◌∙◌, subst, arith}
 use Rattle.sbx_image.specs.Parts.{Parts}
 use Rattle.sbx_flat.specs.Calls.{base, cell, cell_in, depth}
-use Rattle.sbx_flat.specs.Registers.{Frame, Fresh, IsFresh, Registers, Words, still}
+use Rattle.sbx_flat.specs.Registers.{Frame, Registers, Words, still}
 use Rattle.sbx_flat.specs.Runs.{AreBytes, IsStart, budget, place_of, weight_at}
 use Rattle.sbx_flat.specs.States.{State, Turn, Fails, Goes}
 use Rattle.sbx_flat.specs.Turns.{IsWrong, Step, turn}
@@ -10,7 +10,7 @@ use Rattle.sbx_flat.specs.declared.path.Wrong.{Wrong}
 use Rattle.sbx_flat.proofs.Law.{Keeps}
 use Rattle.sbx_sound.specs.Law.{IsFormed}
 use Rattle.sbx_sound.specs.Verdicts.{Checked}
-use Rattle.sbx_sound.proofs.Safe.{Pair, ShowsSpot, Spot}
+use Rattle.sbx_sound.proofs.Safe.{Pair}
 use Rattle.sbx_sound.proofs.Shared.{Lent, Open, Own, ShowsCalls, ShowsFile, Window}
 use Rattle.sbx_sound.proofs.Start.{begins, calm_start}
 use Rattle.sbx_marks.proofs.Places.{kept, rules}

@@ -1,9 +1,7 @@
 -- The law: what is told of the pages at the ends of two runs is the same.
 use Rattle.std.proofs.Common.{◌≡◌, ℕ, ◌+◌, ◌*◌, ◌<◌, ◌≤◌, List, None, refl, sym, ap, ◌∙◌, arith}
-use Rattle.v8_map.specs.declared.TheConstants.{CONTEXT_TABLE}
 use Rattle.v8_core.specs.Ram.{entry_of}
 use Rattle.v8_core.specs.Walked.{root_of}
-use Rattle.v8_core.specs.MmuRegs.{MmuRegs}
 use Rattle.v8_core.specs.Accesses.{World}
 use Rattle.v8_loaded.specs.Board.{Device, board}
 use Rattle.v8_loaded.specs.Turns.{after}
@@ -12,16 +10,13 @@ use Rattle.v8_board.specs.Seen.{State, ending_of}
 use Rattle.v8_board.specs.Start.{IsPlaced}
 use Rattle.v8_marks.specs.Marks.{entry_at}
 use Rattle.sbx_image.specs.Parts.{Parts}
-use Rattle.sbx_flat.specs.Runs.{AreBytes, budget}
-use Rattle.sbx_sound.specs.Law.{IsFormed}
-use Rattle.sbx_sound.specs.Verdicts.{Checked}
-use Rattle.sbx_windows.specs.Runs.{IsImage}
+use Rattle.sbx_flat.specs.Runs.{budget}
 use Rattle.sbx_windows.proofs.Induction.{board_is}
 use Rattle.sbx_windows.proofs.Start.{boot, flat_start, is_flat_start, start_shows}
 use Rattle.sbx_run.proofs.Ends.{same_end}
 use Rattle.sbx_marks.specs.Reuse.{Ran, RunsUseTheSamePages}
 use Rattle.sbx_marks.proofs.Flats.{begin_beside}
-use Rattle.sbx_marks.proofs.Pairs.{Both, both_end}
+use Rattle.sbx_marks.proofs.Pairs.{both_end}
 use Rattle.sbx_marks.proofs.Uses.{SameEntries, uses_same}
 
 -- loading writes the entries anew

@@ -1,5 +1,5 @@
 -- Two boards that a checked image runs on with the same input: step by step the entries of their pages stay the same, up to their ends.
-use Rattle.std.proofs.Common.{◌≡◌, ℕ, zero, suc, ◌+◌, ◌-◌, ◌*◌, ◌<◌, ◌≤◌, ◌⊎◌, inl, inr, Bool, true, false, List, length, Option, Some, None, refl, sym, ap, ◌∙◌, subst, arith}
+use Rattle.std.proofs.Common.{◌≡◌, ℕ, zero, suc, ◌+◌, ◌-◌, ◌<◌, ◌≤◌, ◌⊎◌, inl, inr, Bool, true, false, List, Option, Some, None, refl, sym, ap, ◌∙◌, subst, arith}
 use Rattle.std.specs.Prelude.{slice_index}
 use Rattle.v8_map.specs.declared.TheConstants.{CONTEXT_TABLE}
 use Rattle.v8_core.specs.Operation.{Operation}
@@ -17,7 +17,7 @@ use Rattle.v8_marks.specs.Marks.{entry_at, reached}
 use Rattle.v8_marks.specs.Handlers.{after_handler}
 use Rattle.v8_marks.specs.Users.{after_reach}
 use Rattle.sbx_flat.specs.Parts.{Parts}
-use Rattle.sbx_flat.specs.Calls.{base, depth}
+use Rattle.sbx_flat.specs.Calls.{base}
 use Rattle.sbx_flat.specs.Effects.{address_in}
 use Rattle.sbx_flat.specs.Registers.{still}
 use Rattle.sbx_flat.specs.Runs.{budget, place_of, reached_by, weight_at, weight_of}

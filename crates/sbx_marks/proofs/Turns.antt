@@ -1,9 +1,8 @@
 -- What a step of one board leaves of the entries of pages: a function of where it stands, what it reaches, and the base of the frame that it spills or fills.
-use Rattle.std.proofs.Common.{◌≡◌, ℕ, zero, suc, ◌+◌, ◌-◌, ◌*◌, ◌<◌, ◌≤◌, Bool, true, false, List, length, Option, Some, None, refl, sym, ap, ◌∙◌, subst, arith}
-use Rattle.std.specs.Prelude.{◌&&◌, slice_index}
+use Rattle.std.proofs.Common.{◌≡◌, ℕ, zero, suc, ◌+◌, ◌-◌, ◌<◌, ◌≤◌, Bool, true, false, length, Option, Some, None, refl, sym, ap, ◌∙◌, subst, arith}
+use Rattle.std.specs.Prelude.{◌&&◌}
 use Rattle.v8_core.specs.Admitted.{is_admitted}
 use Rattle.v8_core.specs.Spaces.{is_normal}
-use Rattle.v8_core.specs.Operand.TheVariants.{Immediate}
 use Rattle.v8_core.specs.MemoryOperand.{MemoryOperand}
 use Rattle.v8_core.specs.Three.{Three}
 use Rattle.v8_core.specs.Transfer.{Transfer as Moving}
@@ -14,7 +13,6 @@ use Rattle.v8_core.specs.Operation.TheVariants.{BranchOnCondition, Call, Compute
 use Rattle.v8_core.specs.MmuRegs.{MmuRegs}
 use Rattle.v8_core.specs.declared.turn.Turn.{Turn}
 use Rattle.v8_core.specs.Accesses.{World}
-use Rattle.v8_core.specs.Steps.{next}
 use Rattle.v8_loaded.specs.Board.{Device, board}
 use Rattle.v8_loaded.specs.Turns.{after}
 use Rattle.v8_loaded.specs.Users.{AsksFor, RunsUser}

@@ -1,7 +1,6 @@
 -- A call of a service marks the page of the call; its vector marks system pages alone.
-use Rattle.std.proofs.Common.{◌≡◌, ℕ, ◌+◌, ◌*◌, ◌/◌, ◌<◌, ◌≤◌, inl, Bool, true, false, List, Option, Some, ap, ◌∙◌, arith}
+use Rattle.std.proofs.Common.{◌≡◌, ℕ, ◌+◌, ◌*◌, ◌<◌, inl, Bool, true, false, List, ap, ◌∙◌, arith}
 use Rattle.v8_core.specs.MmuRegs.{MmuRegs}
-use Rattle.v8_core.specs.Paths.{marked_ram}
 use Rattle.v8_core.specs.Accesses.{World}
 use Rattle.v8_loaded.specs.Layout.{Pages, AreFew, IsLoaded}
 use Rattle.v8_loaded.specs.AddressMap.{mapped}

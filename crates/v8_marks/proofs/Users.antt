@@ -1,5 +1,5 @@
 -- A turn of user code: the entries after its fetch, and after what its operation reaches.
-use Rattle.std.proofs.Common.{◌≡◌, ℕ, ◌<◌, false, List, Option, Some, None, ap, ◌∙◌}
+use Rattle.std.proofs.Common.{◌≡◌, ℕ, ◌<◌, false, List, Option, None, ap, ◌∙◌}
 use Rattle.std.specs.Prelude.{slice_index}
 use Rattle.v8_core.specs.Operation.{Operation}
 use Rattle.v8_core.specs.MmuRegs.{MmuRegs}
