@@ -45,8 +45,9 @@ fn run_next<'a, const N: usize>(
     ensures state { OnOk result (IsState N board.new.state.mmu board.new.state.world) }
     ensures fault { IfErr result (λ fault. fault ≡ RunFault.Memory refused) }
 {
-    tells_limits(accepted.image());
-    tells_form(accepted.image());
+    let image = accepted.image();
+    tells_limits(image);
+    tells_form(image);
     set_back(alloc, board, input);
     let ended = match run_board(board, accepted) {
         Ok(ended) => ended,
