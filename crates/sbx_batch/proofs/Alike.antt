@@ -1,5 +1,6 @@
 -- What is told of two runs of a safe image on one input is alike, whatever the boards held.
-use Rattle.std.proofs.Common.{◌≡◌, ℕ, List, [], refl, sym, ap, ◌∙◌}
+use Rattle.std.proofs.Common.{◌≡◌, ℕ, List, [], refl, sym, ap, ◌∙◌, subst}
+use Rattle.v8_loaded.specs.Board.{Device}
 use Rattle.v8_loaded.specs.States.{IsState}
 use Rattle.v8_board.specs.declared.outcome.Ending.{Ending}
 use Rattle.v8_board.specs.declared.outcome.Ending.TheVariants.{Exit}
@@ -8,12 +9,17 @@ use Rattle.v8_board.specs.Seen.{State}
 use Rattle.v8_board.specs.Start.{IsStart}
 use Rattle.sbx_image.specs.Parts.{Parts}
 use Rattle.sbx_flat.specs.Runs.{AreBytes, FlatSafe}
+use Rattle.sbx_sound.specs.Law.{IsFormed}
+use Rattle.sbx_sound.specs.Verdicts.{Checked}
 use Rattle.sbx_flat.specs.Traffic.{traffic}
 use Rattle.sbx_flat.specs.declared.path.Place.{Place}
-use Rattle.sbx_windows.specs.Runs.{Finishes, IsImage}
+use Rattle.sbx_windows.specs.Runs.{Finishes, IsAnyBoard, IsImage}
 use Rattle.sbx_windows.proofs.Ending.{runs_to_its_end}
-use Rattle.sbx_run.specs.Answer.{EndsOn, IsFlatEnd, KeepsItsDepth, told_of}
+use Rattle.sbx_run.specs.Answer.{EndsOn, IsAnswer, IsFlatEnd, KeepsItsDepth, told_of}
 use Rattle.sbx_run.specs.declared.runner.Finished.{Finished}
+use Rattle.sbx_run.proofs.Again.{is_any, loaded_again, with_device}
+use Rattle.sbx_marks.specs.Reuse.{Ran}
+use Rattle.sbx_marks.proofs.Law.{runs_use_the_same}
 use Rattle.sbx_batch.specs.Batches.{IsNext, ended_of, with_input}
 
 -- ---- two flat ends
@@ -39,12 +45,27 @@ module _ (n : ℕ) (parts : Parts) (input earlier : List ℕ) (start : State n) 
 
 -- ---- the next run
 
-module _ (n : ℕ) (parts : Parts) (input : List ℕ) (old end : State n) (image : IsImage parts) (safe : FlatSafe parts) (bytes : AreBytes input) (state : IsState n old.mmu old.world) where
+-- a run on a new board, as one on a board that was there
+single_ran : (n : ℕ) (parts : Parts) (input : List ℕ) (single : Finished) (is : IsAnswer parts n input single) → Ran n parts input is.run.end
+single_ran n parts input single is =
+    let b = is.run.begun in
+    let d = b.made.world.memory.device in
+    let given : d.input ≡ input = ap (λ (k : Device). k.input) b.new.device in
+    record {
+      made = with_device n parts b.made is.run.start b.loaded b.state d;
+      start = is.run.start;
+      any = subst (λ i. IsAnyBoard n i (with_device n parts b.made is.run.start b.loaded b.state d)) given (is_any n parts b.made is.run.start b.loaded b.state d);
+      loaded = loaded_again n parts b.made is.run.start b.loaded b.state d is.run.start.world.memory.device b.loaded.device;
+      run = is.run.run;
+    }
+
+module _ (n : ℕ) (parts : Parts) (input : List ℕ) (old end : State n) (image : IsImage parts) (formed : IsFormed parts) (checked : Checked parts) (safe : FlatSafe parts) (bytes : AreBytes input) (state : IsState n old.mmu old.world) where
+  any : IsAnyBoard n input (with_input old input)
+  any = record { state = record { cpu = state.cpu; size = state.size; bytes = state.bytes; root = state.root }; y = state.cpu.y_word; input_is = refl }
+
   -- the flat run of the image ends
   finishes : (start : State n) → IsStart n parts (with_input old input) start → Finishes n parts input [] start
-  finishes start loaded =
-      runs_to_its_end n parts input (with_input old input) start image safe bytes
-      (record { state = record { cpu = state.cpu; size = state.size; bytes = state.bytes; root = state.root }; y = state.cpu.y_word; input_is = refl }) loaded
+  finishes start loaded = runs_to_its_end n parts input (with_input old input) start image safe bytes any loaded
 
   pub next : (f : Finished) → EndsOn n parts (with_input old input) end (ended_of f) → f.output.items ≡ end.world.memory.device.output → KeepsItsDepth parts n (told_of f) → IsNext n parts input f old end
   next f ends output depth =
@@ -53,6 +74,8 @@ module _ (n : ℕ) (parts : Parts) (input : List ℕ) (old end : State n) (image
         output = output;
         alone = λ single is.
             let told = told_alike n parts input [] ends.start (finishes ends.start ends.loaded) _ _ _ _ _ _ ends.flat is.flat in
-            (told.0, output ∙ ends.put_out ∙ told.1);
+            let ran : Ran n parts input end = record { made = with_input old input; start = ends.start; any = any; loaded = ends.loaded; run = ends.run } in
+            let pages = runs_use_the_same n parts input end is.run.end image formed checked bytes ran (single_ran n parts input single is) in
+            (told.0, output ∙ ends.put_out ∙ told.1, ends.pages ∙ pages ∙ sym is.run.pages ∙ sym is.pages);
         depth = depth;
       }

@@ -20,9 +20,9 @@ with_input s input =
 abbrev pub ended_of : Finished → Ended
 ended_of f = record { status = f.status; turns = f.turns; overflows = f.overflows; underflows = f.underflows; pages = f.pages }
 
--- the same exit word, turns, overflows, underflows and output
+-- the same exit word, turns, overflows, underflows, output and pages
 abbrev pub AreAlike : Finished → Finished → Type 0
-AreAlike f g = (told_of f ≡ told_of g) × (f.output.items ≡ g.output.items)
+AreAlike f g = (told_of f ≡ told_of g) × (f.output.items ≡ g.output.items) × (f.pages ≡ g.pages)
 
 -- The board was given this input, the image was loaded and ran to its end, from whatever the board held to where it stands now. What
 -- it has put out is the output; any answer to the image and the input alone is alike; and an image of version 3 with windows enough

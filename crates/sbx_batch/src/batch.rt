@@ -1,9 +1,11 @@
 //! Runs that follow one another on one board.
 ghost use Rattle.std.specs.Prelude.{◌≡◌, ◌≤◌, IfErr, IfOk, OnOk};
 ghost use Rattle.v8_loaded.specs.States.{IsState};
+ghost use Rattle.sbx_sound.specs.Law.{IsFormed};
 ghost use Rattle.sbx_batch.specs.Batches.{AreAnswers, IsNext, with_input};
 ghost use Rattle.want.specs.Wants.{refused};
 
+use sbx_image::Image;
 use sbx_raw::{SlicePort, fault_of};
 use sbx_run::{Accepted, Finished, RunFault, run_board, tells_limits};
 use std::alloc::Global;
@@ -24,6 +26,13 @@ fn set_back<'a, const N: usize>(alloc: Global, board: &mut Board<N, SlicePort<'a
     *board.port_mut() = SlicePort::new(alloc, input);
 }
 
+/// Tells that an image has the form which the rules speak of.
+fn tells_form(image: &Image)
+    ensures { IsFormed image.now }
+{
+    image.keeps_its_format();
+}
+
 /// Runs an accepted image on an input to its end, on a board as an earlier run has left it. The only fault is `RunFault::Memory`.
 fn run_next<'a, const N: usize>(
     alloc: Global,
@@ -36,7 +45,9 @@ fn run_next<'a, const N: usize>(
     ensures state { OnOk result (IsState N board.new.state.mmu board.new.state.world) }
     ensures fault { IfErr result (λ fault. fault ≡ RunFault.Memory refused) }
 {
-    tells_limits(accepted.image());
+    let image = accepted.image();
+    tells_limits(image);
+    tells_form(image);
     set_back(alloc, board, input);
     let ended = match run_board(board, accepted) {
         Ok(ended) => ended,
@@ -58,9 +69,9 @@ fn run_next<'a, const N: usize>(
 
 /// Runs accepted images, each on its input and to its end, one after another on one board of `N` windows, 4 to 32, and gives what each
 /// run gave, in order. Between two of them the board is loaded, and nothing is cleared: registers, Y and the stack's bytes are what
-/// the run before left. Yet status, output, turns, overflows and underflows are those of `run_accepted` on the image and the input
-/// alone, and the pages are those of the run itself; an image of version 3 overflows and underflows no window where `N` is at least two
-/// more than its first function's declared depth. The only fault is `RunFault::Memory`, and then nothing is given.
+/// the run before left. Yet status, output, turns, overflows, underflows and pages are those of `run_accepted` on the image and the
+/// input alone; an image of version 3 overflows and underflows no window where `N` is at least two more than its first function's
+/// declared depth. The only fault is `RunFault::Memory`, and then nothing is given.
 pub fn run_batch<const N: usize>(
     alloc: Global,
     batch: &[Batch<'_>],

@@ -111,7 +111,7 @@ annulled_step : (parts : Parts) (s : State) → s.exit ≡ None → s.annulled �
 unfolding turn
 annulled_step parts s going annul = (still, still_is_fresh, ap (λ o. flat_goes_on parts still s o s.annulled) going ∙ ap (flat_goes_on parts still s None) annul)
 
-annulled_turn : (n : ℕ) (mmu : MmuRegs) (x : World n Device) → x.memory.device.stopped ≡ None → x.cpu.control.error ≡ None → x.cpu.control.annul ≡ true →
+pub annulled_turn : (n : ℕ) (mmu : MmuRegs) (x : World n Device) → x.memory.device.stopped ≡ None → x.cpu.control.error ≡ None → x.cpu.control.annul ≡ true →
     next board n mmu x ≡ (turn_of n x.cpu Annulled None None, record x { cpu = skipped n x.cpu })
 unfolding next
 annulled_turn n mmu x running sane annul =

@@ -59,10 +59,10 @@ module _ (n : ℕ) (parts : Parts) (mmu : MmuRegs) (x : World n Device) (s : Sta
   low_base : STACK_LOWEST ≤ base s.registers (r - 1)
   low_base = let low = h.stacked.low (r - 1) oldest in let few = (pages_few parts).stack in omega arith
 
-  overflows : Overflows n (pages_of parts) parts.words mmu x i
+  pub overflows : Overflows n (pages_of parts) parts.words mmu x i
   overflows = record { user = user n parts mmu x s r i stands; mask = h.calls.mask ∙ ap (λ w. 2 ^ w) (sym entered_is); saves = (f, is) }
 
-  room : HasRoom (pages_of parts) (stack_pointer n x.cpu)
+  pub room : HasRoom (pages_of parts) (stack_pointer n x.cpu)
   room = record {
     aligned = ap (λ p. p % 8) pointer_is ∙ h.stacked.aligned (r - 1) oldest;
     low = subst (λ p. STACK_END ≤ p + 4096 * (pages_of parts).stack_count) (sym pointer_is) (h.stacked.low (r - 1) oldest);

@@ -231,7 +231,7 @@ module _ (n : ℕ) (parts : Parts) (mmu : MmuRegs) (x : World n Device) (s : Sta
   u : RunsUser n (pages_of parts) parts.words mmu x i
   u = user n parts mmu x s r i h
 
-  may_return : can_enter x.cpu.regs x.cpu.regs.current ≡ true
+  pub may_return : can_enter x.cpu.regs x.cpu.regs.current ≡ true
   may_return = current_free n x.cpu.regs s.registers r shown.file shown.calls
 
   pc_word : x.cpu.control.pc < 2 ^ 32

@@ -52,10 +52,10 @@ module _ (n : ℕ) (parts : Parts) (mmu : MmuRegs) (x : World n Device) (s : Sta
   low_base : STACK_LOWEST ≤ base s.registers 1
   low_base = let low = h.stacked.low 1 (omega arith) in let few = (pages_few parts).stack in omega arith
 
-  underflows : Underflows n (pages_of parts) parts.words mmu x i
+  pub underflows : Underflows n (pages_of parts) parts.words mmu x i
   underflows = record { user = user n parts mmu x s 1 i stands; mask = h.calls.mask; restores = (f, is) }
 
-  frame : HasFrame (pages_of parts) old (stack_pointer n x.cpu)
+  pub frame : HasFrame (pages_of parts) old (stack_pointer n x.cpu)
   frame =
       let low = low_base in
       record {

@@ -43,11 +43,11 @@ always_is : (c : Cond) → is_always c ≡ true → c ≡ Always
 always_is Always h = refl
 always_is _ h = absurd (cc)
 
-record AsCall (t : Trap) : Type 0 where
-  number : ℕ
-  is : t ≡ record { cond = Always; rs1 = 0; operand2 = Immediate number }
+pub record AsCall (t : Trap) : Type 0 where
+  pub number : ℕ
+  pub is : t ≡ record { cond = Always; rs1 = 0; operand2 = Immediate number }
 
-called : (c : Cond) (r : ℕ) (o : Operand) → (is_always c && (r == 0) && is_immediate o) ≡ true → AsCall (record { cond = c; rs1 = r; operand2 = o })
+pub called : (c : Cond) (r : ℕ) (o : Operand) → (is_always c && (r == 0) && is_immediate o) ≡ true → AsCall (record { cond = c; rs1 = r; operand2 = o })
 called c r (Immediate k) h =
     let low : (r == 0) ≡ true = and_two (is_always c) (r == 0) h in
     let none : r ≡ 0 = grind (arith, nat_tests) in

@@ -33,10 +33,10 @@ use Rattle.sbx_windows.proofs.Start.{boot, flat_start, is_flat_start, start_show
 -- ---- the word that is fetched
 
 -- an address of the code, by the number of its word
-record Located (words : List ℕ) (pc : ℕ) : Type 0 where
-  index : ℕ
-  place : pc ≡ CODE_START + 4 * index
-  within : index < length words
+pub record Located (words : List ℕ) (pc : ℕ) : Type 0 where
+  pub index : ℕ
+  pub place : pc ≡ CODE_START + 4 * index
+  pub within : index < length words
 
 located_by : (words : List ℕ) (pc word : ℕ) (b : Bool) → (nat_le code_start pc && (pc % 4 == 0)) ≡ b → (if b then slice_get words ((pc - code_start) / 4) else None) ≡ Some word → Located words pc
 located_by words pc word true on_code e =
@@ -45,7 +45,7 @@ located_by words pc word true on_code e =
     record { index = (pc - code_start) / 4; place = omega arith; within = slice_get_within words ((pc - code_start) / 4) word e }
 located_by words pc word false on_code e = absurd (cc)
 
-located : (words : List ℕ) (pc word : ℕ) → word_at words pc ≡ Some word → Located words pc
+pub located : (words : List ℕ) (pc word : ℕ) → word_at words pc ≡ Some word → Located words pc
 unfolding word_at
 located words pc word e = located_by words pc word (nat_le code_start pc && (pc % 4 == 0)) refl e
 

@@ -84,7 +84,7 @@ loads_of n g ram rows cur v four many f =
 
 -- ---- %sp while the window is loaded
 
-pointer_kept : (n : ℕ) (rows : List (List ℕ)) (m a : ℕ) (v : ℕ → ℕ) (k : ℕ) → Loading n rows m a v → k ≤ 16 →
+pub pointer_kept : (n : ℕ) (rows : List (List ℕ)) (m a : ℕ) (v : ℕ → ℕ) (k : ℕ) → Loading n rows m a v → k ≤ 16 →
     pointer (refilled rows m a v k) m ≡ pointer rows m
 pointer_kept n rows m a v k l few = kept_word n rows m a v k m 6 l few (λ i less. beside i)
   where
@@ -164,7 +164,7 @@ module _ (n : ℕ) (g : Pages) (words : List ℕ) (mmu : MmuRegs) (device : Devi
   attempt_free : is_masked marks cur ≡ false
   attempt_free = free_attempt n cur s.few s.many f.within
 
-  to_the_window : At 0 11 (stage n c w u (on rows r5 marks 0xF00010A0 0xF00010A4))
+  pub to_the_window : At 0 11 (stage n c w u (on rows r5 marks 0xF00010A0 0xF00010A4))
   unfolding trap_word page_word
   to_the_window =
       let few = s.few in
@@ -212,9 +212,10 @@ module _ (n : ℕ) (g : Pages) (words : List ℕ) (mmu : MmuRegs) (device : Devi
   abbrev to : ℕ → ℕ → ℕ → Cpu n
   to k pc npc = stage n c w u (on (cells k) r5 marks pc npc)
 
-  loading : At 16 19 (stage n c w u (on (cells 16) r5 marks 0xF00010C0 0xF00010C4))
+  -- before the last of them
+  pub eighteen : At 14 18 (stage n c w u (on (cells 14) r5 marks 0xF00010BC 0xF00010C0))
   unfolding page_word
-  loading =
+  eighteen =
       let apart = window_apart n cur s.few s.many f.within in
       let next = next_apart n cur s.few s.many f.within in
       let t1 = loads 11 0 0xF00010A0 0xF00010A4 16 (to 2 0xF00010A4 0xF00010A8) to_the_window (omega arith) refl refl loads_0
@@ -229,9 +230,14 @@ module _ (n : ℕ) (g : Pages) (words : List ℕ) (mmu : MmuRegs) (device : Devi
       (pair_written_ins n c w (on (cells 8) r5 marks 0xF00010B0 0xF00010B4) u 24 (v 8) (v 9) next (omega arith) (omega arith) refl) in
       let t6 = loads 16 5 0xF00010B4 0xF00010B8 26 (to 12 0xF00010B8 0xF00010BC) t5 (omega arith) refl refl loads_5
       (pair_written_ins n c w (on (cells 10) r5 marks 0xF00010B4 0xF00010B8) u 26 (v 10) (v 11) next (omega arith) (omega arith) refl) in
-      let t7 = loads 17 6 0xF00010B8 0xF00010BC 28 (to 14 0xF00010BC 0xF00010C0) t6 (omega arith) refl refl loads_6
-      (pair_written_ins n c w (on (cells 12) r5 marks 0xF00010B8 0xF00010BC) u 28 (v 12) (v 13) next (omega arith) (omega arith) refl) in
-      loads 18 7 0xF00010BC 0xF00010C0 30 (to 16 0xF00010C0 0xF00010C4) t7 (omega arith) refl refl loads_7
+      loads 17 6 0xF00010B8 0xF00010BC 28 (to 14 0xF00010BC 0xF00010C0) t6 (omega arith) refl refl loads_6
+      (pair_written_ins n c w (on (cells 12) r5 marks 0xF00010B8 0xF00010BC) u 28 (v 12) (v 13) next (omega arith) (omega arith) refl)
+
+  loading : At 16 19 (stage n c w u (on (cells 16) r5 marks 0xF00010C0 0xF00010C4))
+  unfolding page_word
+  loading =
+      let next = next_apart n cur s.few s.many f.within in
+      loads 18 7 0xF00010BC 0xF00010C0 30 (to 16 0xF00010C0 0xF00010C4) eighteen (omega arith) refl refl loads_7
       (pair_written_ins n c w (on (cells 14) r5 marks 0xF00010BC 0xF00010C0) u 30 (v 14) (v 15) next (omega arith) (omega arith) refl)
 
   -- the whole handler, which ends at the place pc with npc after it

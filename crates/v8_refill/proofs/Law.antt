@@ -4,31 +4,34 @@ use Rattle.std.specs.Prelude.{◌==◌, slice_index, slice_set}
 use Rattle.std.proofs.lemmas.Bool.Decides.{nat_tests}
 use Rattle.std.proofs.lemmas.List.{get_or-set_same, get_or-set_other}
 use Rattle.v8_core.specs.Three.{Three}
+use Rattle.v8_core.specs.Operand.TheVariants.{Immediate}
 use Rattle.v8_core.specs.Operation.{Operation}
 use Rattle.v8_core.specs.Operation.TheVariants.{Restore}
 use Rattle.v8_core.specs.Ram.{entry_of}
 use Rattle.v8_core.specs.MmuRegs.{MmuRegs}
 use Rattle.v8_core.specs.Windows.{above, can_enter, is_masked}
 use Rattle.v8_core.specs.Cpu.{Cpu}
+use Rattle.v8_core.specs.Effects.{address_of}
 use Rattle.v8_core.specs.Traps.{applies, first_trap}
 use Rattle.v8_core.specs.Accesses.{World, world}
+use Rattle.v8_core.specs.Steps.{next}
 use Rattle.v8_loaded.specs.Layout.{Pages}
 use Rattle.v8_layout.proofs.Marks.{kept_elsewhere}
-use Rattle.v8_loaded.specs.Board.{Device}
+use Rattle.v8_loaded.specs.Board.{Device, board}
 use Rattle.v8_loaded.specs.Areas.{HasFrame, IsFrame, area_of}
 use Rattle.v8_loaded.specs.Places.{code_entry_place, code_marked, entered_window}
 use Rattle.v8_loaded.proofs.Fetches.{code_entry_word}
 use Rattle.v8_loaded.proofs.Windows.{above_below, below_within, above_within, mask_within, mask_word, masked}
-use Rattle.v8_loaded.proofs.Stages.{finished}
+use Rattle.v8_loaded.proofs.Stages.{finished, stage}
 use Rattle.v8_loaded.proofs.Entered.{caught, first_row, first_row_pcs, first_row_kept, first_row_fits, finished_control}
 use Rattle.v8_loaded.proofs.Turns.{Comes, filling}
-use Rattle.v8_loaded.proofs.Stack.{word_in, word_there}
+use Rattle.v8_loaded.proofs.Stack.{stack_address, word_in, word_there}
 use Rattle.v8_loaded.proofs.Users.{pc_word, user_kept, user_page}
-use Rattle.v8_loaded.proofs.Handled.{begun, ends, handled, same_but, setting}
+use Rattle.v8_loaded.proofs.Handled.{begins, begun, ends, handled, same_but, setting}
 use Rattle.v8_refill.specs.Laws.{Underflows, Refills, Refilled, Handled, refilled_window, next_window, stack_pointer, UnderflowLaw}
 use Rattle.v8_refill.proofs.Cells.{Loading, refilled, home, spot, home_low, home_high, spot_low, spot_high, are_rows, loaded_word, kept_word, with_row}
 use Rattle.v8_refill.proofs.Rows.{row_5, low_kept, long, fit}
-use Rattle.v8_refill.proofs.Handler.{Frame, loads_of, underflow as handled_by, window_apart, next_apart}
+use Rattle.v8_refill.proofs.Handler.{Frame, eighteen, loads_of, next_apart, pointer_kept, to_the_window, underflow as handled_by, window_apart}
 
 restore_traps : (n : ℕ) (cpu : Cpu n) (f : Three) → is_masked cpu.regs.mask (above n cpu.regs.current) ≡ true →
     first_trap n cpu (Restore f) ≡ Some 6
@@ -216,17 +219,44 @@ module _ (n : ℕ) (g : Pages) (words : List ℕ) (mmu : MmuRegs) (x : World n D
             ∙ ap Some (sym (beside_row last_rows w last_row b j (next_apart n cur file.few file.many file.current) ∙ in_loaded n rows u b saved j loads small));
       }
 
+  after_fetch : Frame n g (code_marked i x.memory.ram) rows cur saved
+  after_fetch =
+      let page = user_page n g words mmu x i o.user in
+      let high = page.high in
+      frame_in (code_marked i x.memory.ram) (λ p above. kept_elsewhere x.memory.ram (code_entry_place i) (code_entry_word i) false page p (inr (omega arith)))
+
   -- the 23 turns
   comes : Comes n g words mmu x.memory.device (filling at 16) 23 (begun n x i 6 (2 ^ u)) last_cpu
   comes =
       let pcs = first_row_pcs n x.cpu old_sixteen in
-      let page = user_page n g words mmu x i o.user in
-      let high = page.high in
       let whole = o.user.place in
       handled_by n g words mmu x.memory.device (setting n g words mmu x i o.user) (caught x.cpu.control 6) rows cur x.cpu.regs.globals (first_row n x.cpu) (code_marked i x.memory.ram) saved
       (user_kept n g words mmu x i o.user)
-      (frame_in (code_marked i x.memory.ram) (λ p above. kept_elsewhere x.memory.ram (code_entry_place i) (code_entry_word i) false page p (inr (omega arith))))
-      pcs.2 x.cpu.control.pc x.cpu.control.npc pcs.0 pcs.1 pc_fits o.user.npc_word (omega arith) o.user.npc_whole
+      after_fetch pcs.2 x.cpu.control.pc x.cpu.control.npc pcs.0 pcs.1 pc_fits o.user.npc_word (omega arith) o.user.npc_whole
+
+  -- the processor while it loads, before the first double word and before the last, and where it loads from
+  abbrev pub loading : ℕ → ℕ → ℕ → Cpu n
+  loading k pc npc = stage n (caught x.cpu.control 6) w u (record { rows = refilled rows u b saved k; globals = x.cpu.regs.globals; row = last_row; mask = 2 ^ b; pc = pc; npc = npc })
+
+  pub begins_so : (next board n mmu x).1 ≡ begun n x i 6 (2 ^ u)
+  begins_so = begins n g words mmu x i o.user op 6 (2 ^ u) o.restores.1 meets o.mask
+
+  pub before_first : Comes n g words mmu x.memory.device (filling at 0) 11 (begun n x i 6 (2 ^ u)) (loading 0 0xF00010A0 0xF00010A4)
+  before_first =
+      to_the_window n g words mmu x.memory.device (setting n g words mmu x i o.user) (caught x.cpu.control 6) rows cur x.cpu.regs.globals (first_row n x.cpu) (code_marked i x.memory.ram) saved
+      (user_kept n g words mmu x i o.user) after_fetch (first_row_pcs n x.cpu old_sixteen).2
+
+  pub before_last : Comes n g words mmu x.memory.device (filling at 14) 18 (begun n x i 6 (2 ^ u)) (loading 14 0xF00010BC 0xF00010C0)
+  before_last =
+      eighteen n g words mmu x.memory.device (setting n g words mmu x i o.user) (caught x.cpu.control 6) rows cur x.cpu.regs.globals (first_row n x.cpu) (code_marked i x.memory.ram) saved
+      (user_kept n g words mmu x i o.user) after_fetch (first_row_pcs n x.cpu old_sixteen).2
+
+  pub loads_at : (k offset pc npc : ℕ) → k ≤ 16 → offset < 64 → address_of n (loading k pc npc) 14 (Immediate offset) ≡ stack_pointer n x.cpu + offset
+  loads_at k offset pc npc few small =
+      let top = area.room.high in
+      stack_address n g words mmu x.memory.device (setting n g words mmu x i o.user) (caught x.cpu.control 6) w u
+      (record { rows = refilled rows u b saved k; globals = x.cpu.regs.globals; row = last_row; mask = 2 ^ b; pc = pc; npc = npc })
+      offset (stack_pointer n x.cpu) (window_apart n cur o.user.file.few o.user.file.many o.user.file.current) (pointer_kept n rows u b saved k loads few) (omega arith)
 
   refilled_so : Refilled n g words x (world n last_cpu comes.ram x.memory.device) i
   refilled_so = record {

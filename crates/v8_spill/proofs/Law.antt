@@ -4,27 +4,32 @@ use Rattle.std.specs.Prelude.{slice_index, nat_lt, if◌then◌else◌}
 use Rattle.std.proofs.lemmas.Bool.Decides.{nat_tests}
 use Rattle.std.proofs.lemmas.Option.{same_Some}
 use Rattle.v8_core.specs.Three.{Three}
+use Rattle.v8_core.specs.Operand.TheVariants.{Immediate}
 use Rattle.v8_core.specs.Operation.{Operation}
 use Rattle.v8_core.specs.Operation.TheVariants.{Save}
 use Rattle.v8_core.specs.Ram.{entry_of}
 use Rattle.v8_core.specs.MmuRegs.{MmuRegs}
 use Rattle.v8_core.specs.Windows.{below, is_masked, can_enter}
 use Rattle.v8_core.specs.Cpu.{Cpu}
+use Rattle.v8_core.specs.Effects.{address_of}
 use Rattle.v8_core.specs.Traps.{applies, first_trap}
 use Rattle.v8_core.specs.Accesses.{World, world}
+use Rattle.v8_core.specs.Steps.{next}
 use Rattle.v8_loaded.specs.Layout.{Pages}
-use Rattle.v8_loaded.specs.Board.{Device}
+use Rattle.v8_loaded.specs.Board.{Device, board}
 use Rattle.v8_loaded.specs.Areas.{HasFrame, HasRoom, IsFrame, area_of}
 use Rattle.v8_loaded.specs.Places.{code_marked, entered_window}
 use Rattle.v8_loaded.specs.Users.{RunsUser}
 use Rattle.v8_loaded.proofs.Windows.{above_below, below_differs, below_within, masked}
 use Rattle.v8_loaded.proofs.Entered.{caught, first_row, first_row_pcs}
+use Rattle.v8_loaded.proofs.Stack.{stack_address}
+use Rattle.v8_loaded.proofs.Stages.{stage}
 use Rattle.v8_loaded.proofs.Turns.{Comes, saving}
 use Rattle.v8_loaded.proofs.Users.{pc_word, user_kept}
-use Rattle.v8_loaded.proofs.Handled.{begun, ends, handled, same_but, setting}
+use Rattle.v8_loaded.proofs.Handled.{begins, begun, ends, handled, same_but, setting}
 use Rattle.v8_spill.specs.Laws.{Overflows, OverflowLaw, Spilled, Handled, spilled_window, stack_pointer}
-use Rattle.v8_spill.proofs.Rows.{row_5_low}
-use Rattle.v8_spill.proofs.Overflow.{Frame, overflow, spilled_word}
+use Rattle.v8_spill.proofs.Rows.{globals_6, row_5_low}
+use Rattle.v8_spill.proofs.Overflow.{Frame, eighteen, eleven, overflow, spilled_word}
 use Rattle.v8_spill.proofs.After.{last_cpu, last_row, last_row_low, last_row_fits, spills}
 
 save_traps : (n : ℕ) (cpu : Cpu n) (f : Three) → is_masked cpu.regs.mask (below n cpu.regs.current) ≡ true →
@@ -110,6 +115,30 @@ module _ (n : ℕ) (g : Pages) (words : List ℕ) (mmu : MmuRegs) (x : World n D
       (user_kept n g words mmu x i o.user) within o.user.file.globals.count pcs.2 sp room frame x.cpu.control.pc x.cpu.control.npc
       (row_5_low n x.cpu.regs.globals row (2 ^ w) 9 (omega arith) ∙ pcs.0) (row_5_low n x.cpu.regs.globals row (2 ^ w) 10 (omega arith) ∙ pcs.1)
       pc_fits o.user.npc_word (omega arith) o.user.npc_whole
+
+  -- the processor while it stores, before the first double word and before the last, and where it stores
+  abbrev pub storing : ℕ → ℕ → Cpu n
+  storing pc npc = stage n (caught x.cpu.control 5) w (below n w) (record { rows = rows; globals = globals_6 n x.cpu.regs.globals (first_row n x.cpu) (2 ^ w); row = last; mask = 2 ^ below n w; pc = pc; npc = npc })
+
+  pub begins_so : (next board n mmu x).1 ≡ begun n x i 5 (2 ^ w)
+  begins_so = begins n g words mmu x i o.user op 5 (2 ^ w) o.saves.1 meets o.mask
+
+  pub before_first : Comes n g words mmu x.memory.device (saving (area_of sp) word 0) 11 (begun n x i 5 (2 ^ w)) (storing 0xF0001020 0xF0001024)
+  before_first =
+      eleven n g words mmu x.memory.device (setting n g words mmu x i o.user) (caught x.cpu.control 5) rows w x.cpu.regs.globals (first_row n x.cpu) (code_marked i x.memory.ram)
+      (user_kept n g words mmu x i o.user) within o.user.file.globals.count (first_row_pcs n x.cpu (o.user.file.rows.each w within)).2 sp room frame
+
+  pub before_last : Comes n g words mmu x.memory.device (saving (area_of sp) word 14) 18 (begun n x i 5 (2 ^ w)) (storing 0xF000103C 0xF0001040)
+  before_last =
+      eighteen n g words mmu x.memory.device (setting n g words mmu x i o.user) (caught x.cpu.control 5) rows w x.cpu.regs.globals (first_row n x.cpu) (code_marked i x.memory.ram)
+      (user_kept n g words mmu x i o.user) within o.user.file.globals.count (first_row_pcs n x.cpu (o.user.file.rows.each w within)).2 sp room frame
+
+  pub stores_at : (offset pc npc : ℕ) → offset < 64 → address_of n (storing pc npc) 14 (Immediate offset) ≡ sp + offset
+  stores_at offset pc npc small =
+      let top = room.high in
+      stack_address n g words mmu x.memory.device (setting n g words mmu x i o.user) (caught x.cpu.control 5) w (below n w)
+      (record { rows = rows; globals = globals_6 n x.cpu.regs.globals (first_row n x.cpu) (2 ^ w); row = last; mask = 2 ^ below n w; pc = pc; npc = npc })
+      offset sp frame.other frame.pointer (omega arith)
 
   stored : IsFrame x.cpu.regs (spilled_window n x.cpu) w (area_of sp) comes.ram
   stored =

@@ -3,6 +3,7 @@
 --   Frame            what is known of it
 --   eight            from the trap to the new mask
 --   stores           a std of two of its words
+--   eleven, eighteen before the first std, and before the last
 --   overflow         all turns
 use Rattle.std.proofs.Common.{◌≡◌, ◌≢◌, ℕ, suc, ◌+◌, ◌-◌, ◌*◌, ◌%◌, ◌^◌, ◌<◌, ◌≤◌, ◌⊎◌, inl, inr, Bool, true, false, List, [], length, get_or, refl, sym, ap, ◌∙◌, subst, arith}
 use Rattle.std.specs.Prelude.{slice_index, slice_set, nat_lt, if◌then◌else◌}
@@ -154,20 +155,28 @@ module _ (n : ℕ) (g : Pages) (words : List ℕ) (mmu : MmuRegs) (device : Devi
       (ap (reg n (stage n c w u x)) next_reg ∙ reads_word n w x (suc (2 * j)) fr.there fr.other fr.back (omega arith))
       (fr.fit (2 * j) (omega arith)) (fr.fit (suc (2 * j)) (omega arith))
 
-  nineteen : At 16 19 (stage n c w u (on g6 r5 (2 ^ u) 0xF0001040 0xF0001044))
+  -- before the first of them, and before the last
+  pub eleven : At 0 11 (stage n c w u (on g6 r5 (2 ^ u) 0xF0001020 0xF0001024))
   unfolding page_word
-  nineteen =
+  eleven =
       let t9 = in_handler 8 5 eight (omega arith) refl nothing (nothing_does n c w (on g6 r5 (2 ^ u) 0xF0001014 0xF0001018) u) in
       let t10 = in_handler 9 6 t9 (omega arith) refl nothing (nothing_does n c w (on g6 r5 (2 ^ u) 0xF0001018 0xF000101C) u) in
-      let t11 = in_handler 10 7 t10 (omega arith) refl nothing (nothing_does n c w (on g6 r5 (2 ^ u) 0xF000101C 0xF0001020) u) in
-      let t12 = stores 11 0 0xF0001020 0xF0001024 t11 (omega arith) refl stores_0 in
+      in_handler 10 7 t10 (omega arith) refl nothing (nothing_does n c w (on g6 r5 (2 ^ u) 0xF000101C 0xF0001020) u)
+
+  pub eighteen : At 14 18 (stage n c w u (on g6 r5 (2 ^ u) 0xF000103C 0xF0001040))
+  unfolding page_word
+  eighteen =
+      let t12 = stores 11 0 0xF0001020 0xF0001024 eleven (omega arith) refl stores_0 in
       let t13 = stores 12 1 0xF0001024 0xF0001028 t12 (omega arith) refl stores_1 in
       let t14 = stores 13 2 0xF0001028 0xF000102C t13 (omega arith) refl stores_2 in
       let t15 = stores 14 3 0xF000102C 0xF0001030 t14 (omega arith) refl stores_3 in
       let t16 = stores 15 4 0xF0001030 0xF0001034 t15 (omega arith) refl stores_4 in
       let t17 = stores 16 5 0xF0001034 0xF0001038 t16 (omega arith) refl stores_5 in
-      let t18 = stores 17 6 0xF0001038 0xF000103C t17 (omega arith) refl stores_6 in
-      stores 18 7 0xF000103C 0xF0001040 t18 (omega arith) refl stores_7
+      stores 17 6 0xF0001038 0xF000103C t17 (omega arith) refl stores_6
+
+  nineteen : At 16 19 (stage n c w u (on g6 r5 (2 ^ u) 0xF0001040 0xF0001044))
+  unfolding page_word
+  nineteen = stores 18 7 0xF000103C 0xF0001040 eighteen (omega arith) refl stores_7
 
   -- the whole handler, which ends at the place pc with npc after it
   pub overflow : (pc npc : ℕ) → slice_index r5 9 ≡ pc → slice_index r5 10 ≡ npc → pc < 2 ^ 32 → npc < 2 ^ 32 →

@@ -1,6 +1,7 @@
 use Rattle.std.proofs.Common.{◌≡◌, rules, subst}
 use Rattle.v8_board.specs.Seen.{State}
 use Rattle.sbx_flat.specs.Runs.{AreBytes}
+use Rattle.sbx_sound.specs.Law.{IsFormed}
 use Rattle.sbx_windows.specs.Runs.{IsImage}
 use Rattle.sbx_run.specs.Answer.{EndsOn}
 use Rattle.sbx_batch.proofs.Alike.{next}
@@ -11,7 +12,8 @@ returns-in-Ok-extend_from_slice-clause-next g c =
     let parts = c.args.accepted.now in
     let end = c.run_board.new.board.state in
     let bytes : AreBytes c.args.input.now = λ i. search rules in
-    let limits : IsImage parts = subst IsImage c.image.ensures.image c.tells_limits.ensures in
+    let limits : IsImage parts = subst IsImage c.image-image.ensures.image c.tells_limits.ensures in
+    let formed : IsFormed parts = subst IsFormed c.image-image.ensures.image c.tells_form.ensures in
     let output : c.extend_from_slice.new.self.items ≡ end.world.memory.device.output = search rules in
-    next g.row.N parts c.args.input.now c.args.board.now.state end limits c.image.ensures.safe bytes c.requires _
+    next g.row.N parts c.args.input.now c.args.board.now.state end limits formed c.image-image.ensures.checked c.image-image.ensures.safe bytes c.requires _
     (subst (λ (s : State g.row.N). EndsOn g.row.N parts s end c.in-Ok.ended) c.set_back.ensures c.in-Ok.ensures.ended) output c.in-Ok.ensures.depth
