@@ -85,7 +85,7 @@ fn too_little_depth_is_told(rt: HostRuntime) {
             "refused V20 in function 0 at 00040004"
         )
     );
-    // the last function but one, whose callee has none left
+    // the last function, which has a frame, and no depth is left for it
     assert!(rt;
         is_refused_with(
             alloc,
