@@ -67,7 +67,7 @@ module _ (items : List Item) where
   made = closed (fold (item_does (values_of items)) start_draft items)
 
   at_start : Follows (values_of items) [] start_draft
-  at_start = (refl, refl, refl, λ _. refl, λ _. refl, λ _. (refl, refl, refl, refl, refl), λ _. (refl, refl), λ _. (refl, refl, refl, refl), refl, refl, refl, refl, refl, refl)
+  at_start = (refl, refl, refl, λ _. refl, λ _. refl, λ _. (refl, refl, refl, refl, refl, refl), λ _. (refl, refl), λ _. (refl, refl, refl, refl), refl, refl, refl, refl, refl, refl, refl)
 
   pub fault_is : made.fault ≡ least_of (faults_of items)
   unfolding made
@@ -80,7 +80,7 @@ module _ (items : List Item) where
   parts_are none =
       let clean : each (faults_at (values_of items)) [] items ≡ [] = nil_right (duplicates [] (all_labels items)) _ (none_told (faults_of items) none) in
       let m = all_made (values_of items) [] items start_draft refl at_start clean in
-      λ j. record { version = version_with (m.5 j); services = m.2 j; words = m.0 j; regions = m.1 j; stack_pages = m.3 j; functions = m.4 j }
+      λ j. record { version = version_with (m.6 j) (m.5 j); services = m.2 j; words = m.0 j; regions = m.1 j; stack_pages = m.3 j; functions = m.4 j }
 
   judged_same : (n : ℕ) (o : Option AsmFault) → least_of (faults_of items) ≡ o → judged n o (parts_in made) ≡ judged n o (image_of items)
   judged_same n (Some f) h = refl

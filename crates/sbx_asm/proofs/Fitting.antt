@@ -48,7 +48,7 @@ use Rattle.sbx_asm.specs.declared.draft.Draft.{Draft}
 use Rattle.sbx_asm.specs.Stages.Places.{code_end, has_room, moved_on, directed, place_after}
 use Rattle.sbx_asm.specs.Rules.{Values, is_code}
 use Rattle.sbx_asm.specs.Stages.Labels.{Labels}
-use Rattle.sbx_asm.specs.Stages.Drafts.{block_of, function_of, noted_where, told_empty, with_block, close_block, with_function, close_headed, close_function, counted, fresh_block, open_block, headed, begin_function, begin_block_of, begin_block, malformed, takes_ranges, takes_annotations, param_if, add_param, result_if, add_result, cell_if, add_cell, term_if, add_term, fuel_if, fuel_by, add_fuel, services_by, add_services, stack_by, add_stack, leave_region, close_region, choose_data, begin_region, with_bytes, closed, data_checked, with_data, with_zeros, add_values, add_zeros, instruction_checked, with_words, directive_does, instruction_does, statement_does, behind_labels, draft_tokens, numbered_line, draft_line, empty_draft}
+use Rattle.sbx_asm.specs.Stages.Drafts.{block_of, function_of, noted_where, told_empty, with_block, close_block, with_function, close_headed, close_function, counted, fresh_block, open_block, headed, begin_function, begin_block_of, begin_block, malformed, takes_ranges, takes_annotations, param_if, add_param, result_if, add_result, depth_by, add_depth, cell_if, add_cell, term_if, add_term, fuel_if, fuel_by, add_fuel, services_by, add_services, stack_by, add_stack, leave_region, close_region, choose_data, begin_region, with_bytes, closed, data_checked, with_data, with_zeros, add_values, add_zeros, instruction_checked, with_words, directive_does, instruction_does, statement_does, behind_labels, draft_tokens, numbered_line, draft_line, empty_draft}
 use Rattle.sbx_asm.specs.Lines.{lines_of}
 use Rattle.sbx_asm.specs.Items.{all_lines}
 use Rattle.sbx_asm.specs.Images.{filled, region_with, version_with}
@@ -70,6 +70,9 @@ HasEntry h = h.entry < 2 ^ 32
 abbrev HasBits : Services → Type 0
 HasBits x = x.0 < 2 ^ 16
 
+abbrev IsHalf : ℕ → Type 0
+IsHalf n = n < 2 ^ 16
+
 -- the image so far, and the place of its next word
 record MadeFits (n : ℕ) (ws bs : List ℕ) (rs : List Region) (x : Option Services) (fs : List Function) : Type 0 where
   next : n ≤ code_end
@@ -80,10 +83,11 @@ record MadeFits (n : ℕ) (ws bs : List ℕ) (rs : List Region) (x : Option Serv
   functions : AllByRecursion IsTypedFunction fs
 
 -- the open function
-record FunctionFits (h : Option Head) (ps rs : List Range) (bs : List Block) : Type 0 where
+record FunctionFits (h : Option Head) (ps rs : List Range) (x : Option ℕ) (bs : List Block) : Type 0 where
   head : IfSome h HasEntry
   params : AllByRecursion IsTypedRange ps
   results : AllByRecursion IsTypedRange rs
+  depth : IfSome x IsHalf
   blocks : AllByRecursion IsTypedBlock bs
 
 -- the open block
@@ -96,7 +100,7 @@ record BlockFits (a : ℕ) (z : Option ℤ) (cs : List Cell) (ts : List Term) : 
 abbrev DraftFits : Draft → Type 0
 DraftFits d =
     MadeFits d.place.next_word d.words d.region.bytes d.region.regions d.services d.functions
-    × FunctionFits d.function.head d.function.params d.function.results d.function.blocks
+    × FunctionFits d.function.head d.function.params d.function.results d.function.depth d.function.blocks
     × BlockFits d.block.address d.block.fuel d.block.cells d.block.terms
 
 -- ---- places
@@ -135,6 +139,7 @@ with_block_fits d h =
         head = h.1.head;
         params = h.1.params;
         results = h.1.results;
+        depth = h.1.depth;
         blocks = append_all IsTypedBlock d.function.blocks (block_of d.block ∷ []) h.1.blocks (block, tt);
       },
       record { address = h.2.address; fuel = h.2.fuel; cells = tt; terms = tt },
@@ -144,9 +149,13 @@ close_block_fits : (d : Draft) → DraftFits d → DraftFits (close_block d)
 unfolding close_block
 close_block_fits d h = with_block_fits (told_empty d.block.begun d.block d) (told_fits d.block.begun d.block d h)
 
+some_depth : (o : Option ℕ) → IfSome o IsHalf → IsHalf (unwrap_or o 0)
+some_depth (Some n) h = h
+some_depth None h = omega arith
+
 with_function_fits : (x : Head) (d : Draft) → HasEntry x → DraftFits d → DraftFits (with_function x d)
 with_function_fits x d entry h =
-    let function : IsTypedFunction (function_of x d.function) = record { entry = entry; params = h.1.params; results = h.1.results; blocks = h.1.blocks } in (
+    let function : IsTypedFunction (function_of x d.function) = record { entry = entry; params = h.1.params; results = h.1.results; depth = some_depth d.function.depth h.1.depth; blocks = h.1.blocks } in (
       record {
         next = h.0.next;
         words = h.0.words;
@@ -155,7 +164,7 @@ with_function_fits x d entry h =
         services = h.0.services;
         functions = append_all IsTypedFunction d.functions (function_of x d.function ∷ []) h.0.functions (function, tt);
       },
-      record { head = tt; params = tt; results = tt; blocks = tt },
+      record { head = tt; params = tt; results = tt; depth = tt; blocks = tt },
       h.2,
     )
 
@@ -179,7 +188,7 @@ open_block_fits d h = fresh_block_fits (counted (ltb d.block_count 4096) d) (cou
 
 headed_fits : (kind : Kind) (frame room budget : ℕ) (d : Draft) → DraftFits d → DraftFits (headed kind frame room budget d)
 headed_fits kind frame room budget d h =
-    let within = h.0.next in (h.0, record { head = omega arith; params = h.1.params; results = h.1.results; blocks = h.1.blocks }, h.2)
+    let within = h.0.next in (h.0, record { head = omega arith; params = h.1.params; results = h.1.results; depth = h.1.depth; blocks = h.1.blocks }, h.2)
 
 begin_function_fits : (kind : Kind) (frame room budget : ℕ) (d : Draft) → DraftFits d → DraftFits (begin_function kind frame room budget d)
 unfolding begin_function
@@ -208,7 +217,7 @@ unfolding add_param
 add_param_fits r d fits h = by (takes_ranges d.function d.block)
   where
     by : (t : Bool) → DraftFits (param_if t r d)
-    by true = (h.0, record { head = h.1.head; params = append_all IsTypedRange d.function.params (r ∷ []) h.1.params (fits, tt); results = h.1.results; blocks = h.1.blocks }, h.2)
+    by true = (h.0, record { head = h.1.head; params = append_all IsTypedRange d.function.params (r ∷ []) h.1.params (fits, tt); results = h.1.results; depth = h.1.depth; blocks = h.1.blocks }, h.2)
     by false = h
 
 add_result_fits : (r : Range) (d : Draft) → IsTypedRange r → DraftFits d → DraftFits (add_result r d)
@@ -216,8 +225,17 @@ unfolding add_result
 add_result_fits r d fits h = by (takes_ranges d.function d.block)
   where
     by : (t : Bool) → DraftFits (result_if t r d)
-    by true = (h.0, record { head = h.1.head; params = h.1.params; results = append_all IsTypedRange d.function.results (r ∷ []) h.1.results (fits, tt); blocks = h.1.blocks }, h.2)
+    by true = (h.0, record { head = h.1.head; params = h.1.params; results = append_all IsTypedRange d.function.results (r ∷ []) h.1.results (fits, tt); depth = h.1.depth; blocks = h.1.blocks }, h.2)
     by false = h
+
+add_depth_fits : (n : ℕ) (d : Draft) → IsHalf n → DraftFits d → DraftFits (add_depth n d)
+unfolding add_depth
+add_depth_fits n d fits h = by d.function.head d.function.depth
+  where
+    by : (o : Option Head) (m : Option ℕ) → DraftFits (depth_by o m n d)
+    by (Some x) (Some y) = h
+    by (Some x) None = (h.0, record { head = h.1.head; params = h.1.params; results = h.1.results; depth = fits; blocks = h.1.blocks }, h.2)
+    by None m = h
 
 add_cell_fits : (c : Cell) (d : Draft) → IsTypedCell c → DraftFits d → DraftFits (add_cell c d)
 unfolding add_cell
@@ -353,6 +371,7 @@ module _ (values : Values) (line : List ℕ) (ts : List Token) where
   directive_fits (directives.Function name kind frame room budget) d fits h = begin_function_fits kind frame room budget d h
   directive_fits (directives.Param r) d fits h = add_param_fits r d fits h
   directive_fits (directives.Result r) d fits h = add_result_fits r d fits h
+  directive_fits (directives.Depth n) d fits h = add_depth_fits n d fits h
   directive_fits (directives.Block name) d fits h = begin_block_fits d h
   directive_fits (directives.Cell c) d fits h = add_cell_fits c d fits h
   directive_fits (directives.Fuel z) d fits h = add_fuel_fits z d fits h
@@ -397,7 +416,7 @@ line_fits values d x h = tokens_fit values x.1 (numbered_line x.0 d) (tokens_of 
 empty_fits : (fault : Option AsmFault) → DraftFits (empty_draft fault)
 empty_fits fault = (
   record { next = omega arith; words = tt; bytes = tt; regions = tt; services = tt; functions = tt },
-  record { head = tt; params = tt; results = tt; blocks = tt },
+  record { head = tt; params = tt; results = tt; depth = tt; blocks = tt },
   record { address = omega arith; fuel = no_fuel; cells = tt; terms = tt },
 )
 
@@ -414,13 +433,14 @@ some_services : (o : Option Services) → IfSome o HasBits → HasBits (unwrap_o
 some_services (Some x) h = h
 some_services None h = omega arith
 
-version_fits : (regions : Bool) → version_with regions < 2 ^ 16
-version_fits true = omega arith
-version_fits false = omega arith
+version_fits : (depths regions : Bool) → version_with depths regions < 2 ^ 16
+version_fits true regions = omega arith
+version_fits false true = omega arith
+version_fits false false = omega arith
 
 parts_fit : (d : Draft) → DraftFits d → PartsFit (parts_in d)
 unfolding parts_in
-parts_fit d h = record { version = version_fits d.region.has_region; services = some_services d.services h.0.services; words = h.0.words; regions = h.0.regions; functions = h.0.functions }
+parts_fit d h = record { version = version_fits d.has_depth d.region.has_region; services = some_services d.services h.0.services; words = h.0.words; regions = h.0.regions; functions = h.0.functions }
 
 closed_fits : (d : Draft) → DraftFits d → DraftFits (closed d)
 closed_fits d h = close_function_fits (close_region d) (close_region_fits d h)

@@ -27,11 +27,11 @@ use Rattle.sbx_asm.specs.declared.opening.Head.{Head}
 use Rattle.sbx_asm.specs.declared.draft.Draft.{Draft}
 use Rattle.sbx_asm.specs.Faults.{told, at}
 use Rattle.sbx_asm.specs.Items.{Item, Said, up_to, count, starts_function, ends_function, is_data, is_region, is_block, ends_block, in_function, block_count, params, results, cells, terms}
-use Rattle.sbx_asm.specs.Rules.{Values, acts, is_unknown, takes_annotations, takes_ranges, has_fuel, last_cell, last_term, is_services, is_stack}
+use Rattle.sbx_asm.specs.Rules.{Values, acts, is_unknown, takes_annotations, takes_ranges, has_fuel, has_depth, last_cell, last_term, is_services, is_stack}
 use Rattle.sbx_asm.specs.Addresses.{padding_of, section_room}
 use Rattle.sbx_asm.specs.Stages.Places.{has_room}
 use Rattle.sbx_asm.specs.Stages.Drafts as stages
-use Rattle.sbx_asm.specs.Stages.Drafts.{close_block, close_headed, close_function, headed, open_block, begin_function, begin_block_of, begin_block, param_if, add_param, result_if, add_result, cell_if, add_cell, term_if, add_term, fuel_if, fuel_by, add_fuel, services_by, add_services, stack_by, add_stack, noted, noted_where, begun, leave_region, close_region, choose_data, begin_region, with_bytes, data_checked, with_data, with_zeros, add_values, add_zeros, instruction_checked, with_words, instruction_does, statement_does, numbered_line}
+use Rattle.sbx_asm.specs.Stages.Drafts.{close_block, close_headed, close_function, headed, open_block, begin_function, begin_block_of, begin_block, param_if, add_param, result_if, add_result, depth_by, add_depth, cell_if, add_cell, term_if, add_term, fuel_if, fuel_by, add_fuel, services_by, add_services, stack_by, add_stack, noted, noted_where, begun, leave_region, close_region, choose_data, begin_region, with_bytes, data_checked, with_data, with_zeros, add_values, add_zeros, instruction_checked, with_words, instruction_does, statement_does, numbered_line}
 use Rattle.sbx_asm.proofs.Standing.{item, passed}
 
 -- ---- a line as an item
@@ -51,7 +51,7 @@ abbrev pub capped : ℕ → ℕ → ℕ
 capped most n = if leb n most then n else most
 
 abbrev pub IsClosed : Draft → Type 0
-IsClosed d = (d.function.params ≡ []) × (d.function.results ≡ []) × (d.function.blocks ≡ []) × (d.block.cells ≡ []) × (d.block.terms ≡ [])
+IsClosed d = (d.function.params ≡ []) × (d.function.results ≡ []) × (d.function.blocks ≡ []) × (d.block.cells ≡ []) × (d.block.terms ≡ []) × (d.function.depth ≡ None)
 
 -- u says whether the last line acts
 abbrev pub Behind : Values → List Item → Bool → Draft → Type 0
@@ -73,6 +73,7 @@ Behind values before u d =
     × (d.region.count ≡ capped 8 (count is_region before))
     × (d.region.has_data ≡ list_any is_data before)
     × (d.region.has_region ≡ list_any is_region before)
+    × (is_some d.function.depth ≡ has_depth before)
 
 abbrev pub Follows : Values → List Item → Draft → Type 0
 Follows values before d = Behind values before false d
@@ -205,7 +206,7 @@ module _ (values : Values) (before : List Item) (number : ℕ) (labels : List (L
 
   -- a line that acts
   acted : (d : Draft) → Follows values before d → Behind values before true (begun d)
-  acted d h = (h.0, h.1, h.2, λ _. refl, h.4, h.5, λ t. absurd (no_ranges (in_function before) _ t), λ t. absurd (no_lists (in_function before) t), h.8, h.9, h.10, h.11, h.12, h.13)
+  acted d h = (h.0, h.1, h.2, λ _. refl, h.4, h.5, λ t. absurd (no_ranges (in_function before) _ t), λ t. absurd (no_lists (in_function before) t), h.8, h.9, h.10, h.11, h.12, h.13, h.14)
 
   begins : (kind : Kind) (frame room budget : ℕ) (name : Name) (d : Draft) → Follows values before d
       → (o : Option Head) → is_some o ≡ in_function before → length d.functions + bit (is_some o) ≡ count starts_function before
@@ -227,6 +228,7 @@ module _ (values : Values) (before : List Item) (number : ℕ) (labels : List (L
     h.11,
     h.12,
     h.13,
+    refl,
   )
   begins kind frame room budget name d h None p q =
       let c : IsClosed d = h.5 (sym p) in (
@@ -244,6 +246,7 @@ module _ (values : Values) (before : List Item) (number : ℕ) (labels : List (L
         h.11,
         h.12,
         h.13,
+        ap is_some c.5,
       )
 
   ends : (name : Option Name) (d : Draft) → Follows values before d
@@ -256,7 +259,7 @@ module _ (values : Values) (before : List Item) (number : ℕ) (labels : List (L
     h.2,
     λ t. absurd (false≢true t),
     λ t. absurd (false≢true t),
-    λ _. (refl, refl, refl, refl, refl),
+    λ _. (refl, refl, refl, refl, refl, refl),
     λ t. absurd (false≢true t),
     λ t. absurd (false≢true t),
     h.8,
@@ -265,8 +268,9 @@ module _ (values : Values) (before : List Item) (number : ℕ) (labels : List (L
     h.11,
     h.12,
     h.13,
+    refl,
   )
-  ends name d h None s p q = (s, ap (λ (b : Bool). length d.functions + bit b) s ∙ q, h.2, λ t. absurd (false≢true t), λ t. absurd (false≢true t), λ _. h.5 (sym p), λ t. absurd (false≢true t), λ t. absurd (false≢true t), h.8, h.9, h.10, h.11, h.12, h.13)
+  ends name d h None s p q = (s, ap (λ (b : Bool). length d.functions + bit b) s ∙ q, h.2, λ t. absurd (false≢true t), λ t. absurd (false≢true t), λ _. h.5 (sym p), λ t. absurd (false≢true t), λ t. absurd (false≢true t), h.8, h.9, h.10, h.11, h.12, h.13, ap is_some (h.5 (sym p)).5)
 
   -- what is common behind a `.block`
   abbrev Divided : Draft → Type 0
@@ -286,6 +290,7 @@ module _ (values : Values) (before : List Item) (number : ℕ) (labels : List (L
       × (d.region.count ≡ capped 8 (count is_region before))
       × (d.region.has_data ≡ list_any is_data before)
       × (d.region.has_region ≡ list_any is_region before)
+      × (is_some d.function.depth ≡ has_depth before)
 
   divides : (d : Draft) → Follows values before d → (o : Option Head) → is_some o ≡ in_function before → Divided (begin_block_of o d)
   unfolding open_block close_block
@@ -304,6 +309,7 @@ module _ (values : Values) (before : List Item) (number : ℕ) (labels : List (L
     h.11,
     h.12,
     h.13,
+    h.14,
   )
   divides d h None p = (
     h.0,
@@ -320,6 +326,7 @@ module _ (values : Values) (before : List Item) (number : ℕ) (labels : List (L
     h.11,
     h.12,
     h.13,
+    h.14,
   )
 
   -- annotations
@@ -339,8 +346,9 @@ module _ (values : Values) (before : List Item) (number : ℕ) (labels : List (L
     h.11,
     h.12,
     h.13,
+    h.14,
   )
-  param_follows r d h false e = (h.0, h.1, h.2, h.3, h.4, h.5, λ t. absurd (false≢true (sym e ∙ same_ranges values before d h ∙ t)), h.7, h.8, h.9, h.10, h.11, h.12, h.13)
+  param_follows r d h false e = (h.0, h.1, h.2, h.3, h.4, h.5, λ t. absurd (false≢true (sym e ∙ same_ranges values before d h ∙ t)), h.7, h.8, h.9, h.10, h.11, h.12, h.13, h.14)
 
   result_follows : (r : Range) (d : Draft) → Follows values before d → (t : Bool) → stages.takes_ranges d.function d.block ≡ t → Follows values (it (Ok (statements.Directive (directives.Result r))) ∷ before) (result_if t r d)
   result_follows r d h true e = (
@@ -358,8 +366,9 @@ module _ (values : Values) (before : List Item) (number : ℕ) (labels : List (L
     h.11,
     h.12,
     h.13,
+    h.14,
   )
-  result_follows r d h false e = (h.0, h.1, h.2, h.3, h.4, h.5, λ t. absurd (false≢true (sym e ∙ same_ranges values before d h ∙ t)), h.7, h.8, h.9, h.10, h.11, h.12, h.13)
+  result_follows r d h false e = (h.0, h.1, h.2, h.3, h.4, h.5, λ t. absurd (false≢true (sym e ∙ same_ranges values before d h ∙ t)), h.7, h.8, h.9, h.10, h.11, h.12, h.13, h.14)
 
   cell_follows : (c : Cell) (d : Draft) → Follows values before d → (t : Bool) → stages.takes_annotations d.function d.block ≡ t → Follows values (it (Ok (statements.Directive (directives.Cell c))) ∷ before) (cell_if t c d)
   cell_follows c d h true e = (
@@ -377,8 +386,9 @@ module _ (values : Values) (before : List Item) (number : ℕ) (labels : List (L
     h.11,
     h.12,
     h.13,
+    h.14,
   )
-  cell_follows c d h false e = (h.0, h.1, h.2, h.3, h.4, h.5, h.6, λ t. absurd (false≢true (sym e ∙ same_annotations values before d h ∙ t)), h.8, h.9, h.10, h.11, h.12, h.13)
+  cell_follows c d h false e = (h.0, h.1, h.2, h.3, h.4, h.5, h.6, λ t. absurd (false≢true (sym e ∙ same_annotations values before d h ∙ t)), h.8, h.9, h.10, h.11, h.12, h.13, h.14)
 
   term_follows : (x : Term) (d : Draft) → Follows values before d → (t : Bool) → stages.takes_annotations d.function d.block ≡ t → Follows values (it (Ok (statements.Directive (directives.Term x))) ∷ before) (term_if t x d)
   term_follows x d h true e = (
@@ -396,27 +406,34 @@ module _ (values : Values) (before : List Item) (number : ℕ) (labels : List (L
     h.11,
     h.12,
     h.13,
+    h.14,
   )
-  term_follows x d h false e = (h.0, h.1, h.2, h.3, h.4, h.5, h.6, λ t. absurd (false≢true (sym e ∙ same_annotations values before d h ∙ t)), h.8, h.9, h.10, h.11, h.12, h.13)
+  term_follows x d h false e = (h.0, h.1, h.2, h.3, h.4, h.5, h.6, λ t. absurd (false≢true (sym e ∙ same_annotations values before d h ∙ t)), h.8, h.9, h.10, h.11, h.12, h.13, h.14)
 
   fuel_follows : (z : ℤ) (d : Draft) → Follows values before d → (o : Option ℤ) → is_some o ≡ has_fuel values before
       → Follows values (it (Ok (statements.Directive (directives.Fuel z))) ∷ before) (fuel_by o z d)
-  fuel_follows z d h (Some y) p = (h.0, h.1, h.2, h.3, h.4, h.5, h.6, h.7, h.8 ∙ or_known (has_fuel values before) (takes_annotations values before) p, h.9, h.10, h.11, h.12, h.13)
+  fuel_follows z d h (Some y) p = (h.0, h.1, h.2, h.3, h.4, h.5, h.6, h.7, h.8 ∙ or_known (has_fuel values before) (takes_annotations values before) p, h.9, h.10, h.11, h.12, h.13, h.14)
   fuel_follows z d h None p = by (stages.takes_annotations d.function d.block) refl
     where
       by : (t : Bool) → stages.takes_annotations d.function d.block ≡ t → Follows values (it (Ok (statements.Directive (directives.Fuel z))) ∷ before) (fuel_if t z d)
-      by true e = (h.0, h.1, h.2, h.3, h.4, h.5, h.6, h.7, or_second (has_fuel values before) (takes_annotations values before) p (sym (same_annotations values before d h) ∙ e), h.9, h.10, h.11, h.12, h.13)
-      by false e = (h.0, h.1, h.2, h.3, h.4, h.5, h.6, h.7, h.8 ∙ or_neither (has_fuel values before) (takes_annotations values before) (sym (same_annotations values before d h) ∙ e), h.9, h.10, h.11, h.12, h.13)
+      by true e = (h.0, h.1, h.2, h.3, h.4, h.5, h.6, h.7, or_second (has_fuel values before) (takes_annotations values before) p (sym (same_annotations values before d h) ∙ e), h.9, h.10, h.11, h.12, h.13, h.14)
+      by false e = (h.0, h.1, h.2, h.3, h.4, h.5, h.6, h.7, h.8 ∙ or_neither (has_fuel values before) (takes_annotations values before) (sym (same_annotations values before d h) ∙ e), h.9, h.10, h.11, h.12, h.13, h.14)
+
+  depth_follows : (n : ℕ) (d : Draft) → Follows values before d → (o : Option Head) → is_some o ≡ in_function before → (m : Option ℕ) → is_some d.function.depth ≡ is_some m
+      → Follows values (it (Ok (statements.Directive (directives.Depth n))) ∷ before) (depth_by o m n d)
+  depth_follows n d h (Some x) p (Some y) q = (h.0, h.1, h.2, h.3, h.4, h.5, h.6, h.7, h.8, h.9, h.10, h.11, h.12, h.13, q ∙ p ∙ sym (and_true (in_function before)))
+  depth_follows n d h (Some x) p None q = (h.0, h.1, h.2, h.3, h.4, λ out. absurd (true≢false (p ∙ out)), h.6, h.7, h.8, h.9, h.10, h.11, h.12, h.13, p ∙ sym (and_true (in_function before)))
+  depth_follows n d h None p m q = (h.0, h.1, h.2, h.3, h.4, h.5, h.6, h.7, h.8, h.9, h.10, h.11, h.12, h.13, ap is_some (h.5 (sym p)).5 ∙ p ∙ sym (and_true (in_function before)))
 
   services_follow : (x : Services) (d : Draft) → Follows values before d → (o : Option Services) → is_some d.services ≡ is_some o
       → Follows values (it (Ok (statements.Directive (directives.Services x))) ∷ before) (services_by o x d)
-  services_follow x d h (Some y) p = (h.0, h.1, h.2, h.3, h.4, h.5, h.6, h.7, h.8, p, h.10, h.11, h.12, h.13)
-  services_follow x d h None p = (h.0, h.1, h.2, h.3, h.4, h.5, h.6, h.7, h.8, refl, h.10, h.11, h.12, h.13)
+  services_follow x d h (Some y) p = (h.0, h.1, h.2, h.3, h.4, h.5, h.6, h.7, h.8, p, h.10, h.11, h.12, h.13, h.14)
+  services_follow x d h None p = (h.0, h.1, h.2, h.3, h.4, h.5, h.6, h.7, h.8, refl, h.10, h.11, h.12, h.13, h.14)
 
   stack_follows : (n : ℕ) (d : Draft) → Follows values before d → (o : Option ℕ) → is_some d.stack ≡ is_some o
       → Follows values (it (Ok (statements.Directive (directives.Stack n))) ∷ before) (stack_by o n d)
-  stack_follows n d h (Some y) p = (h.0, h.1, h.2, h.3, h.4, h.5, h.6, h.7, h.8, h.9, p, h.11, h.12, h.13)
-  stack_follows n d h None p = (h.0, h.1, h.2, h.3, h.4, h.5, h.6, h.7, h.8, h.9, refl, h.11, h.12, h.13)
+  stack_follows n d h (Some y) p = (h.0, h.1, h.2, h.3, h.4, h.5, h.6, h.7, h.8, h.9, p, h.11, h.12, h.13, h.14)
+  stack_follows n d h None p = (h.0, h.1, h.2, h.3, h.4, h.5, h.6, h.7, h.8, h.9, refl, h.11, h.12, h.13, h.14)
 
   values_follow : (n : ℕ) (d : Draft) → Follows values before d → (r : Result (List ℕ) DataFault) → Behind values before (is_unknown r) (with_bytes true (with_data r (data_checked n d)))
   values_follow n d h (Ok bs) = h
@@ -434,14 +451,14 @@ module _ (values : Values) (before : List Item) (number : ℕ) (labels : List (L
 
   region_follows : (writable : Bool) (d : Draft) → Follows values before d → Follows values (it (Ok (statements.Directive (directives.Region writable))) ∷ before) (begin_region writable d)
   unfolding leave_region close_region begin_region
-  region_follows writable d h = (h.0, h.1, h.2, h.3, h.4, h.5, h.6, h.7, h.8, h.9, h.10, another 8 d.region.count (count is_region before) h.11, h.12, refl)
+  region_follows writable d h = (h.0, h.1, h.2, h.3, h.4, h.5, h.6, h.7, h.8, h.9, h.10, another 8 d.region.count (count is_region before) h.11, h.12, refl, h.14)
 
   words_follow : (d : Draft) → Follows values before d → (r : Result (List Instr) SyntaxFault) → Behind values before true (begun (with_words r (instruction_checked bytes tokens d)))
   words_follow d h (Ok is) = acted d h
   words_follow d h (Err f) = acted d h
 
   pub follows : (s : Said) (d : Draft) → Follows values before d → Follows values (it s ∷ before) (said_does values (it s) s d)
-  unfolding leave_region choose_data statement_does instruction_does add_param add_result add_cell add_term add_fuel add_services add_stack add_values add_zeros begin_function begin_block close_function
+  unfolding leave_region choose_data statement_does instruction_does add_param add_result add_depth add_cell add_term add_fuel add_services add_stack add_values add_zeros begin_function begin_block close_function
   follows (Err f) d h = acted d h
   follows (Ok statements.Nothing) d h = h
   follows (Ok statements.Instruction) d h = words_follow d h (source_meaning values d.place.next_word bytes tokens)
@@ -449,13 +466,14 @@ module _ (values : Values) (before : List Item) (number : ℕ) (labels : List (L
   follows (Ok (statements.Malformed keywords.Block name)) d h = divides d h d.function.head h.0
   follows (Ok (statements.Malformed _ name)) d h = h
   follows (Ok (statements.Directive directives.Text)) d h = h
-  follows (Ok (statements.Directive directives.Data)) d h = (h.0, h.1, h.2, h.3, h.4, h.5, h.6, h.7, h.8, h.9, h.10, h.11, refl, h.13)
+  follows (Ok (statements.Directive directives.Data)) d h = (h.0, h.1, h.2, h.3, h.4, h.5, h.6, h.7, h.8, h.9, h.10, h.11, refl, h.13, h.14)
   follows (Ok (statements.Directive (directives.Region writable))) d h = region_follows writable d h
   follows (Ok (statements.Directive (directives.Services x))) d h = services_follow x d h d.services refl
   follows (Ok (statements.Directive (directives.Stack n))) d h = stack_follows n d h d.stack refl
   follows (Ok (statements.Directive (directives.Function name kind frame room budget))) d h = begins kind frame room budget name d h d.function.head h.0 h.1
   follows (Ok (statements.Directive (directives.Param r))) d h = param_follows r d h (stages.takes_ranges d.function d.block) refl
   follows (Ok (statements.Directive (directives.Result r))) d h = result_follows r d h (stages.takes_ranges d.function d.block) refl
+  follows (Ok (statements.Directive (directives.Depth n))) d h = depth_follows n d h d.function.head h.0 d.function.depth refl
   follows (Ok (statements.Directive (directives.Block name))) d h = divides d h d.function.head h.0
   follows (Ok (statements.Directive (directives.Cell c))) d h = cell_follows c d h (stages.takes_annotations d.function d.block) refl
   follows (Ok (statements.Directive (directives.Fuel z))) d h = fuel_follows z d h d.block.fuel h.8

@@ -1,6 +1,6 @@
 -- What the stages make of lines without faults is the image of the lines.
 use Rattle.std.proofs.Common.{◌≡◌, ℕ, ◌*◌, Bool, true, false, cond, ℤ, pos, List, [], ◌∷◌, ◌++◌, length, map, Option, None, Some, Result, Ok, Err, refl, sym, ap, ◌∙◌, append_assoc}
-use Rattle.std.specs.Prelude.{not, ◌||◌, nat_lt, nat_le, replicate}
+use Rattle.std.specs.Prelude.{not, ◌&&◌, ◌||◌, nat_lt, nat_le, replicate}
 use Rattle.std.specs.Option.{is_some, unwrap_or}
 use Rattle.std.specs.List.{fold, list_any, flat_map}
 use Rattle.std.proofs.lemmas.List.{append-nil}
@@ -30,13 +30,13 @@ use Rattle.sbx_asm.specs.declared.fault.Cause.TheVariants as causes
 use Rattle.sbx_asm.specs.declared.opening.Head.{Head}
 use Rattle.sbx_asm.specs.declared.draft.Draft.{Draft}
 use Rattle.sbx_asm.specs.Faults.{at}
-use Rattle.sbx_asm.specs.Items.{Item, Said, each, up_to, ends_function, is_region, ends_block, in_function, params, results, cells, terms}
+use Rattle.sbx_asm.specs.Items.{Item, Said, each, up_to, ends_function, is_region, is_block, ends_block, is_depth, in_function, params, results, depths, cells, terms}
 use Rattle.sbx_asm.specs.Addresses.{code_address, data_offset, padding_of, fits_behind, section_after, section_room}
-use Rattle.sbx_asm.specs.Rules.{Values, when, is_code, in_place, data_rules, block_rules, takes_annotations, takes_ranges, has_fuel, line_rules, own_faults, empty_block, empty_region, faults_at}
+use Rattle.sbx_asm.specs.Rules.{Values, when, acts, is_code, in_place, data_rules, block_rules, takes_annotations, takes_ranges, has_fuel, has_depth, line_rules, own_faults, empty_block, empty_region, faults_at}
 use Rattle.sbx_asm.specs.Images.{first_or, fuels, block_with, block_at, function_at, words_meant, bytes_meant, filled, region_with, words_at, bytes_at, region_at, services, stacks}
 use Rattle.sbx_asm.specs.Stages.Places.{has_room}
 use Rattle.sbx_asm.specs.Stages.Drafts as stages
-use Rattle.sbx_asm.specs.Stages.Drafts.{close_block, close_headed, close_function, headed, open_block, begin_function, begin_block_of, begin_block, param_if, add_param, result_if, add_result, cell_if, add_cell, term_if, add_term, fuel_if, fuel_by, add_fuel, services_by, add_services, stack_by, add_stack, noted, noted_where, begun, leave_region, close_region, choose_data, begin_region, with_bytes, closed, data_checked, with_data, with_zeros, add_values, add_zeros, instruction_checked, with_words, instruction_does, statement_does, numbered_line}
+use Rattle.sbx_asm.specs.Stages.Drafts.{close_block, close_headed, close_function, headed, open_block, begin_function, begin_block_of, begin_block, param_if, add_param, result_if, add_result, depth_by, add_depth, cell_if, add_cell, term_if, add_term, fuel_if, fuel_by, add_fuel, services_by, add_services, stack_by, add_stack, noted, noted_where, begun, leave_region, close_region, choose_data, begin_region, with_bytes, closed, data_checked, with_data, with_zeros, add_values, add_zeros, instruction_checked, with_words, instruction_does, statement_does, numbered_line}
 use Rattle.sbx_asm.proofs.Standing.{item, place_of}
 use Rattle.sbx_asm.proofs.Following.{said_does, Follows, IsClosed, same_annotations, same_ranges}
 use Rattle.sbx_asm.proofs.Telling.{data_room}
@@ -78,10 +78,10 @@ or_false false = refl
 -- ---- the image, from an open draft on
 
 -- the open function with some more lines, if there is one
-abbrev opened : Option Head → List Range → List Range → List Block → List Function
-opened (Some x) ps rs bs =
-    record { kind = x.kind; params = ps; results = rs; entry = x.entry; frame = x.frame; stack_room = x.stack_room; budget = x.budget; blocks = bs } ∷ []
-opened None ps rs bs = []
+abbrev opened : Option Head → List Range → List Range → ℕ → List Block → List Function
+opened (Some x) ps rs n bs =
+    record { kind = x.kind; params = ps; results = rs; entry = x.entry; frame = x.frame; stack_room = x.stack_room; budget = x.budget; depth = n; blocks = bs } ∷ []
+opened None ps rs n bs = []
 
 -- the open block with some more lines
 abbrev going_on : Draft → List Item → Block
@@ -96,6 +96,7 @@ going_on d own =
 abbrev ahead : List Item → List Item → Draft → Option Head → List Function
 ahead before after d o =
     opened o (d.function.params ++ flat_map params (up_to ends_function after)) (d.function.results ++ flat_map results (up_to ends_function after))
+    (unwrap_or d.function.depth (first_or 0 (flat_map depths (up_to ends_function after))))
     (d.function.blocks ++ going_on d (up_to ends_function after) ∷ each block_at before (up_to ends_function after))
 
 -- the newest region with the bytes of some more lines
@@ -114,6 +115,7 @@ MadeBy values e d before after o =
     × (unwrap_or e.stack 1 ≡ unwrap_or d.stack (first_or 1 (flat_map stacks after)))
     × (e.functions ≡ d.functions ++ (ahead before after d o ++ each function_at before after))
     × (e.region.has_region ≡ (d.region.has_region || list_any is_region after))
+    × (e.has_depth ≡ (d.has_depth || list_any is_depth after))
 
 abbrev pub Made : Values → Draft → Draft → List Item → List Item → Type 0
 Made values e d before after = MadeBy values e d before after d.function.head
@@ -135,14 +137,17 @@ module _ (values : Values) (before : List Item) (number : ℕ) (labels : List (L
   abbrev Q : List Range
   Q = flat_map results own
 
+  abbrev N : ℕ
+  N = unwrap_or d.function.depth (first_or 0 (flat_map depths own))
+
   words_go : (r : Result (List Instr) SyntaxFault) → r ≡ source_meaning values (code_address before) bytes tokens → Goes (Ok statements.Instruction) (begun (with_words r (instruction_checked bytes tokens d)))
   words_go (Ok is) q m =
       let i : Item = it (Ok statements.Instruction) in
       let rest : List ℕ = each (words_at values) (i ∷ before) after in
-      (m.0 ∙ append_assoc d.words (map spelling is) rest ∙ (λ j. d.words ++ (words_meant (q j) ++ rest)), m.1, m.2, m.3, m.4, m.5)
+      (m.0 ∙ append_assoc d.words (map spelling is) rest ∙ (λ j. d.words ++ (words_meant (q j) ++ rest)), m.1, m.2, m.3, m.4, m.5, m.6)
   words_go (Err f) q m =
       let i : Item = it (Ok statements.Instruction) in
-      (m.0 ∙ (λ j. d.words ++ (words_meant (q j) ++ each (words_at values) (i ∷ before) after)), m.1, m.2, m.3, m.4, m.5)
+      (m.0 ∙ (λ j. d.words ++ (words_meant (q j) ++ each (words_at values) (i ∷ before) after)), m.1, m.2, m.3, m.4, m.5, m.6)
 
   -- the regions, where the newest one has other bytes
   abbrev with_in : Item → List ℕ → List Region
@@ -152,16 +157,16 @@ module _ (values : Values) (before : List Item) (number : ℕ) (labels : List (L
   values_go w n k (Ok bs) q m =
       let i : Item = it (Ok (statements.Directive (directives.Values w n))) in
       let rest : List ℕ = each (bytes_at values) (i ∷ before) (up_to is_region after) in
-      (m.0, m.1 ∙ ap (with_in i) (append_assoc d.region.bytes bs rest ∙ (λ j. d.region.bytes ++ (bytes_meant (q j) ++ rest))), m.2, m.3, m.4, m.5)
+      (m.0, m.1 ∙ ap (with_in i) (append_assoc d.region.bytes bs rest ∙ (λ j. d.region.bytes ++ (bytes_meant (q j) ++ rest))), m.2, m.3, m.4, m.5, m.6)
   values_go w n k (Err data_faults.UnknownSymbol) q m =
       let i : Item = it (Ok (statements.Directive (directives.Values w n))) in
-      (m.0, m.1 ∙ ap (with_in i) (λ j. d.region.bytes ++ (bytes_meant (q j) ++ each (bytes_at values) (i ∷ before) (up_to is_region after))), m.2, m.3, m.4, m.5)
+      (m.0, m.1 ∙ ap (with_in i) (λ j. d.region.bytes ++ (bytes_meant (q j) ++ each (bytes_at values) (i ∷ before) (up_to is_region after))), m.2, m.3, m.4, m.5, m.6)
   values_go w n k (Err data_faults.Malformed) q m =
       let i : Item = it (Ok (statements.Directive (directives.Values w n))) in
-      (m.0, m.1 ∙ ap (with_in i) (λ j. d.region.bytes ++ (bytes_meant (q j) ++ each (bytes_at values) (i ∷ before) (up_to is_region after))), m.2, m.3, m.4, m.5)
+      (m.0, m.1 ∙ ap (with_in i) (λ j. d.region.bytes ++ (bytes_meant (q j) ++ each (bytes_at values) (i ∷ before) (up_to is_region after))), m.2, m.3, m.4, m.5, m.6)
   values_go w n k (Err (data_faults.Memory want)) q m =
       let i : Item = it (Ok (statements.Directive (directives.Values w n))) in
-      (m.0, m.1 ∙ ap (with_in i) (λ j. d.region.bytes ++ (bytes_meant (q j) ++ each (bytes_at values) (i ∷ before) (up_to is_region after))), m.2, m.3, m.4, m.5)
+      (m.0, m.1 ∙ ap (with_in i) (λ j. d.region.bytes ++ (bytes_meant (q j) ++ each (bytes_at values) (i ∷ before) (up_to is_region after))), m.2, m.3, m.4, m.5, m.6)
 
   -- data that have room
   no_room : (n : ℕ) → data_rules before n ≡ [] → false ≡ has_room section_room d.place.region_bytes n → ⊥
@@ -173,7 +178,7 @@ module _ (values : Values) (before : List Item) (number : ℕ) (labels : List (L
   skip_goes : (n : ℕ) (t b : Bool) → t ≡ has_room section_room d.place.region_bytes n → data_rules before n ≡ [] → Goes (Ok (statements.Directive (directives.Skip n))) (with_bytes b (with_zeros t n (data_checked n d)))
   skip_goes n true b q c m =
       let i : Item = it (Ok (statements.Directive (directives.Skip n))) in
-      (m.0, m.1 ∙ ap (with_in i) (append_assoc d.region.bytes (replicate n 0) (each (bytes_at values) (i ∷ before) (up_to is_region after))), m.2, m.3, m.4, m.5)
+      (m.0, m.1 ∙ ap (with_in i) (append_assoc d.region.bytes (replicate n 0) (each (bytes_at values) (i ∷ before) (up_to is_region after))), m.2, m.3, m.4, m.5, m.6)
   skip_goes n false b q c m = absurd (no_room n c q)
 
   align_goes : (n k : ℕ) (t : Bool) → k ≡ padding_of n (data_offset before) → t ≡ has_room section_room d.place.region_bytes k → data_rules before (padding_of n (data_offset before)) ≡ []
@@ -181,7 +186,7 @@ module _ (values : Values) (before : List Item) (number : ℕ) (labels : List (L
   align_goes n k true f q c m =
       let i : Item = it (Ok (statements.Directive (directives.Align n))) in
       let rest : List ℕ = each (bytes_at values) (i ∷ before) (up_to is_region after) in
-      (m.0, m.1 ∙ ap (with_in i) (append_assoc d.region.bytes (replicate k 0) rest ∙ (λ j. d.region.bytes ++ (replicate (f j) 0 ++ rest))), m.2, m.3, m.4, m.5)
+      (m.0, m.1 ∙ ap (with_in i) (append_assoc d.region.bytes (replicate k 0) rest ∙ (λ j. d.region.bytes ++ (replicate (f j) 0 ++ rest))), m.2, m.3, m.4, m.5, m.6)
   align_goes n k false f q c m = absurd (no_room k (ap (data_rules before) f ∙ c) q)
 
   -- ---- regions
@@ -197,23 +202,24 @@ module _ (values : Values) (before : List Item) (number : ℕ) (labels : List (L
         m.3,
         m.4,
         m.5 ∙ or_true d.region.has_region,
+        m.6,
       )
 
   -- ---- what stands once
 
   services_go : (x : Services) (o : Option Services) → is_some d.services ≡ is_some o → Goes (Ok (statements.Directive (directives.Services x))) (services_by o x d)
-  services_go x (Some y) q m = (m.0, m.1, m.2 ∙ some_default d.services _ _ q, m.3, m.4, m.5)
-  services_go x None q m = (m.0, m.1, m.2 ∙ none_default d.services x q, m.3, m.4, m.5)
+  services_go x (Some y) q m = (m.0, m.1, m.2 ∙ some_default d.services _ _ q, m.3, m.4, m.5, m.6)
+  services_go x None q m = (m.0, m.1, m.2 ∙ none_default d.services x q, m.3, m.4, m.5, m.6)
 
   stack_goes : (n : ℕ) (o : Option ℕ) → is_some d.stack ≡ is_some o → Goes (Ok (statements.Directive (directives.Stack n))) (stack_by o n d)
-  stack_goes n (Some y) q m = (m.0, m.1, m.2, m.3 ∙ some_default d.stack _ _ q, m.4, m.5)
-  stack_goes n None q m = (m.0, m.1, m.2, m.3 ∙ none_default d.stack n q, m.4, m.5)
+  stack_goes n (Some y) q m = (m.0, m.1, m.2, m.3 ∙ some_default d.stack _ _ q, m.4, m.5, m.6)
+  stack_goes n None q m = (m.0, m.1, m.2, m.3 ∙ none_default d.stack n q, m.4, m.5, m.6)
 
   -- ---- annotations
 
   -- the functions, where the open one has other params, results or blocks
   abbrev with_open : Said → List Range → List Range → List Block → List Function
-  with_open s ps rs bs = d.functions ++ (opened d.function.head ps rs bs ++ each function_at (it s ∷ before) after)
+  with_open s ps rs bs = d.functions ++ (opened d.function.head ps rs N bs ++ each function_at (it s ∷ before) after)
 
   abbrev blocks_with : Said → ℤ → List Cell → List Term → List Block
   blocks_with s fuel cs ts = d.function.blocks ++ record { address = d.block.address; fuel = fuel; cells = cs; terms = ts } ∷ each block_at (it s ∷ before) own
@@ -226,28 +232,28 @@ module _ (values : Values) (before : List Item) (number : ℕ) (labels : List (L
       → Goes (Ok (statements.Directive (directives.Param r))) (param_if t r d)
   param_goes r true q c m =
       let s : Said = Ok (statements.Directive (directives.Param r)) in
-      (m.0, m.1, m.2, m.3, m.4 ∙ ap (λ (ps : List Range). with_open s ps (d.function.results ++ Q) (d.function.blocks ++ going_on d own ∷ each block_at (it s ∷ before) own)) (append_assoc d.function.params (r ∷ []) P), m.5)
+      (m.0, m.1, m.2, m.3, m.4 ∙ ap (λ (ps : List Range). with_open s ps (d.function.results ++ Q) (d.function.blocks ++ going_on d own ∷ each block_at (it s ∷ before) own)) (append_assoc d.function.params (r ∷ []) P), m.5, m.6)
   param_goes r false q c m = absurd (out_of_place _ _ q c)
 
   result_goes : (r : Range) (t : Bool) → t ≡ takes_ranges values before → line_rules values before (it (Ok (statements.Directive (directives.Result r)))) (Ok (statements.Directive (directives.Result r))) ≡ []
       → Goes (Ok (statements.Directive (directives.Result r))) (result_if t r d)
   result_goes r true q c m =
       let s : Said = Ok (statements.Directive (directives.Result r)) in
-      (m.0, m.1, m.2, m.3, m.4 ∙ ap (λ (rs : List Range). with_open s (d.function.params ++ P) rs (d.function.blocks ++ going_on d own ∷ each block_at (it s ∷ before) own)) (append_assoc d.function.results (r ∷ []) Q), m.5)
+      (m.0, m.1, m.2, m.3, m.4 ∙ ap (λ (rs : List Range). with_open s (d.function.params ++ P) rs (d.function.blocks ++ going_on d own ∷ each block_at (it s ∷ before) own)) (append_assoc d.function.results (r ∷ []) Q), m.5, m.6)
   result_goes r false q c m = absurd (out_of_place _ _ q c)
 
   cell_goes : (x : Cell) (t : Bool) → t ≡ takes_annotations values before → line_rules values before (it (Ok (statements.Directive (directives.Cell x)))) (Ok (statements.Directive (directives.Cell x))) ≡ []
       → Goes (Ok (statements.Directive (directives.Cell x))) (cell_if t x d)
   cell_goes x true q c m =
       let s : Said = Ok (statements.Directive (directives.Cell x)) in
-      (m.0, m.1, m.2, m.3, m.4 ∙ ap (λ (cs : List Cell). with_open s (d.function.params ++ P) (d.function.results ++ Q) (blocks_with s (going_on d own).fuel cs (going_on d own).terms)) (append_assoc d.block.cells (x ∷ []) (flat_map cells (up_to ends_block own))), m.5)
+      (m.0, m.1, m.2, m.3, m.4 ∙ ap (λ (cs : List Cell). with_open s (d.function.params ++ P) (d.function.results ++ Q) (blocks_with s (going_on d own).fuel cs (going_on d own).terms)) (append_assoc d.block.cells (x ∷ []) (flat_map cells (up_to ends_block own))), m.5, m.6)
   cell_goes x false q c m = absurd (out_of_place _ _ q c)
 
   term_goes : (x : Term) (t : Bool) → t ≡ takes_annotations values before → line_rules values before (it (Ok (statements.Directive (directives.Term x)))) (Ok (statements.Directive (directives.Term x))) ≡ []
       → Goes (Ok (statements.Directive (directives.Term x))) (term_if t x d)
   term_goes x true q c m =
       let s : Said = Ok (statements.Directive (directives.Term x)) in
-      (m.0, m.1, m.2, m.3, m.4 ∙ ap (λ (ts : List Term). with_open s (d.function.params ++ P) (d.function.results ++ Q) (blocks_with s (going_on d own).fuel (going_on d own).cells ts)) (append_assoc d.block.terms (x ∷ []) (flat_map terms (up_to ends_block own))), m.5)
+      (m.0, m.1, m.2, m.3, m.4 ∙ ap (λ (ts : List Term). with_open s (d.function.params ++ P) (d.function.results ++ Q) (blocks_with s (going_on d own).fuel (going_on d own).cells ts)) (append_assoc d.block.terms (x ∷ []) (flat_map terms (up_to ends_block own))), m.5, m.6)
   term_goes x false q c m = absurd (out_of_place _ _ q c)
 
   second_fuel : (b : Bool) (cs : List Cause) → true ≡ b → cond b (causes.Directive ∷ []) cs ≡ [] → ⊥
@@ -266,8 +272,23 @@ module _ (values : Values) (before : List Item) (number : ℕ) (labels : List (L
       by : (t : Bool) → t ≡ takes_annotations values before → Goes (Ok (statements.Directive (directives.Fuel z))) (fuel_if t z d)
       by true r n =
           let s : Said = Ok (statements.Directive (directives.Fuel z)) in
-          (n.0, n.1, n.2, n.3, n.4 ∙ ap (λ (f : ℤ). with_open s (d.function.params ++ P) (d.function.results ++ Q) (blocks_with s f (going_on d own).cells (going_on d own).terms)) (none_default d.block.fuel z k), n.5)
+          (n.0, n.1, n.2, n.3, n.4 ∙ ap (λ (f : ℤ). with_open s (d.function.params ++ P) (d.function.results ++ Q) (blocks_with s f (going_on d own).cells (going_on d own).terms)) (none_default d.block.fuel z k), n.5, n.6)
       by false r n = absurd (out_of_place _ _ r (first_fuel _ _ q c))
+
+  -- out of every function
+  nowhere : (b u v w : Bool) → false ≡ b → cond (b && u) (causes.Directive ∷ []) (in_place ((b && v) && w) []) ≡ [] → ⊥
+  nowhere true u v w q c = absurd (cc)
+  nowhere false u v w q c = cons_nil c
+
+  depth_goes : (n : ℕ) (o : Option Head) → is_some o ≡ in_function before → (x : Option ℕ) → is_some x ≡ has_depth before → is_some d.function.depth ≡ is_some x
+      → line_rules values before (it (Ok (statements.Directive (directives.Depth n)))) (Ok (statements.Directive (directives.Depth n))) ≡ [] → Goes (Ok (statements.Directive (directives.Depth n))) (depth_by o x n d)
+  depth_goes n (Some y) p (Some z) q k c m = absurd (second_fuel _ _ q c)
+  depth_goes n (Some y) p None q k c m =
+      let s : Said = Ok (statements.Directive (directives.Depth n)) in
+      let bs : List Block = d.function.blocks ++ going_on d own ∷ each block_at (it s ∷ before) own in
+      (m.0, m.1, m.2, m.3, m.4 ∙ ap (λ (a : ℕ). d.functions ++ (opened d.function.head (d.function.params ++ P) (d.function.results ++ Q) a bs ++ each function_at (it s ∷ before) after)) (none_default d.function.depth n k), m.5, m.6 ∙ or_true d.has_depth)
+  depth_goes n None p x q k c m =
+      absurd (nowhere (in_function before) (list_any is_depth (up_to ends_function before)) (not (list_any (acts values) (up_to ends_block before))) (not (list_any is_block (up_to ends_function before))) p c)
 
   -- ---- functions and blocks
 
@@ -292,12 +313,13 @@ module _ (values : Values) (before : List Item) (number : ℕ) (labels : List (L
             ∙ ap (λ (cs : List Cell). d.function.blocks ++ record { address = d.block.address; fuel = fuel; cells = cs; terms = d.block.terms } ∷ block_with (code_address before) (up_to ends_block own) ∷ more) (sym (append-nil d.block.cells))
             ∙ ap (λ (ts : List Term). d.function.blocks ++ record { address = d.block.address; fuel = fuel; cells = d.block.cells ++ []; terms = ts } ∷ block_with (code_address before) (up_to ends_block own) ∷ more) (sym (append-nil d.block.terms))),
         m.5,
+        m.6,
       )
   block_goes name None q c m = absurd (no_function _ _ q c)
 
   -- the function of a line, at an address
-  abbrev function_there : Said → Kind → ℕ → ℕ → ℕ → ℕ → List Range → List Range → List Block → List Cell → List Term → Function
-  function_there s kind frame room budget address ps rs bs cs ts =
+  abbrev function_there : Said → Kind → ℕ → ℕ → ℕ → ℕ → List Range → List Range → ℕ → List Block → List Cell → List Term → Function
+  function_there s kind frame room budget address ps rs n bs cs ts =
       record {
         kind = kind;
         params = ps;
@@ -306,12 +328,13 @@ module _ (values : Values) (before : List Item) (number : ℕ) (labels : List (L
         frame = frame;
         stack_room = room;
         budget = budget;
+        depth = n;
         blocks = bs ++ record { address = address; fuel = first_or (pos 0) (flat_map fuels (up_to ends_block own)); cells = cs; terms = ts } ∷ each block_at (it s ∷ before) own;
       }
 
-  closed_head : (o : Option Head) (ps rs : List Range) (bs : List Block) → is_some o ≡ false → [] ≡ opened o ps rs bs
-  closed_head (Some x) ps rs bs q = absurd (cc)
-  closed_head None ps rs bs q = refl
+  closed_head : (o : Option Head) (ps rs : List Range) (n : ℕ) (bs : List Block) → is_some o ≡ false → [] ≡ opened o ps rs n bs
+  closed_head (Some x) ps rs n bs q = absurd (cc)
+  closed_head None ps rs n bs q = refl
 
   function_goes : (name : Name) (kind : Kind) (frame room budget : ℕ) (o : Option Head) → is_some d.function.head ≡ is_some o → in_function before ≡ is_some o
       → Made values e (let x : Draft = close_headed o d in open_block (headed kind frame room budget (noted_where (nat_le 256 (length x.functions)) causes.Limit x))) (it (Ok (statements.Directive (directives.Function name kind frame room budget))) ∷ before) after
@@ -323,8 +346,8 @@ module _ (values : Values) (before : List Item) (number : ℕ) (labels : List (L
       let D : List Cell = flat_map cells (up_to ends_block own) in
       let T : List Term = flat_map terms (up_to ends_block own) in
       let fuel : ℤ = unwrap_or d.block.fuel (pos 0) in
-      let new = λ (n : ℕ). function_there s kind frame room budget n P Q [] D T in
-      let old = λ (ps rs : List Range) (cs : List Cell) (ts : List Term). opened (Some x) ps rs (d.function.blocks ++ record { address = d.block.address; fuel = fuel; cells = cs; terms = ts } ∷ []) in (
+      let new = λ (n : ℕ). function_there s kind frame room budget n P Q (first_or 0 (flat_map depths own)) [] D T in
+      let old = λ (ps rs : List Range) (cs : List Cell) (ts : List Term). opened (Some x) ps rs (unwrap_or d.function.depth 0) (d.function.blocks ++ record { address = d.block.address; fuel = fuel; cells = cs; terms = ts } ∷ []) in (
         m.0,
         m.1,
         m.2,
@@ -337,6 +360,7 @@ module _ (values : Values) (before : List Item) (number : ℕ) (labels : List (L
             ∙ ap (λ (cs : List Cell). d.functions ++ (old (d.function.params ++ []) (d.function.results ++ []) cs d.block.terms ++ new (code_address before) ∷ R)) (sym (append-nil d.block.cells))
             ∙ ap (λ (ts : List Term). d.functions ++ (old (d.function.params ++ []) (d.function.results ++ []) (d.block.cells ++ []) ts ++ new (code_address before) ∷ R)) (sym (append-nil d.block.terms)),
         m.5,
+        m.6,
       )
   function_goes name kind frame room budget None q k m =
       let s : Said = Ok (statements.Directive (directives.Function name kind frame room budget)) in
@@ -348,12 +372,13 @@ module _ (values : Values) (before : List Item) (number : ℕ) (labels : List (L
         m.1,
         m.2,
         m.3,
-        m.4 ∙ (λ j. d.functions ++ function_there s kind frame room budget (p j).next_word (c.0 j ++ P) (c.1 j ++ Q) (c.2 j) (c.3 j ++ D) (c.4 j ++ T) ∷ R),
+        m.4 ∙ (λ j. d.functions ++ function_there s kind frame room budget (p j).next_word (c.0 j ++ P) (c.1 j ++ Q) (unwrap_or (c.5 j) (first_or 0 (flat_map depths own))) (c.2 j) (c.3 j ++ D) (c.4 j ++ T) ∷ R),
         m.5,
+        m.6,
       )
 
   pub line_goes : (s : Said) → line_rules values before (it s) s ≡ [] → Goes s (said_does values (it s) s d)
-  unfolding leave_region choose_data statement_does instruction_does add_param add_result add_cell add_term add_fuel add_services add_stack add_values add_zeros begin_function begin_block close_function
+  unfolding leave_region choose_data statement_does instruction_does add_param add_result add_depth add_cell add_term add_fuel add_services add_stack add_values add_zeros begin_function begin_block close_function
   line_goes (Err f) c m = cons_nil c
   line_goes (Ok statements.Nothing) c m = m
   line_goes (Ok statements.Instruction) c m = words_go (source_meaning values d.place.next_word bytes tokens) (λ j. source_meaning values (p j).next_word bytes tokens) m
@@ -367,6 +392,7 @@ module _ (values : Values) (before : List Item) (number : ℕ) (labels : List (L
   line_goes (Ok (statements.Directive (directives.Function name kind frame room budget))) c m = function_goes name kind frame room budget d.function.head refl (sym h.0) m
   line_goes (Ok (statements.Directive (directives.Param r))) c m = param_goes r (stages.takes_ranges d.function d.block) (same_ranges values before d h) c m
   line_goes (Ok (statements.Directive (directives.Result r))) c m = result_goes r (stages.takes_ranges d.function d.block) (same_ranges values before d h) c m
+  line_goes (Ok (statements.Directive (directives.Depth n))) c m = depth_goes n d.function.head h.0 d.function.depth h.14 refl c m
   line_goes (Ok (statements.Directive (directives.Block name))) c m = block_goes name d.function.head h.0 c m
   line_goes (Ok (statements.Directive (directives.Cell x))) c m = cell_goes x (stages.takes_annotations d.function d.block) (same_annotations values before d h) c m
   line_goes (Ok (statements.Directive (directives.Fuel z))) c m = fuel_goes z d.block.fuel h.8 refl c m
@@ -386,11 +412,12 @@ module _ (values : Values) where
     ap (λ (bs : List ℕ). d.region.regions ++ region_with d.region.writable (filled bs)) (sym (append-nil d.region.bytes)) ∙ ap (λ (rs : List Region). d.region.regions ++ rs) (sym (append-nil (region_with d.region.writable (filled (d.region.bytes ++ []))))),
     refl,
     refl,
-    ap (λ (ps : List Range). d.functions ++ opened (Some x) ps d.function.results (d.function.blocks ++ stages.block_of d.block ∷ [])) (sym (append-nil d.function.params))
-        ∙ ap (λ (rs : List Range). d.functions ++ opened (Some x) (d.function.params ++ []) rs (d.function.blocks ++ stages.block_of d.block ∷ [])) (sym (append-nil d.function.results))
-        ∙ ap (λ (cs : List Cell). d.functions ++ opened (Some x) (d.function.params ++ []) (d.function.results ++ []) (d.function.blocks ++ record { address = d.block.address; fuel = unwrap_or d.block.fuel (pos 0); cells = cs; terms = d.block.terms } ∷ [])) (sym (append-nil d.block.cells))
-        ∙ ap (λ (ts : List Term). d.functions ++ opened (Some x) (d.function.params ++ []) (d.function.results ++ []) (d.function.blocks ++ record { address = d.block.address; fuel = unwrap_or d.block.fuel (pos 0); cells = d.block.cells ++ []; terms = ts } ∷ [])) (sym (append-nil d.block.terms)),
+    ap (λ (ps : List Range). d.functions ++ opened (Some x) ps d.function.results (unwrap_or d.function.depth 0) (d.function.blocks ++ stages.block_of d.block ∷ [])) (sym (append-nil d.function.params))
+        ∙ ap (λ (rs : List Range). d.functions ++ opened (Some x) (d.function.params ++ []) rs (unwrap_or d.function.depth 0) (d.function.blocks ++ stages.block_of d.block ∷ [])) (sym (append-nil d.function.results))
+        ∙ ap (λ (cs : List Cell). d.functions ++ opened (Some x) (d.function.params ++ []) (d.function.results ++ []) (unwrap_or d.function.depth 0) (d.function.blocks ++ record { address = d.block.address; fuel = unwrap_or d.block.fuel (pos 0); cells = cs; terms = d.block.terms } ∷ [])) (sym (append-nil d.block.cells))
+        ∙ ap (λ (ts : List Term). d.functions ++ opened (Some x) (d.function.params ++ []) (d.function.results ++ []) (unwrap_or d.function.depth 0) (d.function.blocks ++ record { address = d.block.address; fuel = unwrap_or d.block.fuel (pos 0); cells = d.block.cells ++ []; terms = ts } ∷ [])) (sym (append-nil d.block.terms)),
     or_false d.region.has_region,
+    or_false d.has_depth,
   )
   at_end before d None = (
     sym (append-nil d.words),
@@ -399,6 +426,7 @@ module _ (values : Values) where
     refl,
     sym (append-nil d.functions),
     or_false d.region.has_region,
+    or_false d.has_depth,
   )
 
   pub all_made : (before after : List Item) (d : Draft) → d.place ≡ place_of before → Follows values before d → each (faults_at values) before after ≡ []

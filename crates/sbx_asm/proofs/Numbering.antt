@@ -18,9 +18,9 @@ use Rattle.sbx_asm.specs.declared.fault.Cause.TheVariants as causes
 use Rattle.sbx_asm.specs.declared.place.Section.{Section}
 use Rattle.sbx_asm.specs.declared.place.Section.TheVariants.{Code, Data}
 use Rattle.sbx_asm.specs.Faults.{at}
-use Rattle.sbx_asm.specs.Items.{Item, Said, each, up_to, count, starts, divides, starts_function, ends_function, is_data, is_region, leaves_region, has_bytes, is_block, ends_block, leaves_open, in_function, begins_block, block_count, params, results, cells, terms}
+use Rattle.sbx_asm.specs.Items.{Item, Said, each, up_to, count, starts, divides, starts_function, ends_function, is_data, is_region, leaves_region, has_bytes, is_block, ends_block, is_depth, leaves_open, in_function, begins_block, block_count, params, results, depths, cells, terms}
 use Rattle.sbx_asm.specs.Addresses.{Label, code_length, data_length, code_size, data_size, size_with, region_start, start_with, up_to_room, code_offset, data_offset, code_address, fits_behind, chosen, section_after, address_in_section, labelled, names_said, labels_at, all_labels, worth_in, values_of}
-use Rattle.sbx_asm.specs.Rules.{Values, when, is_called, told_again, duplicates, is_code, data_rules, another_block, block_rules, in_place, range_rules, cell_rules, term_rules, is_services, is_stack, value_rules, statement_rules, acts_as, acts, takes_annotations, takes_ranges, fuels, has_fuel, line_rules, own_faults, empty_region, empty_block, faults_at, faults_of}
+use Rattle.sbx_asm.specs.Rules.{Values, when, is_called, told_again, duplicates, is_code, data_rules, another_block, block_rules, in_place, range_rules, cell_rules, term_rules, is_services, is_stack, value_rules, statement_rules, acts_as, acts, takes_annotations, takes_ranges, fuels, has_fuel, has_depth, line_rules, own_faults, empty_region, empty_block, faults_at, faults_of}
 use Rattle.sbx_asm.specs.Images as images
 use Rattle.sbx_asm.specs.Images.{block_with, block_begun, block_at, blocks_of, function_at, words_meant, words_said, words_at, bytes_said, bytes_at, filled, region_with, version_with, region_at, first_or, services, image_of}
 use Rattle.sbx_asm.specs.Laws.{renumbered, retold, NumbersShowInFaultsAlone}
@@ -186,9 +186,9 @@ module _ (f : ℕ → ℕ) where
 
   function_begun_u : (before : List Item) (i : Item) (own : List Item) (s : Said) → images.function_begun (us before) (u i) s (us own) ≡ images.function_begun before i s own
   function_begun_u before i own (Ok (statements.Directive (directives.Function name kind frame room budget))) =
-      let a = code_address_u before in let ps = flat_u params (λ _. refl) own in let rs = flat_u results (λ _. refl) own in
+      let a = code_address_u before in let ps = flat_u params (λ _. refl) own in let rs = flat_u results (λ _. refl) own in let ns = flat_u depths (λ _. refl) own in
       let b = block_there before own in let bs = blocks_u (i ∷ before) own in
-      λ k. record { kind = kind; params = ps k; results = rs k; entry = a k; frame = frame; stack_room = room; budget = budget; blocks = b k ∷ bs k } ∷ []
+      λ k. record { kind = kind; params = ps k; results = rs k; entry = a k; frame = frame; stack_room = room; budget = budget; depth = first_or 0 (ns k); blocks = b k ∷ bs k } ∷ []
   function_begun_u before i own (Ok (statements.Directive _)) = refl
   function_begun_u before i own (Ok _) = refl
   function_begun_u before i own (Err e) = refl
@@ -270,6 +270,9 @@ module _ (f : ℕ → ℕ) where
     has_fuel_u [] = refl
     has_fuel_u (i ∷ is) = fuels_u is i i.said (has_fuel values (us is)) (has_fuel values is) (has_fuel_u is)
 
+    has_depth_u : (is : List Item) → has_depth (us is) ≡ has_depth is
+    has_depth_u is = let a = in_function_u is in let b = any_up_to is_depth ends_function (λ _. refl) (λ _. refl) is in λ k. a k && b k
+
     data_rules_u : (is : List Item) (m n : ℕ) → m ≡ n → data_rules (us is) m ≡ data_rules is n
     data_rules_u is m n p = let a = section_u is in let b = data_offset_u is in λ k. when (is_code (a k)) causes.Directive ++ when (not (fits_behind (b k) (p k))) causes.Limit
 
@@ -297,6 +300,7 @@ module _ (f : ℕ → ℕ) where
         let a = count_u starts_function (λ _. refl) is in let b = another_block_u is in λ k. when (leb 256 (a k)) causes.Limit ++ b k
     line_rules_u is i (Ok (statements.Directive (directives.Param x))) = let a = ranges_u is in let b = flat_up_to params ends_function (λ _. refl) (λ _. refl) is in λ k. in_place (a k) (range_rules (length (b k)))
     line_rules_u is i (Ok (statements.Directive (directives.Result x))) = let a = ranges_u is in let b = flat_up_to results ends_function (λ _. refl) (λ _. refl) is in λ k. in_place (a k) (range_rules (length (b k)))
+    line_rules_u is i (Ok (statements.Directive (directives.Depth n))) = let a = has_depth_u is in let b = ranges_u is in λ k. cond (a k) (causes.Directive ∷ []) (in_place (b k) [])
     line_rules_u is i (Ok (statements.Directive (directives.Block name))) = block_rules_u is
     line_rules_u is i (Ok (statements.Directive (directives.Cell x))) = let a = annotations_u is in let b = flat_up_to cells ends_block (λ _. refl) (λ _. refl) is in λ k. in_place (a k) (cell_rules (b k) x)
     line_rules_u is i (Ok (statements.Directive (directives.Fuel z))) = let a = has_fuel_u is in let b = annotations_u is in λ k. cond (a k) (causes.Directive ∷ []) (in_place (b k) [])
@@ -344,11 +348,12 @@ module _ (f : ℕ → ℕ) where
       let vs = values_u is in
       let ws = ap (λ (v : Values). each (words_at v) [] (us is)) vs ∙ words_u (values_of is) [] is in
       let rs = ap (λ (v : Values). images.regions_of v (us is)) vs ∙ regions_u (values_of is) is in
+      let deep = any_u is_depth (λ _. refl) is in
       let regional = any_u is_region (λ _. refl) is in
       let ss = flat_u services (λ _. refl) is in
       let ks = flat_u images.stacks (λ _. refl) is in
       let fs = functions_u [] is in
-      λ k. record { version = version_with (regional k); services = first_or (record { 0 = 0 }) (ss k); words = ws k; regions = rs k; stack_pages = first_or 1 (ks k); functions = fs k }
+      λ k. record { version = version_with (deep k) (regional k); services = first_or (record { 0 = 0 }) (ss k); words = ws k; regions = rs k; stack_pages = first_or 1 (ks k); functions = fs k }
 
   all_faults_u : (is : List Item) → AllByRecursion (λ i. (i.number ≤ 1000000) × (f i.number ≤ 1000000)) is → faults_of (us is) ≡ map r (faults_of is)
   all_faults_u is h =

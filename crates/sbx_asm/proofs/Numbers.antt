@@ -1,9 +1,9 @@
 -- The numbers of a directive are such that their fields can hold them.
 use Rattle.std.proofs.Common.{◌≡◌, ℕ, ◌+◌, ◌^◌, ◌<◌, ◌≤◌, Bool, true, false, ℤ, pos, negsuc, List, [], ◌∷◌, Option, None, Some, IfSome, arith}
-use Rattle.std.specs.Prelude.{int_le, codes, FitsSigned}
+use Rattle.std.specs.Prelude.{◌&&◌, int_le, nat_le, codes, FitsSigned}
 use Rattle.std.specs.Int.{w32, w64}
 use Rattle.std.specs.List.{list_all, list_any}
-use Rattle.std.proofs.lemmas.Bool.{cond_both}
+use Rattle.std.proofs.lemmas.Bool.{cond_both, leb-true}
 use Rattle.std.proofs.lemmas.Int.{ints}
 use Rattle.sbx_text.specs.declared.Token.{Token}
 use Rattle.sbx_text.specs.declared.Kind.{Kind}
@@ -19,7 +19,7 @@ use Rattle.sbx_directives.specs.declared.directive.Statement.{Statement}
 use Rattle.sbx_directives.specs.declared.directive.Statement.TheVariants as statements
 use Rattle.sbx_directives.specs.declared.operand.Operand.{Operand}
 use Rattle.sbx_directives.specs.Lines.{text_of}
-use Rattle.sbx_directives.specs.Operands.{◌>>=◌, operands_of, is_between, integer, integer_in, natural_in, range_of, coefficient, plain_name, location, none, one, two, three, four, five}
+use Rattle.sbx_directives.specs.Operands.{◌>>=◌, operands_of, is_between, integer, integer_in, natural, natural_in, range_of, coefficient, plain_name, location, none, one, two, three, four, five}
 use Rattle.sbx_directives.specs.Directives.{bit_if, names, named_services, is_service, is_alignment, services_of, frames_of, right_named, value_count, function_of, cell_of, term_of, ranged, numbered, fuel_of, alignment_of, directive_of, told, keyed, keyword_named, begun, statement_of}
 use Rattle.sbx_asm.proofs.Wholes.{whatever}
 
@@ -28,6 +28,7 @@ abbrev pub Fits : Directive → Type 0
 Fits (directives.Services x) = x.0 < 2 ^ 16
 Fits (directives.Param r) = IsTypedRange r
 Fits (directives.Result r) = IsTypedRange r
+Fits (directives.Depth n) = n < 2 ^ 16
 Fits (directives.Cell c) = IsTypedCell c
 Fits (directives.Fuel z) = FitsSigned w64 z
 Fits (directives.Term t) = IsTypedTerm t
@@ -57,6 +58,16 @@ long_fits (negsuc n) h = record { sfits = grind (arith, ints) }
 integer_between : (low high : ℤ) (o : Operand) → IfSome (integer_in low high o) (λ z. is_between low high z ≡ true)
 unfolding integer_in
 integer_between low high o = then_any _ (integer o) _ (λ z. cond_both (is_between low high z) (Some z) None (λ k. IfSome k (λ y. is_between low high y ≡ true)) (λ h. h) (λ _. tt))
+
+second : (b c : Bool) → (b && c) ≡ true → c ≡ true
+second true c h = h
+second false c h = absurd (cc)
+
+depth_between : (o : Operand) → IfSome (natural_in 0 256 o) (λ n. n < 2 ^ 16)
+unfolding natural_in
+depth_between o =
+    then_any (λ n. n < 2 ^ 16) (natural o) _
+    (λ n. cond_both (nat_le 0 n && nat_le n 256) (Some n) None (λ k. IfSome k (λ m. m < 2 ^ 16)) (λ h. let k = leb-true n 256 (second (nat_le 0 n) (nat_le n 256) h) in omega arith) (λ _. tt))
 
 bit_small : (t : Bool) (bit : ℕ) → bit_if t bit ≤ bit
 bit_small true bit = omega arith
@@ -111,6 +122,9 @@ fuel_fits : (os : List Operand) → FitSome (fuel_of os >>= λ z. Some (directiv
 fuel_fits os =
     then_all (λ z. is_between (negsuc 1099511627774) (pos 1099511627775) z ≡ true) Fits (fuel_of os) _ (then_any _ (one os) _ (λ o. integer_between _ _ o)) (λ z h. long_fits z h)
 
+depth_fits : (os : List Operand) → FitSome (numbered 0 256 os >>= λ n. Some (directives.Depth n))
+depth_fits os = then_all (λ n. n < 2 ^ 16) Fits (numbered 0 256 os) _ (then_any (λ n. n < 2 ^ 16) (one os) _ (λ o. depth_between o)) (λ n h. h)
+
 alignment_fits : (os : List Operand) → FitSome (alignment_of os)
 alignment_fits os = then_any Fits (numbered 2 8 os) _ (λ n. cond_both (is_alignment n) (Some (directives.Align n)) None FitSome (λ _. tt) (λ _. tt))
 
@@ -124,6 +138,7 @@ directive_fits line keywords.Stack os = then_any Fits (numbered 1 16 os) _ (λ _
 directive_fits line keywords.Function os = function_fits line os
 directive_fits line keywords.Param os = then_all IsTypedRange Fits (ranged os) _ (ranged_fits os) (λ r h. h)
 directive_fits line keywords.Result os = then_all IsTypedRange Fits (ranged os) _ (ranged_fits os) (λ r h. h)
+directive_fits line keywords.Depth os = depth_fits os
 directive_fits line keywords.Block os = then_any Fits (one os >>= plain_name) _ (λ _. tt)
 directive_fits line keywords.Cell os = cell_fits line os
 directive_fits line keywords.Fuel os = fuel_fits os

@@ -26,12 +26,12 @@ use Rattle.sbx_asm.specs.declared.fault.Cause.TheVariants as causes
 use Rattle.sbx_asm.specs.declared.opening.Head.{Head}
 use Rattle.sbx_asm.specs.declared.draft.Draft.{Draft}
 use Rattle.sbx_asm.specs.Faults.{told, at}
-use Rattle.sbx_asm.specs.Items.{Item, Said, up_to, count, starts_function, ends_function, is_data, is_region, leaves, leaves_region, has_bytes, ends_block, in_function, block_count, params, results, cells, terms, ends, divides}
+use Rattle.sbx_asm.specs.Items.{Item, Said, up_to, count, starts_function, ends_function, is_data, is_region, leaves, leaves_region, has_bytes, is_block, ends_block, is_depth, in_function, block_count, params, results, cells, terms, ends, divides}
 use Rattle.sbx_asm.specs.Addresses.{code_offset, data_offset, padding_of, fits_behind, section_after, section_room}
-use Rattle.sbx_asm.specs.Rules.{Values, when, acts, is_code, takes_annotations, takes_ranges, has_fuel, is_services, is_stack, in_place, range_rules, cell_rules, term_rules, value_rules, statement_rules, data_rules, another_region, another_block, block_rules, line_rules}
+use Rattle.sbx_asm.specs.Rules.{Values, when, acts, is_code, takes_annotations, takes_ranges, has_fuel, has_depth, is_services, is_stack, in_place, range_rules, cell_rules, term_rules, value_rules, statement_rules, data_rules, another_region, another_block, block_rules, line_rules}
 use Rattle.sbx_asm.specs.Stages.Places.{has_room, code_end}
 use Rattle.sbx_asm.specs.Stages.Drafts as stages
-use Rattle.sbx_asm.specs.Stages.Drafts.{close_block, close_headed, close_function, headed, open_block, begin_function, begin_block_of, begin_block, param_if, add_param, result_if, add_result, cell_if, add_cell, term_if, add_term, fuel_if, fuel_by, add_fuel, services_by, add_services, stack_by, add_stack, noted, noted_where, begun, leave_region, close_region, choose_data, begin_region, with_bytes, data_checked, with_data, with_zeros, add_values, add_zeros, instruction_checked, with_words, instruction_does, statement_does}
+use Rattle.sbx_asm.specs.Stages.Drafts.{close_block, close_headed, close_function, headed, open_block, begin_function, begin_block_of, begin_block, param_if, add_param, result_if, add_result, depth_by, add_depth, cell_if, add_cell, term_if, add_term, fuel_if, fuel_by, add_fuel, services_by, add_services, stack_by, add_stack, noted, noted_where, begun, leave_region, close_region, choose_data, begin_region, with_bytes, data_checked, with_data, with_zeros, add_values, add_zeros, instruction_checked, with_words, instruction_does, statement_does}
 use Rattle.sbx_asm.proofs.Labelling.{fold_append}
 use Rattle.sbx_asm.proofs.Standing.{item, place_of}
 use Rattle.sbx_asm.proofs.Following.{said_does, Follows, bit, capped_room, capped_least, one_longer, same_annotations, same_ranges}
@@ -187,6 +187,20 @@ module _ (values : Values) (before : List Item) (number : ℕ) (labels : List (L
       by true r = λ j. with_more (cond (q j) (causes.Directive ∷ []) (in_place (r j) []))
       by false r = λ j. with_more (cond (q j) (causes.Directive ∷ []) (in_place (r j) []))
 
+  placed : (t : Bool) → with_more (when (not t) causes.Annotation) ≡ with_more (in_place t [])
+  placed true = refl
+  placed false = refl
+
+  depth_told : (n : ℕ) (o : Option Head) → is_some o ≡ in_function before → (m : Option ℕ) → is_some m ≡ has_depth before
+      → (depth_by o m n d).fault ≡ with_more (if has_depth before then causes.Directive ∷ [] else in_place (takes_ranges values before) [])
+  depth_told n (Some x) p (Some y) q = λ j. with_more (cond (q j) (causes.Directive ∷ []) (in_place (takes_ranges values before) []))
+  depth_told n (Some x) p None q =
+      (λ j. with_more (when (not (same_ranges values before d h j)) causes.Annotation))
+      ∙ placed (takes_ranges values before)
+      ∙ (λ j. with_more (cond (q j) (causes.Directive ∷ []) (in_place (takes_ranges values before) [])))
+  depth_told n None p m q =
+      λ j. with_more (cond (p j && list_any is_depth (up_to ends_function before)) (causes.Directive ∷ []) (in_place ((p j && not (list_any (acts values) (up_to ends_block before))) && not (list_any is_block (up_to ends_function before))) []))
+
   services_told : (x : Services) (o : Option Services) → is_some o ≡ list_any is_services before → (services_by o x d).fault ≡ with_more (when (list_any is_services before) causes.Directive)
   services_told x (Some y) q = λ j. with_more (when (q j) causes.Directive)
   services_told x None q = λ j. with_more (when (q j) causes.Directive)
@@ -198,7 +212,7 @@ module _ (values : Values) (before : List Item) (number : ℕ) (labels : List (L
   -- ---- a line
 
   pub line_told : (s : Said) → (said_does values (it s) s d).fault ≡ fold told (fold told (fold told d.fault (closing s d)) (leaving s d)) (map (at d.line) (line_rules values before (it s) s))
-  unfolding leave_region choose_data statement_does instruction_does add_param add_result add_cell add_term add_fuel add_services add_stack add_values add_zeros begin_function begin_block close_function
+  unfolding leave_region choose_data statement_does instruction_does add_param add_result add_depth add_cell add_term add_fuel add_services add_stack add_values add_zeros begin_function begin_block close_function
   line_told (Err f) = refl
   line_told (Ok statements.Nothing) = refl
   line_told (Ok statements.Instruction) =
@@ -217,6 +231,7 @@ module _ (values : Values) (before : List Item) (number : ℕ) (labels : List (L
   line_told (Ok (statements.Directive (directives.Function name kind frame room budget))) = begun_told kind frame room budget d.function.head h.1
   line_told (Ok (statements.Directive (directives.Param r))) = param_told r (stages.takes_ranges d.function d.block) (same_ranges values before d h)
   line_told (Ok (statements.Directive (directives.Result r))) = result_told r (stages.takes_ranges d.function d.block) (same_ranges values before d h)
+  line_told (Ok (statements.Directive (directives.Depth n))) = depth_told n d.function.head h.0 d.function.depth h.14
   line_told (Ok (statements.Directive (directives.Block name))) = divided_told d.function.head h.0
   line_told (Ok (statements.Directive (directives.Cell c))) = cell_told c (stages.takes_annotations d.function d.block) (same_annotations values before d h)
   line_told (Ok (statements.Directive (directives.Fuel z))) = fuel_told z d.block.fuel h.8

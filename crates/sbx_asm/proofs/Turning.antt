@@ -31,7 +31,7 @@ use Rattle.sbx_asm.specs.Rules.{Values, when, acts, is_unknown, line_rules, empt
 use Rattle.sbx_asm.specs.Addresses.{padding_of, section_room}
 use Rattle.sbx_asm.specs.Stages.Places.{has_room}
 use Rattle.sbx_asm.specs.Stages.Drafts as stages
-use Rattle.sbx_asm.specs.Stages.Drafts.{close_block, close_headed, close_function, headed, open_block, begin_function, begin_block_of, begin_block, param_if, add_param, result_if, add_result, cell_if, add_cell, term_if, add_term, fuel_if, fuel_by, add_fuel, services_by, add_services, stack_by, add_stack, noted, noted_where, begun, leave_region, close_region, choose_data, begin_region, with_bytes, closed, data_checked, with_data, with_zeros, add_values, add_zeros, instruction_checked, with_words, instruction_does, statement_does, numbered_line}
+use Rattle.sbx_asm.specs.Stages.Drafts.{close_block, close_headed, close_function, headed, open_block, begin_function, begin_block_of, begin_block, param_if, add_param, result_if, add_result, depth_by, add_depth, cell_if, add_cell, term_if, add_term, fuel_if, fuel_by, add_fuel, services_by, add_services, stack_by, add_stack, noted, noted_where, begun, leave_region, close_region, choose_data, begin_region, with_bytes, closed, data_checked, with_data, with_zeros, add_values, add_zeros, instruction_checked, with_words, instruction_does, statement_does, numbered_line}
 use Rattle.sbx_asm.proofs.Labelling.{fold_append}
 use Rattle.sbx_asm.proofs.Standing.{item, passed, place_of, stands}
 use Rattle.sbx_asm.proofs.Following.{said_does, Follows, follows, and_true}
@@ -139,6 +139,11 @@ module _ (values : Values) (before : List Item) (number : ℕ) (labels : List (L
       by true = (inr (refl, refl, refl), inr (refl, refl, refl))
       by false = (inr (refl, refl, refl), inr (refl, refl, refl))
 
+  quiet_depth : (n : ℕ) (o : Option Head) (m : Option ℕ) → Turns (Ok (statements.Directive (directives.Depth n))) (depth_by o m n d)
+  quiet_depth n (Some x) (Some y) = (inr (refl, refl, refl), inr (refl, refl, refl))
+  quiet_depth n (Some x) None = (inr (refl, refl, refl), inr (refl, refl, refl))
+  quiet_depth n None m = (inr (refl, refl, refl), inr (refl, refl, refl))
+
   quiet_services : (x : Services) (o : Option Services) → Turns (Ok (statements.Directive (directives.Services x))) (services_by o x d)
   quiet_services x (Some y) = (inr (refl, refl, refl), inr (refl, refl, refl))
   quiet_services x None = (inr (refl, refl, refl), inr (refl, refl, refl))
@@ -156,7 +161,7 @@ module _ (values : Values) (before : List Item) (number : ℕ) (labels : List (L
   quiet_align n m false = (inr (refl, refl, refl), inr (refl, refl, refl))
 
   turns : (s : Said) → Turns s (said_does values (it s) s d)
-  unfolding leave_region close_region choose_data begin_region statement_does instruction_does add_param add_result add_cell add_term add_fuel add_services add_stack add_values add_zeros begin_function begin_block close_function
+  unfolding leave_region close_region choose_data begin_region statement_does instruction_does add_param add_result add_depth add_cell add_term add_fuel add_services add_stack add_values add_zeros begin_function begin_block close_function
   turns (Err f) = (inr (refl, refl, acted), inr (refl, refl, refl))
   turns (Ok statements.Nothing) = (inr (refl, refl, refl), inr (refl, refl, refl))
   turns (Ok statements.Instruction) = words_turn (source_meaning values d.place.next_word bytes tokens)
@@ -171,6 +176,7 @@ module _ (values : Values) (before : List Item) (number : ℕ) (labels : List (L
   turns (Ok (statements.Directive (directives.Function name kind frame room budget))) = begins name kind frame room budget d.function.head
   turns (Ok (statements.Directive (directives.Param r))) = quiet_param r (stages.takes_ranges d.function d.block)
   turns (Ok (statements.Directive (directives.Result r))) = quiet_result r (stages.takes_ranges d.function d.block)
+  turns (Ok (statements.Directive (directives.Depth n))) = quiet_depth n d.function.head d.function.depth
   turns (Ok (statements.Directive (directives.Block name))) = (inl (ended, divides d.function.head refl), stays (begin_block_of d.function.head d) (divided_region d.function.head))
   turns (Ok (statements.Directive (directives.Cell c))) = quiet_cell c (stages.takes_annotations d.function d.block)
   turns (Ok (statements.Directive (directives.Fuel z))) = quiet_fuel z d.block.fuel (stages.takes_annotations d.function d.block) refl

@@ -57,6 +57,7 @@ directive_counts line keywords.Function os =
     then_any (Counts os) (natural_in 0 65536 x.3) _ (λ room. then_any (Counts os) (natural_in 0 1099511627775 x.4) _ (λ budget. tt))))))
 directive_counts line keywords.Param os = then_any (Counts os) (ranged os) _ (λ _. tt)
 directive_counts line keywords.Result os = then_any (Counts os) (ranged os) _ (λ _. tt)
+directive_counts line keywords.Depth os = then_any (Counts os) (numbered 0 256 os) _ (λ _. tt)
 directive_counts line keywords.Block os = then_any (Counts os) (one os >>= plain_name) _ (λ _. tt)
 directive_counts line keywords.Cell os =
     then_any (Counts os) (four os) _ (λ x. then_any (Counts os) (location line x.0) _ (λ place. then_any (Counts os) (range_of x.1 x.2 x.3) _ (λ _. tt)))

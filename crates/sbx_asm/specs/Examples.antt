@@ -42,6 +42,7 @@ hello_parts =
             frame = 0;
             stack_room = 0;
             budget = 16;
+            depth = 0;
             blocks = record { address = 0x40000; fuel = pos 16; cells = []; terms = [] } ∷ [];
           } ∷ [];
     }
@@ -83,6 +84,7 @@ letter_parts =
             frame = 0;
             stack_room = 0;
             budget = 14;
+            depth = 0;
             blocks = record { address = 0x40000; fuel = pos 14; cells = []; terms = [] } ∷ [];
           } ∷ [];
     }

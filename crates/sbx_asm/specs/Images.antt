@@ -14,7 +14,7 @@ use Rattle.sbx_directives.specs.declared.directive.Directive.TheVariants as dire
 use Rattle.sbx_directives.specs.declared.directive.Statement.TheVariants as statements
 use Rattle.sbx_directives.specs.declared.fault.DataFault.{DataFault}
 use Rattle.sbx_directives.specs.Data.{data_of}
-use Rattle.sbx_asm.specs.Items.{Item, Said, each, up_to, ends_function, ends_block, is_region, params, results, cells, terms}
+use Rattle.sbx_asm.specs.Items.{Item, Said, each, up_to, ends_function, ends_block, is_region, is_depth, params, results, depths, cells, terms}
 use Rattle.sbx_asm.specs.Addresses.{code_address, data_offset, data_length, values_of}
 use Rattle.sbx_asm.specs.Rules.{Values}
 
@@ -50,10 +50,10 @@ blocks_of before i own = block_with (code_address before) (up_to ends_block own)
 
 abbrev pub function_begun : List Item → Item → Said → List Item → List Function
 function_begun before i (Ok (statements.Directive (directives.Function name kind frame room budget))) own =
-    record { kind = kind; params = flat_map params own; results = flat_map results own; entry = code_address before; frame = frame; stack_room = room; budget = budget; blocks = blocks_of before i own } ∷ []
+    record { kind = kind; params = flat_map params own; results = flat_map results own; entry = code_address before; frame = frame; stack_room = room; budget = budget; depth = first_or 0 (flat_map depths own); blocks = blocks_of before i own } ∷ []
 function_begun before i _ own = []
 
--- a `.function` and the lines up to the next
+-- a `.function` and the lines up to the next; without a `.depth` its depth is 0
 abbrev pub function_at : List Item → Item → List Item → List Function
 function_at before i after = function_begun before i i.said (up_to ends_function after)
 
@@ -126,15 +126,15 @@ services i = services_said i.said
 abbrev pub stacks : Item → List ℕ
 stacks i = stack_said i.said
 
--- the version that has regions, where a `.region` stands
-abbrev pub version_with : Bool → ℕ
-version_with regions = if regions then 2 else 1
+-- the version that has depths, where a `.depth` stands; else the one that has regions, where a `.region` stands
+abbrev pub version_with : Bool → Bool → ℕ
+version_with depths regions = if depths then 3 else (if regions then 2 else 1)
 
 -- Without their lines, no services and one page of stack.
 unfoldable pub image_of : List Item → Parts
 image_of items =
     record {
-      version = version_with (list_any is_region items);
+      version = version_with (list_any is_depth items) (list_any is_region items);
       services = first_or (record { 0 = 0 }) (flat_map services items);
       words = each (words_at (values_of items)) [] items;
       regions = regions_of (values_of items) items;

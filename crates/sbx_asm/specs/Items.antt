@@ -142,6 +142,14 @@ gives_bytes _ = false
 abbrev pub has_bytes : Item → Bool
 has_bytes i = gives_bytes i.said
 
+abbrev pub tells_depth : Said → Bool
+tells_depth (Ok (statements.Directive (directives.Depth n))) = true
+tells_depth _ = false
+
+-- a `.depth`
+abbrev pub is_depth : Item → Bool
+is_depth i = tells_depth i.said
+
 -- whether a function is open behind an item, by whether one was before it
 abbrev pub leaves_open : Said → Bool → Bool
 leaves_open (Ok (statements.Directive (directives.Function name kind frame room budget))) was = true
@@ -171,6 +179,10 @@ abbrev pub result_said : Said → List Range
 result_said (Ok (statements.Directive (directives.Result r))) = r ∷ []
 result_said _ = []
 
+abbrev pub depth_said : Said → List ℕ
+depth_said (Ok (statements.Directive (directives.Depth n))) = n ∷ []
+depth_said _ = []
+
 abbrev pub cell_said : Said → List Cell
 cell_said (Ok (statements.Directive (directives.Cell c))) = c ∷ []
 cell_said _ = []
@@ -184,6 +196,9 @@ params i = param_said i.said
 
 abbrev pub results : Item → List Range
 results i = result_said i.said
+
+abbrev pub depths : Item → List ℕ
+depths i = depth_said i.said
 
 abbrev pub cells : Item → List Cell
 cells i = cell_said i.said

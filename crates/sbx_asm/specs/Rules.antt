@@ -22,7 +22,7 @@ use Rattle.sbx_asm.specs.declared.fault.AsmFault.{AsmFault}
 use Rattle.sbx_asm.specs.declared.fault.Cause.{Cause}
 use Rattle.sbx_asm.specs.declared.fault.Cause.TheVariants as causes
 use Rattle.sbx_asm.specs.Faults.{at, told}
-use Rattle.sbx_asm.specs.Items.{Item, Said, each, up_to, count, starts_function, ends_function, is_data, is_region, leaves_region, has_bytes, is_block, ends_block, in_function, begins_block, block_count, params, results, cells, terms}
+use Rattle.sbx_asm.specs.Items.{Item, Said, each, up_to, count, starts_function, ends_function, is_data, is_region, leaves_region, has_bytes, is_block, ends_block, is_depth, in_function, begins_block, block_count, params, results, cells, terms}
 use Rattle.sbx_asm.specs.Addresses.{Label, code_offset, data_offset, data_length, code_address, fits_behind, section_after, all_labels, values_of}
 
 abbrev pub Values : Type 0
@@ -78,6 +78,10 @@ last_term (t ∷ ts) = t.location
 -- at most 6 params, and results
 abbrev pub range_rules : ℕ → List Cause
 range_rules n = when (nat_le 6 n) causes.Limit
+
+-- the open function has a `.depth` already
+abbrev pub has_depth : List Item → Bool
+has_depth before = in_function before && list_any is_depth (up_to ends_function before)
 
 -- at most 64 cells and 8 terms of a block, whose locations ascend
 abbrev pub cell_rules : List Cell → Cell → List Cause
@@ -149,7 +153,7 @@ module _ (values : Values) where
   abbrev pub acts : Item → Bool
   acts i = acts_as i i.said
 
-  -- ---- where annotations may stand: between the line that begins a block and the first that acts; params and results in the first block
+  -- ---- where annotations may stand: between the line that begins a block and the first that acts; params, results and the depth in the first block
 
   abbrev pub takes_annotations : List Item → Bool
   takes_annotations before = in_function before && not (list_any acts (up_to ends_block before))
@@ -180,6 +184,7 @@ module _ (values : Values) where
   directive_rules before i (directives.Function name kind frame room budget) = another_function before
   directive_rules before i (directives.Param r) = in_place (takes_ranges before) (range_rules (length (flat_map params (up_to ends_function before))))
   directive_rules before i (directives.Result r) = in_place (takes_ranges before) (range_rules (length (flat_map results (up_to ends_function before))))
+  directive_rules before i (directives.Depth n) = if has_depth before then causes.Directive ∷ [] else in_place (takes_ranges before) []
   directive_rules before i (directives.Block name) = block_rules before
   directive_rules before i (directives.Cell c) = in_place (takes_annotations before) (cell_rules (flat_map cells (up_to ends_block before)) c)
   directive_rules before i (directives.Fuel z) = if has_fuel before then causes.Directive ∷ [] else in_place (takes_annotations before) []

@@ -1,6 +1,6 @@
 //! The image that the lines so far make.
 ghost use Rattle.std.specs.Prelude.{◌≡◌, ◌*◌, IfOk};
-ghost use Rattle.sbx_asm.specs.Stages.Drafts.{empty_draft, noted_at, noted, noted_where, leave_region, close_region, choose_data, begin_region, with_bytes, close_block, close_function, open_block, begin_function, begin_block, malformed, add_param, add_result, add_cell, add_term, add_fuel, add_services, add_stack};
+ghost use Rattle.sbx_asm.specs.Stages.Drafts.{empty_draft, noted_at, noted, noted_where, leave_region, close_region, choose_data, begin_region, with_bytes, close_block, close_function, open_block, begin_function, begin_block, malformed, add_param, add_result, add_depth, add_cell, add_term, add_fuel, add_services, add_stack};
 
 use crate::fault::{AsmFault, Cause, told};
 use crate::growing::Growing;
@@ -33,6 +33,8 @@ pub struct Draft {
     pub region: OpenRegion,
     pub services: Option<Services>,
     pub stack: Option<u16>,
+    /// Whether some function tells its depth.
+    pub has_depth: bool,
     /// The functions before the open one.
     pub functions: Growing<Function>,
     /// The blocks of all functions, up to 4,096.
@@ -54,6 +56,7 @@ impl Draft {
             region: OpenRegion::none(alloc),
             services: None,
             stack: None,
+            has_depth: false,
             functions: Growing::new(alloc),
             block_count: 0,
             function: OpenFunction::none(alloc),
@@ -234,6 +237,7 @@ impl Draft {
             | Keyword::Stack
             | Keyword::Param
             | Keyword::Result
+            | Keyword::Depth
             | Keyword::Cell
             | Keyword::Fuel
             | Keyword::Term
@@ -275,6 +279,25 @@ impl Draft {
             self.note(Cause::Annotation);
         }
         Ok(())
+    }
+
+    /// The open function's depth.
+    #[tactic(auto, unfolding(crate::specs::Stages::Drafts::add_depth))]
+    pub fn add_depth(&mut self, depth: u16)
+        ensures { self.new ≡ add_depth depth self.old }
+    {
+        let misplaced = !self.function.takes_ranges(&self.block);
+        match self.function.head {
+            Some(_) => match self.function.depth {
+                Some(_) => self.note(Cause::Directive),
+                None => {
+                    self.function.depth = Some(depth);
+                    self.has_depth = true;
+                    self.note_where(misplaced, Cause::Annotation);
+                }
+            },
+            None => self.note(Cause::Annotation),
+        }
     }
 
     /// A cell of the open block.

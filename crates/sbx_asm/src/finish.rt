@@ -10,11 +10,17 @@ use crate::fault::{AsmFault, Cause};
 use crate::regions::pass_pages;
 use sbx_image::{Image, Parts, Services};
 
-/// The version of the image format: the one that has regions, where the source has some.
-fn version_with(regions: bool) -> u16
-    ensures { result ≡ version_with regions }
+/// The version of the image format: the one that has depths or, else, regions, where the source has some.
+fn version_with(depths: bool, regions: bool) -> u16
+    ensures { result ≡ version_with depths regions }
 {
-    if regions { 2 } else { 1 }
+    if depths {
+        3
+    } else if regions {
+        2
+    } else {
+        1
+    }
 }
 
 /// Why parts of lines without faults are no image.
@@ -34,7 +40,7 @@ fn parts_of(draft: Draft) -> Parts
 {
     let region = draft.region;
     Parts {
-        version: version_with(region.has_region),
+        version: version_with(draft.has_depth, region.has_region),
         services: draft.services.unwrap_or(Services(0)),
         words: draft.words.into_items(),
         regions: region.regions.into_items(),

@@ -39,6 +39,8 @@ pub struct OpenFunction {
     pub head: Option<Head>,
     pub params: Growing<Range>,
     pub results: Growing<Range>,
+    /// None before the annotation.
+    pub depth: Option<u16>,
     pub blocks: Growing<Block>,
 }
 
@@ -82,6 +84,7 @@ impl OpenFunction {
             head: None,
             params: Growing::new(alloc),
             results: Growing::new(alloc),
+            depth: None,
             blocks: Growing::new(alloc),
         }
     }
@@ -92,6 +95,7 @@ impl OpenFunction {
         ensures rest { self.new ≡ no_function }
     {
         self.head = None;
+        let depth = self.depth.take().unwrap_or(0);
         Function {
             kind: head.kind,
             params: self.params.take(alloc),
@@ -100,11 +104,12 @@ impl OpenFunction {
             frame: head.frame,
             stack_room: head.stack_room,
             budget: head.budget,
+            depth,
             blocks: self.blocks.take(alloc),
         }
     }
 
-    /// Whether a parameter or a result may stand next.
+    /// Whether a parameter, a result or the depth may stand next.
     pub fn takes_ranges(&self, block: &OpenBlock) -> bool
         ensures { result ≡ takes_ranges self.now block.now }
     {

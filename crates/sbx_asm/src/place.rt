@@ -150,6 +150,7 @@ impl Place {
             | Directive::Function { .. }
             | Directive::Param(_)
             | Directive::Result(_)
+            | Directive::Depth(_)
             | Directive::Block(_)
             | Directive::Cell(_)
             | Directive::Fuel(_)

@@ -116,6 +116,7 @@ impl Draft {
             } => self.begin_function(alloc, kind, frame, stack_room, budget)?,
             Directive::Param(range) => self.add_param(range)?,
             Directive::Result(range) => self.add_result(range)?,
+            Directive::Depth(depth) => self.add_depth(depth),
             Directive::Block(_) => self.begin_block(alloc)?,
             Directive::Cell(cell) => self.add_cell(cell)?,
             Directive::Fuel(fuel) => self.add_fuel(fuel),

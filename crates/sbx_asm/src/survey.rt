@@ -100,6 +100,7 @@ impl<'a> Survey<'a> {
             | Directive::Stack(_)
             | Directive::Param(_)
             | Directive::Result(_)
+            | Directive::Depth(_)
             | Directive::Cell(_)
             | Directive::Fuel(_)
             | Directive::Term(_)

@@ -24,6 +24,7 @@ image_of words = record {
     frame = 0;
     stack_room = 0;
     budget = 0;
+    depth = 0;
     blocks = record { address = code_start; fuel = pos 0; cells = []; terms = [] } ∷ [];
   } ∷ [];
 }

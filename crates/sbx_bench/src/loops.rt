@@ -214,6 +214,7 @@ fn parts(alloc: Global, words: &[u32]) -> Result<Parts, AllocError>
         frame: 0,
         stack_room: 0,
         budget: 0,
+        depth: 0,
         blocks: Items::new(blocks),
     })?;
     Ok(Parts {

@@ -29,6 +29,7 @@ pub fn leaf(alloc: Global, entry: u32, budget: u64, blocks: Vec<Block>) -> Funct
         frame: 0,
         stack_room: 0,
         budget,
+        depth: 0,
         blocks: Items::new(blocks),
     }
 }

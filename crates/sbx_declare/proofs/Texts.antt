@@ -28,7 +28,7 @@ region_more mid new total start next i rs r lt is after step so_far =
 -- the pieces of an image's text
 pub pieces : (parts : Parts) (s : Services) (pages words bytes version : ℕ) (rs : List Region) (fs : List Function) (a b c d e : List ℕ) → s ≡ parts.services → pages ≡ parts.stack_pages
     → words ≡ length parts.words → bytes ≡ byte_count parts.regions → version ≡ parts.version → rs ≡ parts.regions → fs ≡ parts.functions
-    → b ≡ a ++ services_line s.0 → c ≡ b ++ sizes_lines pages words bytes → d ≡ c ++ regions_text version rs → e ≡ d ++ functions_text fs → e ≡ a ++ image_text parts
+    → b ≡ a ++ services_line s.0 → c ≡ b ++ sizes_lines pages words bytes → d ≡ c ++ regions_text version rs → e ≡ d ++ functions_text version fs → e ≡ a ++ image_text parts
 pieces parts s pages words bytes version rs fs a b c d e p q r t v w u x y z k =
-    let one : e ≡ (((a ++ services_line s.0) ++ sizes_lines pages words bytes) ++ regions_text version rs) ++ functions_text fs = rw (k, z, y, x) refl in
+    let one : e ≡ (((a ++ services_line s.0) ++ sizes_lines pages words bytes) ++ regions_text version rs) ++ functions_text version fs = rw (k, z, y, x) refl in
     one ∙ rw (p, q, r, t, v, w, u) (simp append_assoc)

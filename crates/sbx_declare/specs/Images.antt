@@ -63,11 +63,15 @@ abbrev pub function_head : ℕ → Function → List ℕ
 function_head n f = codes "\n! " ++ (word_text f.entry ++ (codes "\n.function f" ++ (decimal n ++ (codes "," ++ (kind_text f.kind
     ++ (codes "," ++ (decimal f.frame ++ (codes "," ++ (decimal f.stack_room ++ (codes "," ++ (decimal f.budget ++ line_end)))))))))))
 
-abbrev pub function_text : ℕ → Function → List ℕ
-function_text n f = function_head n f ++ flat_map param_line f.params ++ flat_map result_line f.results ++ blocks_text n f.blocks
+-- version 3 tells the depth of each function, also one of 0
+abbrev pub depth_line : ℕ → ℕ → List ℕ
+depth_line version depth = if version == 3 then codes ".depth " ++ (decimal depth ++ line_end) else []
 
-abbrev pub functions_text : List Function → List ℕ
-functions_text functions = numbered function_text 0 functions
+abbrev pub function_text : ℕ → ℕ → Function → List ℕ
+function_text version n f = function_head n f ++ depth_line version f.depth ++ flat_map param_line f.params ++ flat_map result_line f.results ++ blocks_text n f.blocks
+
+abbrev pub functions_text : ℕ → List Function → List ℕ
+functions_text version functions = numbered (function_text version) 0 functions
 
 -- ---- services and sizes
 
@@ -104,4 +108,4 @@ regions_text version regions = if version == 1 then [] else flat_map region_line
 
 abbrev pub image_text : Parts → List ℕ
 image_text parts =
-    services_line parts.services.0 ++ sizes_lines parts.stack_pages (length parts.words) (byte_count parts.regions) ++ regions_text parts.version parts.regions ++ functions_text parts.functions
+    services_line parts.services.0 ++ sizes_lines parts.stack_pages (length parts.words) (byte_count parts.regions) ++ regions_text parts.version parts.regions ++ functions_text parts.version parts.functions

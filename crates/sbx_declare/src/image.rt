@@ -2,7 +2,7 @@
 ghost use Rattle.std.specs.Prelude.{◌≡◌, ◌≤◌, ◌++◌, length, OnOk, string_bytes};
 ghost use Rattle.std.specs.List.{flat_map};
 ghost use Rattle.sbx_image.specs.Regions.{page_rights, placed};
-ghost use Rattle.sbx_declare.specs.Images.{block_head, block_lines, block_text, blocks_text, cell_line, function_head, function_text, functions_text, image_text, kind_text, param_line, region_lines, regions_text, result_line, right_text, services_line, sizes_lines, term_line};
+ghost use Rattle.sbx_declare.specs.Images.{block_head, block_lines, block_text, blocks_text, cell_line, depth_line, function_head, function_text, functions_text, image_text, kind_text, param_line, region_lines, regions_text, result_line, right_text, services_line, sizes_lines, term_line};
 
 use crate::names::{Bounds, Location};
 use sbx_image::{Block, Cell, Function, Image, Kind, Range, Region, Services, Term, behind};
@@ -111,6 +111,17 @@ pub fn push_function_head(
     )
 }
 
+/// The line of a function's depth in an image of that version.
+pub fn push_depth(out: &mut String, version: u16, depth: u16) -> Result<(), AllocError>
+    ensures { OnOk result (string_bytes out.new ≡ string_bytes out.old ++ depth_line version depth) }
+{
+    if version == 3 {
+        writeln!(out, ".depth {depth}")
+    } else {
+        Ok(())
+    }
+}
+
 pub fn push_params(out: &mut String, params: &[Range]) -> Result<(), AllocError>
     ensures { OnOk result (string_bytes out.new ≡ string_bytes out.old ++ flat_map param_line params.now) }
 {
@@ -131,21 +142,28 @@ pub fn push_results(out: &mut String, results: &[Range]) -> Result<(), AllocErro
     Ok(())
 }
 
-fn push_function(out: &mut String, number: usize, function: &Function) -> Result<(), AllocError>
-    ensures { OnOk result (string_bytes out.new ≡ string_bytes out.old ++ function_text number function.now) }
+fn push_function(
+    out: &mut String,
+    version: u16,
+    number: usize,
+    function: &Function,
+) -> Result<(), AllocError>
+    ensures { OnOk result (string_bytes out.new ≡ string_bytes out.old ++ function_text version number function.now) }
 {
     push_function_head(out, number, function)?;
+    push_depth(out, version, function.depth)?;
     push_params(out, function.params.as_slice())?;
     push_results(out, function.results.as_slice())?;
     push_blocks(out, number, function.blocks.as_slice())
 }
 
-fn push_functions(out: &mut String, functions: &[Function]) -> Result<(), AllocError>
-    ensures { OnOk result (string_bytes out.new ≡ string_bytes out.old ++ functions_text functions.now) }
+/// The functions of an image of that version.
+fn push_functions(out: &mut String, version: u16, functions: &[Function]) -> Result<(), AllocError>
+    ensures { OnOk result (string_bytes out.new ≡ string_bytes out.old ++ functions_text version functions.now) }
 {
     let mut number = 0;
     for function in functions {
-        push_function(out, number, function)?;
+        push_function(out, version, number, function)?;
         number += 1;
     }
     Ok(())
@@ -215,12 +233,13 @@ fn push_regions(out: &mut String, version: u16, regions: &[Region]) -> Result<()
     }
 }
 
-/// What an image declares, as its source would: services, pages of stack, the regions of version 2, and of each function kind, frame, stack room, budget,
-/// parameters, results and blocks, each with its cells and fuel. Names aren't kept in an image: `f2` is function 2, and `f2_b3` its
+/// What an image declares, as its source would: services, pages of stack, the regions of version 2 or 3, and of each function kind, frame, stack room, budget,
+/// in version 3 its depth, parameters, results and blocks, each with its cells and fuel. Names aren't kept in an image: `f2` is function 2, and `f2_b3` its
 /// block 3, both counted from 0. Addresses and sizes stand in comments.
 pub fn push_image(out: &mut String, image: &Image) -> Result<(), AllocError>
     ensures { OnOk result (string_bytes out.new ≡ string_bytes out.old ++ image_text image.now) }
 {
+    let version = image.version();
     out.push_str(services_line(image.services()))?;
     push_sizes(
         out,
@@ -228,7 +247,7 @@ pub fn push_image(out: &mut String, image: &Image) -> Result<(), AllocError>
         image.word_count(),
         image.byte_count(),
     )?;
-    push_regions(out, image.version(), image.regions())?;
-    push_functions(out, image.functions())?;
+    push_regions(out, version, image.regions())?;
+    push_functions(out, version, image.functions())?;
     Ok(())
 }

@@ -4,5 +4,7 @@
 mod image;
 mod names;
 
-pub use image::{push_function_head, push_image, push_numbered, push_params, push_results};
+pub use image::{
+    push_depth, push_function_head, push_image, push_numbered, push_params, push_results,
+};
 pub use names::{Bounds, Location};

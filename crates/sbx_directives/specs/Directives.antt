@@ -34,6 +34,7 @@ name_of keywords.Stack = codes ".stack"
 name_of keywords.Function = codes ".function"
 name_of keywords.Param = codes ".param"
 name_of keywords.Result = codes ".result"
+name_of keywords.Depth = codes ".depth"
 name_of keywords.Block = codes ".block"
 name_of keywords.Cell = codes ".cell"
 name_of keywords.Fuel = codes ".fuel"
@@ -48,7 +49,7 @@ name_of keywords.Align = codes ".align"
 unfoldable pub all_keywords : List Keyword
 all_keywords =
     keywords.Text ∷ keywords.Data ∷ keywords.Region ∷ keywords.Services ∷ keywords.Stack
-    ∷ keywords.Function ∷ keywords.Param ∷ keywords.Result ∷ keywords.Block
+    ∷ keywords.Function ∷ keywords.Param ∷ keywords.Result ∷ keywords.Depth ∷ keywords.Block
     ∷ keywords.Cell ∷ keywords.Fuel ∷ keywords.Term
     ∷ keywords.Word ∷ keywords.Half ∷ keywords.Byte ∷ keywords.Skip ∷ keywords.Align ∷ []
 
@@ -190,6 +191,7 @@ directive_of line keywords.Stack os = numbered 1 16 os >>= λ n. Some (directive
 directive_of line keywords.Function os = function_of line os
 directive_of line keywords.Param os = ranged os >>= λ r. Some (directives.Param r)
 directive_of line keywords.Result os = ranged os >>= λ r. Some (directives.Result r)
+directive_of line keywords.Depth os = numbered 0 256 os >>= λ n. Some (directives.Depth n)
 directive_of line keywords.Block os = one os >>= plain_name >>= λ x. Some (directives.Block x)
 directive_of line keywords.Cell os = cell_of line os
 directive_of line keywords.Fuel os = fuel_of os >>= λ z. Some (directives.Fuel z)

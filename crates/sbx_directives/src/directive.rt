@@ -27,6 +27,7 @@ pub enum Keyword {
     Function,
     Param,
     Result,
+    Depth,
     Block,
     Cell,
     Fuel,
@@ -68,6 +69,8 @@ pub enum Directive {
     Param(Range),
     /// As a parameter.
     Result(Range),
+    /// How many frames calls push at one time, at most 256.
+    Depth(u16),
     Block(Name),
     /// The location 1 to 31 or 32 to 1,039, the range as of a parameter.
     Cell(Cell),

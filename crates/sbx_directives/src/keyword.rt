@@ -19,6 +19,7 @@ fn name_of(keyword: Keyword) -> &'static str
         Keyword::Function => ".function",
         Keyword::Param => ".param",
         Keyword::Result => ".result",
+        Keyword::Depth => ".depth",
         Keyword::Block => ".block",
         Keyword::Cell => ".cell",
         Keyword::Fuel => ".fuel",
@@ -31,7 +32,7 @@ fn name_of(keyword: Keyword) -> &'static str
     }
 }
 
-static KEYWORDS: [Keyword; 17] = [
+static KEYWORDS: [Keyword; 18] = [
     Keyword::Text,
     Keyword::Data,
     Keyword::Region,
@@ -40,6 +41,7 @@ static KEYWORDS: [Keyword; 17] = [
     Keyword::Function,
     Keyword::Param,
     Keyword::Result,
+    Keyword::Depth,
     Keyword::Block,
     Keyword::Cell,
     Keyword::Fuel,

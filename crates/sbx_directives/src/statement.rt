@@ -264,6 +264,7 @@ fn directive_of(line: &[u8], keyword: Keyword, tokens: &[Token]) -> Option<Direc
         Keyword::Function => function_of(line, tokens),
         Keyword::Param => Some(Directive::Param(ranged(line, tokens)?)),
         Keyword::Result => Some(Directive::Result(ranged(line, tokens)?)),
+        Keyword::Depth => Some(Directive::Depth(numbered(0, 256, line, tokens)? as u16)),
         Keyword::Block => Some(Directive::Block(plain_name(one(line, tokens)?)?)),
         Keyword::Cell => cell_of(line, tokens),
         Keyword::Fuel => Some(Directive::Fuel(fuel_of(line, tokens)?)),

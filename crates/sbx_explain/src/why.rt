@@ -10,7 +10,7 @@ use crate::folded::push_lines;
 use crate::rules::rule_text;
 use arrayvec::ArrayString;
 use sbx_asked::{push_arrivals, push_depths, push_fuel, push_room};
-use sbx_declare::{push_function_head, push_numbered, push_params, push_results};
+use sbx_declare::{push_depth, push_function_head, push_numbered, push_params, push_results};
 use sbx_image::Image;
 use sbx_inspect::{NotKnown, Sight, known_at};
 use sbx_known::{Spot, block_at, function_at};
@@ -36,6 +36,7 @@ fn push_place(out: &mut String, image: &Image, spot: &Spot) -> Result<(), AllocE
 {
     let function = function_at(image, spot.function);
     push_function_head(out, spot.function, function)?;
+    push_depth(out, image.version(), function.depth)?;
     push_params(out, function.params.as_slice())?;
     push_results(out, function.results.as_slice())?;
     push_numbered(

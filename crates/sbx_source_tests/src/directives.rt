@@ -82,6 +82,7 @@ fn push_directive(text: &mut String, directive: &Directive) -> Result<(), AllocE
         } => push_function(text, *name, *kind, (*frame, *stack_room, *budget)),
         Directive::Param(range) => push_range(text, "param", range),
         Directive::Result(range) => push_range(text, "result", range),
+        Directive::Depth(depth) => push_number(text, "depth", u64::from(*depth)),
         Directive::Block(name) => push_name(text, "block", *name),
         Directive::Cell(cell) => push_cell(text, cell),
         Directive::Fuel(fuel) => push_fuel(text, *fuel),
@@ -117,7 +118,7 @@ fn is_read<R: Abort>(rt: &R, alloc: Global, line: &str, wanted: &str) -> Result<
     Ok(())
 }
 
-static STATEMENTS: [(&str, &str); 26] = [
+static STATEMENTS: [(&str, &str); 27] = [
     ("", "0 nothing"),
     ("a: .text : ! b:", "2 nothing"),
     ("a: nop", "1 instruction"),
@@ -141,6 +142,7 @@ static STATEMENTS: [(&str, &str); 26] = [
         "0 param -2147483648 2147483647 3",
     ),
     (".result 7,7,0", "0 result 7 7 0"),
+    (".depth 256", "0 depth 256"),
     (".block loop", "0 block 7-11"),
     (".cell slot 1007,0,1,0", "0 cell 1039 range 0 1 0"),
     (".cell %fp,0,1,0", "0 cell 30 range 0 1 0"),
@@ -161,7 +163,7 @@ fn statements(rt: HostRuntime) -> Result<(), Fail> {
 }
 
 /// Operands of another shape, and numbers past their bounds.
-static MALFORMED: [&str; 50] = [
+static MALFORMED: [&str; 53] = [
     ".text 5",
     ".data x",
     ".region",
@@ -191,6 +193,9 @@ static MALFORMED: [&str; 50] = [
     ".param 0,2147483648,0",
     ".param 0,1",
     ".result 0,1,s",
+    ".depth 257",
+    ".depth -1",
+    ".depth f",
     ".block",
     ".block 5",
     ".cell %g0,0,1,0",

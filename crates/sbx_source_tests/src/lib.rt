@@ -5,6 +5,8 @@
 #[cfg(test)]
 mod check;
 #[cfg(test)]
+mod depths;
+#[cfg(test)]
 mod directives;
 #[cfg(test)]
 mod instructions;

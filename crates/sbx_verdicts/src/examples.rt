@@ -5,7 +5,7 @@ use sbx_command::{Job, Windows, exit_status};
 use std::{fs, io};
 
 /// Programs, whether there is an input for each, and whether its image is kept. The last six are those of the lessons.
-const PROGRAMS: [(&str, bool, bool); 16] = [
+const PROGRAMS: [(&str, bool, bool); 17] = [
     ("hello", false, true),
     ("echo", true, true),
     ("countdown", false, true),
@@ -16,6 +16,7 @@ const PROGRAMS: [(&str, bool, bool); 16] = [
     ("squares", false, true),
     ("sort", true, true),
     ("chain", false, true),
+    ("deep", false, true),
     ("slots", false, false),
     ("multiply", false, false),
     ("windows", false, false),

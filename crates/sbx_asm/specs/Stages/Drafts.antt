@@ -61,10 +61,10 @@ block_of b = record { address = b.address; fuel = unwrap_or b.fuel (pos 0); cell
 
 abbrev pub function_of : Head → OpenFunction → Function
 function_of h f =
-    record { kind = h.kind; params = f.params; results = f.results; entry = h.entry; frame = h.frame; stack_room = h.stack_room; budget = h.budget; blocks = f.blocks }
+    record { kind = h.kind; params = f.params; results = f.results; entry = h.entry; frame = h.frame; stack_room = h.stack_room; budget = h.budget; depth = unwrap_or f.depth 0; blocks = f.blocks }
 
 abbrev pub no_function : OpenFunction
-no_function = record { head = None; params = []; results = []; blocks = [] }
+no_function = record { head = None; params = []; results = []; depth = None; blocks = [] }
 
 abbrev pub no_block : OpenBlock
 no_block = record { line = 0; address = 0; fuel = None; begun = false; cells = []; terms = []; last_cell = 0; last_term = 0 }
@@ -131,6 +131,7 @@ malformed keywords.Services d = noted causes.Directive d
 malformed keywords.Stack d = noted causes.Directive d
 malformed keywords.Param d = noted causes.Directive d
 malformed keywords.Result d = noted causes.Directive d
+malformed keywords.Depth d = noted causes.Directive d
 malformed keywords.Cell d = noted causes.Directive d
 malformed keywords.Fuel d = noted causes.Directive d
 malformed keywords.Term d = noted causes.Directive d
@@ -163,6 +164,15 @@ result_if false r d = noted causes.Annotation d
 
 unfoldable pub add_result : Range → Draft → Draft
 add_result r d = result_if (takes_ranges d.function d.block) r d
+
+abbrev pub depth_by : Option Head → Option ℕ → ℕ → Draft → Draft
+depth_by (Some h) (Some m) n d = noted causes.Directive d
+depth_by (Some h) None n d = record (noted_where (not (takes_ranges d.function d.block)) causes.Annotation d) { function = record d.function { depth = Some n }; has_depth = true }
+depth_by None o n d = noted causes.Annotation d
+
+-- at most one in a function
+unfoldable pub add_depth : ℕ → Draft → Draft
+add_depth n d = depth_by d.function.head d.function.depth n d
 
 -- locations ascend, and a block has at most 64 cells and 8 terms
 abbrev pub cell_if : Bool → Cell → Draft → Draft
@@ -296,6 +306,7 @@ module _ (values : Values) (line : List ℕ) (ts : List Token) where
   directive_does (directives.Function name kind frame room budget) d = begin_function kind frame room budget d
   directive_does (directives.Param r) d = add_param r d
   directive_does (directives.Result r) d = add_result r d
+  directive_does (directives.Depth n) d = add_depth n d
   directive_does (directives.Block name) d = begin_block d
   directive_does (directives.Cell c) d = add_cell c d
   directive_does (directives.Fuel z) d = add_fuel z d
@@ -331,7 +342,7 @@ draft_line values d x = draft_tokens values x.1 (numbered_line x.0 d) (tokens_of
 -- before the first line, with the fault that is told already
 abbrev pub empty_draft : Option AsmFault → Draft
 empty_draft fault =
-    record { line = 0; fault = fault; place = start; words = []; region = no_region; services = None; stack = None; functions = []; block_count = 0; function = no_function; block = no_block }
+    record { line = 0; fault = fault; place = start; words = []; region = no_region; services = None; stack = None; has_depth = false; functions = []; block_count = 0; function = no_function; block = no_block }
 
 -- the function and the region that are open end
 abbrev pub closed : Draft → Draft

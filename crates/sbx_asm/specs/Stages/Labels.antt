@@ -66,6 +66,7 @@ name_it number line (directives.Stack n) s = s
 name_it number line (directives.Function name kind frame room budget) s = add number (text_of line name) s.place.next_word s
 name_it number line (directives.Param r) s = s
 name_it number line (directives.Result r) s = s
+name_it number line (directives.Depth n) s = s
 name_it number line (directives.Block name) s = add number (text_of line name) s.place.next_word s
 name_it number line (directives.Cell c) s = s
 name_it number line (directives.Fuel z) s = s

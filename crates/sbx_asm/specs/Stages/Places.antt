@@ -50,6 +50,7 @@ directed (directives.Stack n) p = p
 directed (directives.Function name kind frame room budget) p = p
 directed (directives.Param r) p = p
 directed (directives.Result r) p = p
+directed (directives.Depth n) p = p
 directed (directives.Block name) p = p
 directed (directives.Cell c) p = p
 directed (directives.Fuel z) p = p

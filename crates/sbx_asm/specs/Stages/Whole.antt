@@ -22,7 +22,7 @@ draft_in labels source = fold (draft_line labels.values) (empty_draft labels.fau
 
 unfoldable pub parts_in : Draft → Parts
 parts_in d =
-    record { version = version_with d.region.has_region; services = unwrap_or d.services (record { 0 = 0 }); words = d.words; regions = d.region.regions; stack_pages = unwrap_or d.stack 1; functions = d.functions }
+    record { version = version_with d.has_depth d.region.has_region; services = unwrap_or d.services (record { 0 = 0 }); words = d.words; regions = d.region.regions; stack_pages = unwrap_or d.stack 1; functions = d.functions }
 
 abbrev pub image_in : ℕ → Draft → Result Parts AsmFault
 image_in after d = judged after d.fault (parts_in d)
