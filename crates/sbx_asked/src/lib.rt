@@ -2,10 +2,10 @@
 #![tactic(auto)]
 
 mod arrivals;
-mod depth;
+mod depths;
 mod room;
 
 pub use arrivals::push_arrivals;
-pub use depth::push_depth_sides;
+pub use depths::push_depths;
 pub use room::push_room;
 pub use sbx_worked::push_fuel;

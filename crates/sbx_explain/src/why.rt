@@ -9,7 +9,7 @@ ghost use Rattle.sbx_explain.specs.Refusals.{IsTold, Tells, head_text};
 use crate::folded::push_lines;
 use crate::rules::rule_text;
 use arrayvec::ArrayString;
-use sbx_asked::{push_arrivals, push_depth_sides, push_fuel, push_room};
+use sbx_asked::{push_arrivals, push_depths, push_fuel, push_room};
 use sbx_declare::{push_depth, push_function_head, push_numbered, push_params, push_results};
 use sbx_image::Image;
 use sbx_inspect::{NotKnown, Sight, known_at};
@@ -79,7 +79,7 @@ fn push_asked(
         Cause::UnkeptCells | Cause::UnkeptResults => push_arrivals(out, image, sight),
         Cause::OutOfFuel => push_fuel(alloc, out, image, sight),
         Cause::OutOfStack => push_room(out, image, &sight),
-        Cause::TooDeep => push_depth_sides(out, image, &sight),
+        Cause::TooDeep => push_depths(out, image, &sight),
         _ => Ok(()),
     }
 }

@@ -8,6 +8,8 @@ mod bits;
 #[cfg(test)]
 mod boards;
 #[cfg(test)]
+mod depths;
+#[cfg(test)]
 mod ports;
 #[cfg(test)]
 mod runs;

@@ -235,6 +235,12 @@ impl Row<'_> {
         (overflows, underflows, turns)
     }
 
+    /// Whether there is no overflow and no underflow on four windows.
+    pub(crate) fn is_quiet(&self) -> bool {
+        let (overflows, underflows, _turns) = self.counts_on(4);
+        overflows == 0 && underflows == 0
+    }
+
     /// The pages that are used: the first of the code, those of the data, and the last of the stack.
     fn pages(&self) -> PageUse {
         let last = if self.stack { 1 << 63 } else { 0 };
@@ -245,7 +251,7 @@ impl Row<'_> {
     }
 
     /// The source's image, if it means one.
-    fn image(&self, alloc: Global) -> Option<Image> {
+    pub(crate) fn image(&self, alloc: Global) -> Option<Image> {
         let source = Source {
             pieces: self.pieces,
             links: self.links,
@@ -309,7 +315,7 @@ fn runs_by_numbers(alloc: Global, counts: &[u32], accepted: &Accepted, row: &Row
 }
 
 /// Whether all of these runs do, and on no other count of windows there is one.
-fn runs_everywhere(alloc: Global, accepted: &Accepted, row: &Row<'_>) -> bool {
+pub(crate) fn runs_everywhere(alloc: Global, accepted: &Accepted, row: &Row<'_>) -> bool {
     budget(accepted.image()) == row.budget
         && runs_on::<4>(alloc, 4, accepted, row)
         && runs_on::<8>(alloc, 8, accepted, row)

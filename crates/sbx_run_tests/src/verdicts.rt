@@ -219,7 +219,7 @@ static ROWS: [Row; 30] = [
 ];
 
 /// Whether the refusal is shown as this line.
-fn is_shown(alloc: Global, refusal: &Refusal, told: &str) -> bool {
+pub(crate) fn is_shown(alloc: Global, refusal: &Refusal, told: &str) -> bool {
     match format!(in alloc; "{refusal}") {
         Ok(text) => text.as_str() == told,
         Err(AllocError) => false,

@@ -13,7 +13,7 @@ fn push_sides(out: &mut String, sides: DepthSides, asker: &str) -> Result<(), Al
 }
 
 /// The two sides of the rule of call depth: at the function's entry, and at a call.
-pub fn push_depth_sides(out: &mut String, image: &Image, sight: &Sight) -> Result<(), AllocError>
+pub fn push_depths(out: &mut String, image: &Image, sight: &Sight) -> Result<(), AllocError>
     requires { IsSeen image.now sight.now }
 {
     out.push_str("\nthe declared depth is\n")?;
