@@ -26,9 +26,9 @@ const PROGRAMS: [(&str, bool, bool); 17] = [
 ];
 
 /// The sources that are refused, by the rule of their name.
-const REFUSED: [&str; 17] = [
+const REFUSED: [&str; 18] = [
     "V2", "V3", "V4", "V5", "V6", "V7", "V8", "V9", "V10", "V11", "V12", "V13", "V14", "V15",
-    "V16", "V17", "V18",
+    "V16", "V17", "V18", "V20",
 ];
 
 const ASM: Job<'static> = Job::Asm {
