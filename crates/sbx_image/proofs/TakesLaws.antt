@@ -280,7 +280,7 @@ data_text one n = if one then to_be_bytes w32 n else to_be_bytes w16 n
 abbrev pub data_keeps : Bool → ℕ → Bool
 data_keeps one n = if one then is_data_length n else between 0 8 n
 
--- what is counted in the one version and in the other
+-- what is counted in version 1 and in the others
 pub data_of : (one : Bool) (rs : List Region) → data_text one (if one then byte_count rs else length rs) ≡ (if one then to_be_bytes w32 (byte_count rs) else to_be_bytes w16 (length rs))
 data_of true rs = refl
 data_of false rs = refl

@@ -1,4 +1,4 @@
--- The regions of either version: what is read of their lengths and bytes keeps the rules.
+-- The regions of each version: what is read of their lengths and bytes keeps the rules.
 use Rattle.std.proofs.Common.{◌≡◌, ℕ, suc, ◌+◌, ◌≤◌, Bool, true, false, ltb, leb, List, [], ◌∷◌, length, Ok, refl, sym, ap, subst, ◌∙◌, arith}
 use Rattle.std.specs.Prelude.{if◌then◌else◌}
 use Rattle.std.specs.List.{flat_map}

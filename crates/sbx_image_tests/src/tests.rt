@@ -85,6 +85,7 @@ fn are_functions_of_hello(functions: &[Function]) -> bool {
             function.kind == Kind::Leaf
                 && function.entry == 0x40000
                 && function.budget == 16
+                && function.depth == 0
                 && are_blocks_of_hello(function.blocks.as_slice())
         })
 }
@@ -137,9 +138,10 @@ fn tells_the_end_of_the_bytes(rt: HostRuntime) {
 type Change = (usize, &'static [u8], Option<ImageFault>);
 
 /// Changes of the header.
-const OF_HEADER: [Change; 18] = [
+const OF_HEADER: [Change; 19] = [
     (0, &[82], Some(ImageFault::Magic)),
-    (4, &[0, 3], Some(ImageFault::Version)),
+    (4, &[0, 3], Some(ImageFault::Limit)), // so it has no region, and of its functions the first has 97 results
+    (4, &[0, 4], Some(ImageFault::Version)),
     (4, &[0, 0], Some(ImageFault::Version)),
     (6, &[0, 8], Some(ImageFault::Service)),
     (6, &[0, 0], None),
@@ -399,6 +401,7 @@ fn small_function(
         frame,
         stack_room: 0,
         budget: 0,
+        depth: 0,
         blocks,
     })
 }
@@ -495,7 +498,7 @@ fn reads_the_data(rt: HostRuntime) {
 /// The version, services, the bytes of each region and whether it may be written, and the fault.
 type Data = (u16, u16, &'static [(usize, bool)], Option<ImageFault>);
 
-const DATA: [Data; 27] = [
+const DATA: [Data; 33] = [
     (1, 0, &[], None),
     (1, 0, &[(8, true)], None),
     (1, 0, &[(262_136, true)], None),
@@ -508,8 +511,8 @@ const DATA: [Data; 27] = [
     (1, 0, &[(8, true), (8, true)], Some(ImageFault::Limit)),
     (1, 0, &[(8, false), (8, true)], Some(ImageFault::Limit)),
     (0, 0, &[], Some(ImageFault::Version)),
-    (3, 0, &[], Some(ImageFault::Version)),
-    (3, 0, &[(8, false), (8, true)], Some(ImageFault::Version)),
+    (4, 0, &[], Some(ImageFault::Version)),
+    (4, 0, &[(8, false), (8, true)], Some(ImageFault::Version)),
     (2, 0, &[], None),
     (2, 0, &[(8, false), (8, true)], None),
     (2, 0, &[(262_144, false)], None),
@@ -551,7 +554,13 @@ const DATA: [Data; 27] = [
     (2, 0, &[(262_152, true)], Some(ImageFault::Limit)),
     (2, 0, &[(262_144, true), (8, true)], Some(ImageFault::Limit)), // 65 pages
     (65535, 0, &[(8, true)], Some(ImageFault::Version)),
-    (3, 8, &[(4, true)], Some(ImageFault::Version)), // the version stands before the services
+    (4, 8, &[(4, true)], Some(ImageFault::Version)), // the version stands before the services
+    (3, 8, &[(4, true)], Some(ImageFault::Service)),
+    (3, 0, &[], None),
+    (3, 0, &[(8, false), (8, true)], None),
+    (3, 0, &[(262_144, false)], None),
+    (3, 0, &[(0, false)], Some(ImageFault::Limit)),
+    (3, 0, &[(262_144, true), (8, true)], Some(ImageFault::Limit)),
 ];
 
 /// Regions of zeros.
@@ -681,10 +690,11 @@ const REGIONS: [u8; 116] = [
     0, 4, 0, 0, 0, 0, 0, 0, 0, 0, 0, 0, 0, 0, 0, 13, // its block
 ];
 
-const OF_REGIONS: [Change; 12] = [
+const OF_REGIONS: [Change; 13] = [
     (4, &[0, 2], None),
     (4, &[0, 0], Some(ImageFault::Version)),
-    (4, &[0, 3], Some(ImageFault::Version)),
+    (4, &[0, 3], Some(ImageFault::Order)), // its one block is a depth of 1, and four blocks are read
+    (4, &[0, 4], Some(ImageFault::Version)),
     (12, &[0, 9], Some(ImageFault::Limit)),
     (18, &[0, 0, 0, 4], Some(ImageFault::Limit)),
     (18, &[0, 0, 0, 0], Some(ImageFault::Limit)),
@@ -714,4 +724,174 @@ fn regions_are_read(rt: HostRuntime) {
         );
     }
     assert!(rt; is_written_back(rt.alloc(), &REGIONS));
+}
+
+/// `CALLS` as an image of version 3: its data are one region, and its functions have the depths 256 and 1.
+const DEEP: [u8; 220] = [
+    83, 66, 88, 56, 0, 3, 0, 7, 0, 0, 0, 8, 0, 1, 0, 16, 0, 2, 0, 0, 0, 8, 0, 1, 1, 0, 0, 0, 1, 0,
+    0, 0, 1, 0, 0, 0, 1, 0, 0, 0, 1, 0, 0, 0, 1, 0, 0, 0, 1, 0, 0, 0, 1, 0, 0, 0, 97, 98, 99, 100,
+    101, 102, 103, 104, 1, 0, 1, 0, 0, 4, 0, 0, 0, 0, 0, 96, 0, 0, 0, 96, 0, 0, 0, 0, 0, 0, 0, 39,
+    1, 0, 0, 2, 255, 255, 255, 251, 0, 0, 0, 5, 0, 0, 4, 0, 0, 0, 0, 0, 0, 0, 0, 0, 0, 0, 0, 0, 39,
+    0, 4, 0, 8, 0, 2, 0, 2, 255, 255, 255, 255, 255, 255, 255, 254, 0, 8, 128, 0, 0, 0, 127, 255,
+    255, 255, 3, 4, 15, 0, 0, 0, 0, 0, 0, 0, 0, 0, 0, 8, 255, 255, 255, 255, 0, 16, 127, 255, 255,
+    255, 0, 1, 0, 0, 0, 4, 0, 16, 0, 0, 0, 0, 0, 0, 0, 0, 0, 0, 0, 0, 0, 0, 0, 2, 0, 1, 0, 1, 0, 0,
+    0, 0, 0, 0, 0, 254, 2, 0, 4, 0, 16, 0, 0, 0, 0, 0, 0, 0, 0, 0, 0, 0, 2,
+];
+
+/// The depths of its functions.
+const DEPTHS_OF_DEEP: [u16; 2] = [256, 1];
+
+const OF_DEPTHS: [Change; 14] = [
+    (4, &[0, 2], Some(ImageFault::Range)), // so the depth is a number of blocks, and a range begins with theirs
+    (4, &[0, 4], Some(ImageFault::Version)),
+    (88, &[0, 0], None),
+    (88, &[0, 255], None),
+    (88, &[1, 1], Some(ImageFault::Limit)),
+    (88, &[255, 255], Some(ImageFault::Limit)),
+    (88, &[1, 1, 0, 2, 0, 0, 0, 6], Some(ImageFault::Limit)), // the depth stands before the ranges
+    (88, &[1, 0, 0, 2, 0, 0, 0, 6], Some(ImageFault::Range)),
+    (90, &[0, 0], Some(ImageFault::Limit)),
+    (90, &[0, 1], Some(ImageFault::Limit)), // the second block is a function: 4 params, and 8 where 0 stands
+    (68, &[0, 4, 0, 4], Some(ImageFault::Order)),
+    (191, &[0, 0], None),
+    (191, &[1, 0], None),
+    (191, &[1, 1], Some(ImageFault::Limit)),
+];
+
+/// `DEEP` with the bytes from a place on replaced.
+fn with_depths(place: usize, change: &[u8]) -> [u8; 220] {
+    let mut bytes = DEEP;
+    for (old, new) in bytes.iter_mut().skip(place).zip(change) {
+        *old = *new;
+    }
+    bytes
+}
+
+#[test]
+fn depths_are_read(rt: HostRuntime) {
+    for (place, change, wanted) in OF_DEPTHS {
+        assert!(rt;
+            is_told(rt.alloc(), &with_depths(place, change), wanted),
+            "at {place} {change:?}"
+        );
+    }
+    for end in 80..92usize {
+        assert!(rt;
+            is_told(rt.alloc(), &DEEP[..end], Some(ImageFault::Short)),
+            "at {end}"
+        );
+    }
+    assert!(rt; is_written_back(rt.alloc(), &DEEP));
+}
+
+/// Whether the functions of an image have these depths, in turn.
+fn has_depths(image: &Image, depths: &[u16]) -> bool {
+    image.functions().len() == depths.len()
+        && image
+            .functions()
+            .iter()
+            .zip(depths)
+            .all(|(function, depth)| function.depth == *depth)
+}
+
+/// The parts of an image of version 1 as those of one of version 3, with the depths of `DEEP`.
+fn deepened(image: Image) -> Parts {
+    let mut parts = image.into_parts();
+    let mut functions = parts.functions.into_vec();
+    for (function, depth) in functions.iter_mut().zip(&DEPTHS_OF_DEEP) {
+        function.depth = *depth;
+    }
+    parts.functions = Items::new(functions);
+    parts.version = 3;
+    parts
+}
+
+/// Whether the image of some parts has the depths of `DEEP`, and is written as its bytes.
+fn are_parts_of_deep(alloc: Global, parts: Parts) -> bool {
+    let Ok(image) = Image::from_parts(parts) else {
+        return false;
+    };
+    match written(alloc, &image) {
+        Ok(text) => has_depths(&image, &DEPTHS_OF_DEEP) && text.as_slice() == DEEP.as_slice(),
+        Err(AllocError) => false,
+    }
+}
+
+#[test]
+fn depths_are_written(rt: HostRuntime) {
+    let is_written = match read(rt.alloc(), &CALLS) {
+        Ok(image) => are_parts_of_deep(rt.alloc(), deepened(image)),
+        Err(_) => false,
+    };
+    assert!(rt; is_written);
+}
+
+/// The version, the depth of a function, the range of its one param, and the fault.
+type Depth = (u16, u16, Range, Option<ImageFault>);
+
+const DEPTHS: [Depth; 17] = [
+    (1, 0, GOOD, None),
+    (1, 1, GOOD, Some(ImageFault::Limit)),
+    (1, 256, GOOD, Some(ImageFault::Limit)),
+    (2, 0, GOOD, None),
+    (2, 1, GOOD, Some(ImageFault::Limit)),
+    (2, 65535, GOOD, Some(ImageFault::Limit)),
+    (3, 0, GOOD, None),
+    (3, 1, GOOD, None),
+    (3, 256, GOOD, None),
+    (3, 257, GOOD, Some(ImageFault::Limit)),
+    (3, 65535, GOOD, Some(ImageFault::Limit)),
+    (0, 0, GOOD, Some(ImageFault::Version)),
+    (4, 0, GOOD, Some(ImageFault::Version)),
+    (4, 257, GOOD, Some(ImageFault::Version)),
+    (2, 1, BAD, Some(ImageFault::Limit)), // the depth stands before the params
+    (3, 257, BAD, Some(ImageFault::Limit)),
+    (3, 256, BAD, Some(ImageFault::Range)),
+];
+
+/// Parts of one word and one function, of a version and with a depth.
+fn parts_with_depth(
+    alloc: Global,
+    version: u16,
+    depth: u16,
+    range: Range,
+) -> Result<Parts, ImageFault> {
+    let mut function = small_function(alloc, 1, range, 0, Vec::new(alloc))?;
+    function.depth = depth;
+    let mut parts = small_parts(alloc, function)?;
+    parts.version = version;
+    Ok(parts)
+}
+
+/// Whether an image has a function of this depth, and so has what is read of its bytes.
+fn keeps_depth(alloc: Global, image: &Image, depth: u16) -> bool {
+    let Ok(text) = written(alloc, image) else {
+        return false;
+    };
+    match read(alloc, text.as_slice()) {
+        Ok(again) => has_depths(image, &[depth]) && has_depths(&again, &[depth]),
+        Err(_) => false,
+    }
+}
+
+/// Whether parts with a depth get their fault. Where a growth was refused, they are made once more.
+fn is_depth_told(alloc: Global, (version, depth, range, wanted): Depth) -> bool {
+    let made = match parts_with_depth(alloc, version, depth, range) {
+        Ok(parts) => Ok(parts),
+        Err(_) => parts_with_depth(alloc, version, depth, range),
+    };
+    let Ok(parts) = made else {
+        return false;
+    };
+    match Image::from_parts(parts) {
+        Ok(image) => wanted.is_none() && keeps_depth(alloc, &image, depth),
+        Err((back, fault)) => wanted == Some(fault) && back.version == version,
+    }
+}
+
+#[test]
+fn parts_of_depths(rt: HostRuntime) {
+    for row in DEPTHS {
+        assert!(rt; is_depth_told(rt.alloc(), row), "at {row:?}");
+    }
 }

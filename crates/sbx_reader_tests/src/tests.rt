@@ -1,4 +1,4 @@
-//! Worked images of either version in pieces, cut off, and broken.
+//! Worked images of each version in pieces, cut off, and broken.
 use sbx_image::{Image, ImageFault, write};
 use sbx_reader::ImageReader;
 use std::alloc::{AllocError, Global};
@@ -24,8 +24,21 @@ const REGIONS: [u8; 116] = [
     0, 4, 0, 0, 0, 0, 0, 0, 0, 0, 0, 0, 0, 0, 0, 13, // its block
 ];
 
+/// An image of version 3: one region of 8 bytes, a framed function of depth 256 with a result, two blocks, cells and terms, and a leaf of
+/// depth 1 with a param.
+const DEEP: [u8; 220] = [
+    83, 66, 88, 56, 0, 3, 0, 7, 0, 0, 0, 8, 0, 1, 0, 16, 0, 2, 0, 0, 0, 8, 0, 1, 1, 0, 0, 0, 1, 0,
+    0, 0, 1, 0, 0, 0, 1, 0, 0, 0, 1, 0, 0, 0, 1, 0, 0, 0, 1, 0, 0, 0, 1, 0, 0, 0, 97, 98, 99, 100,
+    101, 102, 103, 104, 1, 0, 1, 0, 0, 4, 0, 0, 0, 0, 0, 96, 0, 0, 0, 96, 0, 0, 0, 0, 0, 0, 0, 39,
+    1, 0, 0, 2, 255, 255, 255, 251, 0, 0, 0, 5, 0, 0, 4, 0, 0, 0, 0, 0, 0, 0, 0, 0, 0, 0, 0, 0, 39,
+    0, 4, 0, 8, 0, 2, 0, 2, 255, 255, 255, 255, 255, 255, 255, 254, 0, 8, 128, 0, 0, 0, 127, 255,
+    255, 255, 3, 4, 15, 0, 0, 0, 0, 0, 0, 0, 0, 0, 0, 8, 255, 255, 255, 255, 0, 16, 127, 255, 255,
+    255, 0, 1, 0, 0, 0, 4, 0, 16, 0, 0, 0, 0, 0, 0, 0, 0, 0, 0, 0, 0, 0, 0, 0, 2, 0, 1, 0, 1, 0, 0,
+    0, 0, 0, 0, 0, 254, 2, 0, 4, 0, 16, 0, 0, 0, 0, 0, 0, 0, 0, 0, 0, 0, 2,
+];
+
 /// An image of each version.
-const IMAGES: [&'static [u8]; 2] = [&HELLO, &REGIONS];
+const IMAGES: [&'static [u8]; 3] = [&HELLO, &REGIONS, &DEEP];
 
 /// What a reader answers that is fed bytes in pieces of a size.
 fn in_pieces(alloc: Global, bytes: &[u8], size: usize) -> Result<Image, ImageFault> {
@@ -111,11 +124,12 @@ fn is_told(alloc: Global, bytes: &[u8], row: &Row) -> bool {
 }
 
 /// A fault of most fields. The worked image of version 1 has no ranges.
-fn rows() -> [Row; 15] {
+fn rows() -> [Row; 16] {
     [
         broken(0, 0, ImageFault::Magic, 3),
         broken(5, 0, ImageFault::Version, 5),
-        broken(5, 3, ImageFault::Version, 5),
+        broken(5, 3, ImageFault::Limit, 15), // so it has no region, and no page of stack
+        broken(5, 4, ImageFault::Version, 5),
         broken(7, 8, ImageFault::Service, 7),
         broken(8, 1, ImageFault::Limit, 11),
         broken(15, 1, ImageFault::Limit, 15),
@@ -132,9 +146,10 @@ fn rows() -> [Row; 15] {
 }
 
 /// Faults of the worked image of version 2: of the number of regions, of their lengths and kinds, and behind them.
-fn rows_of_regions() -> [Row; 10] {
+fn rows_of_regions() -> [Row; 11] {
     [
-        broken(5, 3, ImageFault::Version, 5),
+        broken(5, 3, ImageFault::Order, 105), // its one block is a depth of 1, and four blocks are read
+        broken(5, 4, ImageFault::Version, 5),
         broken(13, 9, ImageFault::Limit, 13),
         broken(15, 0, ImageFault::Limit, 15),
         broken(21, 0, ImageFault::Limit, 21),
@@ -144,6 +159,19 @@ fn rows_of_regions() -> [Row; 10] {
         broken(27, 4, ImageFault::Limit, 27),
         broken(29, 2, ImageFault::Limit, 29),
         broken(81, 4, ImageFault::Order, 81),
+    ]
+}
+
+/// Faults of the image of version 3: of the depths, and behind them.
+fn rows_of_depths() -> [Row; 7] {
+    [
+        broken(5, 2, ImageFault::Range, 97), // its depth is a number of blocks, and a range begins with theirs
+        broken(5, 4, ImageFault::Version, 5),
+        broken(88, 2, ImageFault::Limit, 89),
+        broken(89, 1, ImageFault::Limit, 89),
+        broken(91, 0, ImageFault::Limit, 91),
+        broken(191, 2, ImageFault::Limit, 192),
+        broken(194, 0, ImageFault::Limit, 194),
     ]
 }
 
@@ -208,6 +236,9 @@ fn each_fault_is_told_at_the_end_of_its_field(rt: HostRuntime) {
     }
     for row in &rows_of_regions() {
         assert!(rt; is_told(rt.alloc(), &REGIONS, row), "{row:?}");
+    }
+    for row in &rows_of_depths() {
+        assert!(rt; is_told(rt.alloc(), &DEEP, row), "{row:?}");
     }
     let ninth_page = broken(27, 8, ImageFault::Limit, 63); // the last region passes 64 pages
     assert!(rt; is_told(rt.alloc(), &EIGHT, &ninth_page));

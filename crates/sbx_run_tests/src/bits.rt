@@ -40,13 +40,23 @@ fn has_a_verdict(alloc: Global, image: Image) -> bool {
     }
 }
 
-/// Whether what is read of the bytes with one bit turned is as it has to be: the first eight bytes tell their own fault.
+/// The fault of the version with one bit turned. As version 3 the bytes have no region where they told their bytes of data, and no page of stack.
+fn fault_of_version(bit: usize) -> ImageFault {
+    if bit == 46 {
+        ImageFault::Limit
+    } else {
+        ImageFault::Version
+    }
+}
+
+/// Whether what is read of the bytes with one bit turned is as it has to be: the first eight bytes tell their own fault, but where the
+/// version is 3.
 fn is_told(alloc: Global, bit: usize) -> bool {
     match parse(alloc, &turned(bit)) {
         Ok(image) => bit >= 48 && has_a_verdict(alloc, image),
         Err(fault) => match bit / 8 {
             0..=3 => fault == ImageFault::Magic,
-            4..=5 => fault == ImageFault::Version,
+            4..=5 => fault == fault_of_version(bit),
             6..=7 => fault == ImageFault::Service,
             _ => true,
         },
