@@ -1,7 +1,7 @@
--- Three sources and what they mean, worked out from the definitions.
+-- Four sources and what they mean, worked out from the definitions.
 use Rattle.std.specs.Prelude.{◌≡◌, ℕ, pos, true, false, List, [], ◌∷◌, ◌++◌, Ok, Err, codes}
 use Rattle.std.specs.List.{flat_map}
-use Rattle.sbx_image.specs.Kind.TheVariants.{Leaf}
+use Rattle.sbx_image.specs.Kind.TheVariants.{Leaf, Framed}
 use Rattle.sbx_image.specs.Parts.{Parts}
 use Rattle.sbx_asm.specs.declared.fault.Cause.TheVariants as causes
 use Rattle.sbx_asm.specs.Faults.{at}
@@ -89,6 +89,60 @@ letter_parts =
           } ∷ [];
     }
 
+-- a function with a depth calls one without; the data may be written
+abbrev pub caller : List ℕ
+caller =
+    lines_to_text (
+    codes ".services exit"
+    ∷ codes ".function main,framed,96,96,32"
+    ∷ codes ".fuel 32"
+    ∷ codes ".depth 1"
+    ∷ codes "    save %sp,-96,%sp"
+    ∷ codes "    call zero"
+    ∷ codes "    nop"
+    ∷ codes "    ta 0"
+    ∷ codes ".function zero,leaf,0,0,2"
+    ∷ codes ".result 0,0,3"
+    ∷ codes ".fuel 2"
+    ∷ codes "    retl"
+    ∷ codes "    mov 0,%o0"
+    ∷ codes ".data"
+    ∷ codes ".byte 7" ∷ [])
+
+abbrev pub caller_parts : Parts
+caller_parts =
+    record {
+      version = 3;
+      services = record { 0 = 1 };
+      words = 0x9DE3BFA0 ∷ 0x40000003 ∷ 0x01000000 ∷ 0x91D02000 ∷ 0x81C3E008 ∷ 0x90102000 ∷ [];
+      regions = record { bytes = 7 ∷ 0 ∷ 0 ∷ 0 ∷ 0 ∷ 0 ∷ 0 ∷ 0 ∷ []; writable = true } ∷ [];
+      stack_pages = 1;
+      functions =
+          record {
+            kind = Framed;
+            params = [];
+            results = [];
+            entry = 0x40000;
+            frame = 96;
+            stack_room = 96;
+            budget = 32;
+            depth = 1;
+            blocks = record { address = 0x40000; fuel = pos 32; cells = []; terms = [] } ∷ [];
+          }
+          ∷ record {
+            kind = Leaf;
+            params = [];
+            results = record { lo = pos 0; hi = pos 0; alignment = 3 } ∷ [];
+            entry = 0x40010;
+            frame = 0;
+            stack_room = 0;
+            budget = 2;
+            depth = 0;
+            blocks = record { address = 0x40010; fuel = pos 2; cells = []; terms = [] } ∷ [];
+          } ∷ [];
+    }
+
 -- an empty source has no function
 abbrev pub KnownSourcesHaveTheirMeanings : Type 0
-KnownSourcesHaveTheirMeanings = (source_image [] ≡ Err (at 1 causes.Directive)) × (source_image hello ≡ Ok hello_parts) × (source_image letter ≡ Ok letter_parts)
+KnownSourcesHaveTheirMeanings =
+    (source_image [] ≡ Err (at 1 causes.Directive)) × (source_image hello ≡ Ok hello_parts) × (source_image letter ≡ Ok letter_parts) × (source_image caller ≡ Ok caller_parts)

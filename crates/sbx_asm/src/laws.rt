@@ -48,7 +48,8 @@ pub fn the_least_fault_is_told()
     ensures { TheLeastFaultIsTold }
 {}
 
-/// What an empty source and two short programs mean, one of them with regions, worked out from the definitions.
+/// What an empty source and three short programs mean, one of them with regions and one with a depth, worked out from the
+/// definitions.
 #[tactic(auto, using(crate::proofs::Worked::known_meanings))]
 pub fn known_sources_have_their_meanings()
     ensures { KnownSourcesHaveTheirMeanings }
