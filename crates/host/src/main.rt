@@ -1,15 +1,18 @@
-//! A host: it shows what a stranger's image asks for, refuses what its own policy doesn't grant, and runs the rest on 8 windows.
+//! A host: it shows what strangers' images ask for, refuses what its own policy doesn't grant, and runs the rest on 8 windows, one after
+//! another on one board.
 //!
-//! Its argument is the image's path; standard input is the image's input, and standard output takes its output. Standard error tells
-//! of the image. The status is 0 where the image has run and its exit word is 0, 1 where that is another, 2 where it isn't run, 3 where
-//! no path is given, and 4 where a file or a stream fails, or memory.
+//! Its arguments are the images' paths; standard input is the input of each image, and standard output takes their outputs in turn.
+//! Standard error tells of the images. Where one is denied, none is run. The status is 0 where each has run and its exit word is 0, 1
+//! where one of these is another, 2 where one is denied, 3 where no path is given, and 4 where a file or a stream fails, or memory.
 #![tactic(auto)]
 
 mod policy;
 
 use bitflags::Flags;
 use policy::{Policy, admit};
-use sbx_run::{Accepted, Services, budget, run_accepted};
+use sbx_batch::{Accepted, Batch, Finished, run_batch};
+use sbx_run::{Services, budget};
+use std::alloc::{AllocError, Global};
 use std::io::{self, Read, Write};
 use std::process::ExitCode;
 use std::{env, fs};
@@ -20,41 +23,80 @@ const POLICY: Policy = Policy {
     turns: 5_000_000,
 };
 
-/// Shows what an admitted image asks for, runs it on standard input, hands its output on, and gives the status.
-fn run(rt: &HostRuntime, accepted: &Accepted) -> io::Result<u8> {
+/// Shows what an admitted image asks for.
+fn show(rt: &HostRuntime, accepted: &Accepted) -> io::Result<()> {
     let image = accepted.image();
     write!(rt.stderr(), "services:")?;
     for (name, _) in image.services().iter_names() {
         write!(rt.stderr(), " {name}")?;
     }
     let (turns, pages) = (budget(image), image.stack_pages());
-    writeln!(rt.stderr(), "; turns: {turns}; stack pages: {pages}")?;
-    let mut input = Vec::new(rt.alloc());
-    rt.stdin().read_to_end(&mut input)?;
-    let Ok(finished) = run_accepted::<8>(rt.alloc(), accepted, input.as_slice()) else {
-        writeln!(rt.stderr(), "memory")?;
-        return Ok(4);
-    };
-    let (status, turns) = (finished.status, finished.turns);
-    writeln!(rt.stderr(), "exit word {status}, {turns} turns")?;
-    rt.stdout().write_all(finished.output.as_slice())?;
-    Ok(u8::from(status != 0))
+    writeln!(rt.stderr(), "; turns: {turns}; stack pages: {pages}")
 }
 
-/// Runs the image that the words name, where the policy admits it, and gives the status.
-fn host(rt: &HostRuntime) -> io::Result<u8> {
-    let Some(path) = env::args(rt)?.nth(1) else {
-        writeln!(rt.stderr(), "host: its argument is an image's path")?;
-        return Ok(3);
-    };
-    let bytes = fs::read(rt, path.as_str())?;
-    match admit(rt.alloc(), POLICY, bytes.as_slice()) {
-        Ok(accepted) => run(rt, &accepted),
-        Err(denial) => {
-            writeln!(rt.stderr(), "denied: {denial}")?;
-            Ok(2)
+/// Hands on what each run has put out, and gives the status.
+fn tell(rt: &HostRuntime, answers: &[Finished]) -> io::Result<u8> {
+    let mut told = 0;
+    for finished in answers {
+        let (status, turns) = (finished.status, finished.turns);
+        writeln!(rt.stderr(), "exit word {status}, {turns} turns")?;
+        rt.stdout().write_all(finished.output.as_slice())?;
+        if status != 0 {
+            told = 1;
         }
     }
+    Ok(told)
+}
+
+/// Each image beside the one input.
+fn listed<'a>(
+    alloc: Global,
+    images: &'a [Accepted],
+    input: &'a [u8],
+) -> Result<Vec<Batch<'a>>, AllocError> {
+    let mut list = Vec::new(alloc);
+    for image in images {
+        list.push(Batch { image, input })?;
+    }
+    Ok(list)
+}
+
+/// Runs admitted images on standard input, one after another on one board, hands their outputs on, and gives the status.
+fn run(rt: &HostRuntime, images: &[Accepted]) -> io::Result<u8> {
+    let mut input = Vec::new(rt.alloc());
+    rt.stdin().read_to_end(&mut input)?;
+    let list = listed(rt.alloc(), images, input.as_slice())?;
+    match run_batch::<8>(rt.alloc(), list.as_slice()) {
+        Ok(answers) => tell(rt, answers.as_slice()),
+        Err(_fault) => {
+            writeln!(rt.stderr(), "memory")?;
+            Ok(4)
+        }
+    }
+}
+
+/// Runs the images that the words name, where the policy admits each of them, and gives the status.
+fn host(rt: &HostRuntime) -> io::Result<u8> {
+    let paths: Vec<String> = env::args(rt)?.collect(rt.alloc())?;
+    let mut images = Vec::new(rt.alloc());
+    for path in paths.as_slice().iter().skip(1) {
+        let bytes = fs::read(rt, path.as_str())?;
+        match admit(rt.alloc(), POLICY, bytes.as_slice()) {
+            Ok(accepted) => {
+                show(rt, &accepted)?;
+                images.push(accepted)?;
+            }
+            Err(denial) => {
+                writeln!(rt.stderr(), "denied: {denial}")?;
+                return Ok(2);
+            }
+        }
+    }
+    if images.is_empty() {
+        writeln!(rt.stderr(), "host: its arguments are images' paths")?;
+        return Ok(3);
+    }
+    run(rt, images.as_slice())
 }
 
 fn main(rt: HostRuntime) -> ExitCode {

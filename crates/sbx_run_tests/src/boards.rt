@@ -1,8 +1,10 @@
 //! Runs of accepted images on a board of the caller's, and what it shows afterwards.
 
-use crate::runs::{CHAINED, COPIES, HI, REGIONS};
+use crate::runs::{CHAINED, COPIES, HI, REGIONS, accepted_of};
+use crate::sources::{BARE, Source};
+use sbx_image::Image;
 use sbx_raw::SlicePort;
-use sbx_run::{Accepted, Ended, PageUse, run_board};
+use sbx_run::{Accepted, Ended, Ending, PageUse, run_board, verify};
 use std::alloc::{AllocError, Global};
 use v8_board::Board;
 use v8_word::Reg;
@@ -204,4 +206,75 @@ fn regions_lie_in_ram(alloc: Global) -> bool {
 #[test]
 fn places_regions(rt: HostRuntime) {
     assert!(rt; regions_lie_in_ram(rt.alloc()));
+}
+
+/// Leaves `H` in %g3, `i` in Y and `!` in a word of its frame, and puts nothing out.
+static LEAVES: Source = Source {
+    pieces: &[
+        ".services exit\n.function main,framed,96,96,100\n.fuel 100\n save %sp,-96,%sp\n mov 72,%g3\n",
+        " mov 105,%y\n mov 33,%l0\n st %l0,[%sp+64]\n mov 0,%o0\n ta 0\n",
+    ],
+    links: None,
+};
+
+/// Puts out what it finds in these three places, which it never wrote. It is refused, and runs all the same.
+static READS: Source = Source {
+    pieces: &[
+        BARE,
+        " mov %g3,%o0\n ta 2\n mov %y,%o0\n ta 2\n ld [%sp-32],%o0\n ta 2\n mov 0,%o0\n ta 0\n",
+    ],
+    links: None,
+};
+
+/// Whether an image that nobody has verified, loaded into a board as it stands, exits after 22 turns, and the board has put this out.
+fn reads(board: &mut Board<4, SlicePort<'_>>, image: &Image, output: &[u8]) -> bool {
+    board.load(image);
+    match board.run(100) {
+        Ok(told) => {
+            (told.ending, told.turns) == (Ending::Exit(0), 22) && board.port().output() == output
+        }
+        Err(_fault) => false,
+    }
+}
+
+/// Whether it finds zeros on a new board, and then, on the same one, what an accepted image has left there.
+fn finds(board: &mut Board<4, SlicePort<'_>>, image: &Image, accepted: &Accepted) -> bool {
+    reads(board, image, b"\0\0\0")
+        && ended(board, accepted).is_some()
+        && reads(board, image, b"\0\0\0Hi!")
+}
+
+fn finds_on_a_board(alloc: Global, image: &Image, accepted: &Accepted) -> bool {
+    match board_with(alloc, b"") {
+        Ok(board) => {
+            let mut board = board;
+            finds(&mut board, image, accepted)
+        }
+        Err(AllocError) => false,
+    }
+}
+
+/// Whether an image does that is refused.
+fn finds_though_refused(alloc: Global, image: Image, accepted: &Accepted) -> bool {
+    finds_on_a_board(alloc, &image, accepted)
+        && match verify(alloc, image) {
+            Ok(_accepted) => false,
+            Err(_refused) => true,
+        }
+}
+
+fn finds_what_is_left(alloc: Global) -> bool {
+    let Some(leaves) = LEAVES.image(alloc) else {
+        return false;
+    };
+    match (accepted_of(alloc, leaves), READS.image(alloc)) {
+        (Some(accepted), Some(image)) => finds_though_refused(alloc, image, &accepted),
+        _ => false,
+    }
+}
+
+/// Nothing is cleared between two images on one board but what booting sets. An accepted image can't tell, and any other one can.
+#[test]
+fn what_is_left_can_be_read(rt: HostRuntime) {
+    assert!(rt; finds_what_is_left(rt.alloc()));
 }

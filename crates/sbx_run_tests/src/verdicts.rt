@@ -15,7 +15,7 @@ type Row = (
     Option<&'static Links>,
 );
 
-static ROWS: [Row; 30] = [
+static ROWS: [Row; 31] = [
     // one byte behind the last of the second region, and a store into the first, which may be read alone
     (
         "refused V9 in function 0 at 00040010",
@@ -111,6 +111,12 @@ static ROWS: [Row; 30] = [
     (
         "refused V7 in function 0 at 00040000",
         &[BARE, " mov 72,%sp\n"],
+        None,
+    ),
+    // endless SAVEs with the stack pointer at the device
+    (
+        "refused V7 in function 0 at 00040000",
+        &[".function main,leaf,0,0,0\n sethi 0x3C0040,%sp\n ba .+0\n save %sp,0,%sp\n"],
         None,
     ),
     (

@@ -112,9 +112,11 @@ pub(crate) fn are_alike_below_the_stack(one: &Tested, other: &Tested) -> bool {
     are_alike(one, other, 0, 0x2_4000)
 }
 
-/// Whether two boards have the same trap table, handlers and tables, and the same first page of code, but for R and M.
+/// Whether two boards have the same trap table, handlers and tables, and the same first pages of code and of data, but for R and M.
 pub(crate) fn are_loaded_alike(one: &Tested, other: &Tested) -> bool {
-    are_alike(one, other, 0, 0xB80) && are_alike(one, other, 0x1_0000, 1024)
+    are_alike(one, other, 0, 0xB80)
+        && are_alike(one, other, 0x1_0000, 1024)
+        && are_alike(one, other, 0x5_0000, 1024)
 }
 
 /// Whether two boards have these words at a place.

@@ -38,6 +38,22 @@ pub(crate) fn data_image(alloc: Global, words: &[u32]) -> Result<Image, Fail> {
     Ok(parse(alloc, &bytes)?)
 }
 
+/// The same in version 2, with eight bytes of data that may be read alone, and on the next page eight that may be written.
+pub(crate) fn regions_image(alloc: Global, words: &[u32]) -> Result<Image, Fail> {
+    let mut bytes = Vec::new(alloc);
+    bytes.extend_from_slice(b"SBX8\x00\x02\x00\x07")?;
+    bytes.extend_from_slice(&((words.len() % 0x1_0000) as u32).to_be_bytes())?;
+    // two regions, one page of stack, one function; then the length and the kind of each region
+    bytes.extend_from_slice(&[0, 2, 0, 1, 0, 1])?;
+    bytes.extend_from_slice(&[0, 0, 0, 8, 0, 0, 0, 0, 0, 8, 0, 1])?;
+    for word in words {
+        bytes.extend_from_slice(&word.to_be_bytes())?;
+    }
+    bytes.extend_from_slice(b"readonlywritable")?;
+    bytes.extend_from_slice(&AFTER_CODE)?;
+    Ok(parse(alloc, &bytes)?)
+}
+
 pub(crate) const SAVE: u32 = 0x9DE3_BFA0; // save %sp,-96,%sp
 
 pub(crate) const NOP: u32 = 0x0100_0000;

@@ -20,7 +20,7 @@ struct Run {
     status: u32,
 }
 
-const RUNS: [Run; 9] = [
+const RUNS: [Run; 10] = [
     // as many as a second takes
     Run {
         words: &[0x1080_0000, NOP],
@@ -45,6 +45,14 @@ const RUNS: [Run; 9] = [
         turns: 19,
         overflows: 1,
         status: 0x3B6,
+    },
+    Run {
+        words: &[0x1D00_0100, 0x1080_0000, 0x9DE3_A000],
+        limit: 100,
+        end: End::ErrorMode(0x09),
+        turns: 19,
+        overflows: 1,
+        status: 0x3AA,
     },
     Run {
         words: &[0x033C_0000, 0xC400_4000],

@@ -218,27 +218,37 @@ fn a_run_changes_nothing_below_the_stack(rt: HostRuntime) -> Result<(), Fail> {
 }
 
 /// Whether a run ends in error mode at its first spill, puts nothing out, and changes nothing below the stack but R and M.
-fn is_refused_its_spill(loaded: &Tested, ran: &mut Tested) -> bool {
+fn is_refused_its_spill(loaded: &Tested, ran: &mut Tested, status: u32) -> bool {
     let told = Ok(outcome(Ending::ErrorMode(TrapType::new(0x09)), 19, 1));
-    // and the entries of the last stack page and of the device are without a mark
-    ends(ran, &told, 0x3B6)
+    // and the entries of the last stack page and of the device are without a mark, and that of the code has R alone
+    ends(ran, &told, status)
         && kept(ran, b"")
         && used_code_alone(ran)
         && are_alike_below_the_stack(loaded, ran)
+        && have(loaded, ran, 0x2A00, (0x1012, 0x1032))
         && have(loaded, ran, 0x2CFC, (0x9F06, 0x9F06))
         && have(loaded, ran, 0x2D40, (0x1000_001E, 0x1000_001E))
 }
 
-/// SAVEs with the stack pointer at the device, whose first spill is refused: the machine ends in error mode, nothing is put out, and
-/// below the stack nothing but R of pages that were fetched from has changed.
+/// Whether these words' run is.
+fn are_refused_their_spill(alloc: Global, words: &[u32], status: u32) -> Result<bool, Fail> {
+    let loaded = loaded_with(alloc, words)?;
+    let mut ran = loaded_with(alloc, words)?;
+    Ok(is_refused_its_spill(&loaded, &mut ran, status))
+}
+
+/// SAVEs with the stack pointer at the device, and at the code, whose first spill is refused: the machine ends in error mode, nothing is
+/// put out, and below the stack nothing but R of pages that were fetched from has changed.
 #[test]
 fn a_refused_spill_changes_nothing(rt: HostRuntime) -> Result<(), Fail> {
-    let alloc = rt.alloc();
-    // sethi 0x3C0040,%sp; ba .+0; save %sp,0,%sp
-    let words = [0x1D3C_0040, 0x1080_0000, 0x9DE3_A000];
-    let loaded = loaded_with(alloc, &words)?;
-    let mut ran = loaded_with(alloc, &words)?;
-    assert!(rt; is_refused_its_spill(&loaded, &mut ran));
+    // sethi 0x3C0040,%sp, or 0x100; ba .+0; save %sp,0,%sp
+    for (first, status) in [(0x1D3C_0040, 0x3B6), (0x1D00_0100, 0x3AA)] {
+        let words = [first, 0x1080_0000, 0x9DE3_A000];
+        assert!(rt;
+            are_refused_their_spill(rt.alloc(), &words, status)?,
+            "{status}"
+        );
+    }
     Ok(())
 }
 

@@ -1,7 +1,8 @@
 //! Code that nobody wrote: words by chance, whose runs stay contained.
 ghost use Rattle.std.specs.Prelude.{ℕ, ◌<◌, ◌≤◌};
 
-use crate::boards::{Tested, are_loaded_alike, board, load};
+use crate::boards::{Tested, are_loaded_alike, board};
+use crate::images::regions_image;
 use std::alloc::Global;
 use std::test::Fail;
 use v8_board::Ending;
@@ -27,10 +28,10 @@ impl Dice {
     }
 }
 
-/// The upper 22 bits of addresses: code, data, stack, the trap table, the handlers, the device, the page tables as they lie in
-/// physical memory, and a page of user code's that isn't mapped.
-const PLACES: [u32; 8] = [
-    0x100, 0x200, 0x3FF, 0x3C_0000, 0x3C_0004, 0x3C_0040, 0x8, 0x3C0,
+/// The upper 22 bits of addresses: code, data that may be read alone, data that may be written, stack, the trap table, the handlers, the
+/// device, the page tables as they lie in physical memory, and a page of user code's that isn't mapped.
+const PLACES: [u32; 9] = [
+    0x100, 0x200, 0x204, 0x3FF, 0x3C_0000, 0x3C_0004, 0x3C_0040, 0x8, 0x3C0,
 ];
 
 /// The opcodes of loads, stores and exchanges, four of them of an alternate space.
@@ -40,7 +41,7 @@ const TRANSFERS: [u32; 16] = [
 
 /// `sethi` of one of the places.
 fn place(dice: &mut Dice) -> u32 {
-    let chosen = dice.throw(8) as usize;
+    let chosen = dice.throw(9) as usize;
     0x0100_0000 | (dice.throw(32) << 25) | PLACES[chosen]
 }
 
@@ -99,9 +100,14 @@ fn stranger(dice: &mut Dice) -> [u32; 24] {
     words
 }
 
-/// Whether bytes lie in the one page of stack, all of them where they are aligned.
+/// Whether bytes lie in the one page of stack or the page of data that may be written, or, of a load, in the page that may be read alone:
+/// all of them where they are aligned.
 fn is_own(access: &DataAccess) -> bool {
-    (0xF_F000..0x10_0000).contains(&access.va)
+    match access.va >> 12 {
+        0x81 | 0xFF => true,
+        0x80 => !access.store,
+        _ => false,
+    }
 }
 
 /// Whether the device was reached by none but the second word of a vector.
@@ -109,7 +115,7 @@ fn is_by_vector(pc: u32, access: &DataAccess) -> bool {
     access.va >> 12 != 0xF_0010 || ((0xF000_0000..0xF000_1000).contains(&pc) && pc % 16 == 4)
 }
 
-/// Whether a turn fetched and reached nothing but what it may: user code the one page of code and that of the stack.
+/// Whether a turn fetched and reached nothing but what it may: user code the one page of code, those of the data and that of the stack.
 fn is_allowed(turn: &Turn) -> bool {
     let fetched = !turn.user || turn.word.is_none() || (0x4_0000..0x4_1000).contains(&turn.pc);
     match &turn.access {
@@ -140,8 +146,9 @@ fn is_contained(
     alloc: Global,
     words: &[u32],
 ) -> Result<bool, Fail> {
-    load(watched, alloc, words)?;
-    load(fresh, alloc, words)?;
+    let image = regions_image(alloc, words)?;
+    watched.load(&image);
+    fresh.load(&image);
     Ok(are_allowed(watched, 500) && are_loaded_alike(watched, fresh))
 }
 
