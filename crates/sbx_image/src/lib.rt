@@ -1,4 +1,4 @@
-//! The image format: a program with its annotations as bytes, versions 1 and 2.
+//! The image format: a program with its annotations as bytes, versions 1 to 3.
 #![tactic(auto)]
 
 mod heads;
