@@ -388,7 +388,7 @@ type Change = (usize, &'static [u8], &'static [u8]);
 /// Samples that are no image.
 const BAD: [Change; 5] = [
     (0, &[0x54], b"image I2\n"),
-    (4, &[0, 3], b"image I3\n"),
+    (4, &[0, 4], b"image I3\n"),
     (6, &[0, 8], b"image I4\n"),
     (60, &[0, 0, 1, 0, 0, 0, 0, 0], b"image I5\n"),
     (48, &[0, 4, 0, 4], b"image I7\n"),
