@@ -3,6 +3,7 @@ use Rattle.std.specs.Prelude.{◌≡◌, ℕ, List, [], ◌∷◌}
 use Rattle.sbx_image.specs.Parts.{Parts}
 use Rattle.v8_board.specs.Seen.{State}
 use Rattle.v8_board.specs.Start.{IsNew}
+use Rattle.v8_board.specs.Contains.{Contains}
 use Rattle.sbx_run.specs.Answer.{EndsOn, IsAnswer, KeepsItsDepth, told_of}
 use Rattle.sbx_run.specs.declared.boards.Ended.{Ended}
 use Rattle.sbx_run.specs.declared.runner.Finished.{Finished}
@@ -26,12 +27,13 @@ AreAlike f g = (told_of f ≡ told_of g) × (f.output.items ≡ g.output.items) 
 
 -- The board was given this input, the image was loaded and ran to its end, from whatever the board held to where it stands now. What
 -- it has put out is the output; any answer to the image and the input alone is alike; and an image of version 3 with windows enough
--- for its declared depth overflowed none and underflowed none.
+-- for its declared depth overflowed none and underflowed none. The board contains the image's run.
 pub record IsNext (n : ℕ) (parts : Parts) (input : List ℕ) (finished : Finished) (old end : State n) : Type 0 where
   pub ends : EndsOn n parts (with_input old input) end (ended_of finished)
   pub output : finished.output.items ≡ end.world.memory.device.output
   pub alone : (single : Finished) → IsAnswer parts n input single → AreAlike finished single
   pub depth : KeepsItsDepth parts n (told_of finished)
+  pub contained : Contains n parts end
 
 -- ---- a list of runs
 

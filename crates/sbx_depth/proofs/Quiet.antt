@@ -20,7 +20,8 @@ use Rattle.sbx_depth.specs.Law.{Deep, DepthBoundsAnswers, DepthBoundsFrames, Dep
 use Rattle.sbx_depth.proofs.Depths.{within_depth}
 use Rattle.sbx_depth.proofs.Ending.{runs_along}
 use Rattle.sbx_depth.proofs.Frames.{Comes, Frames, above, performed_frames}
-use Rattle.sbx_depth.proofs.Steps.{Stands, is_open, order, stands_on, starts}
+use Rattle.sbx_sound.proofs.Whole.{order}
+use Rattle.sbx_depth.proofs.Steps.{Stands, is_open, stands_on, starts}
 
 no_exit : (o : Option ℕ) (status : ℕ) → o ≡ None → o ≡ Some status → ⊥
 no_exit o status e f = cc

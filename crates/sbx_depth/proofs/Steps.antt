@@ -1,29 +1,15 @@
 -- From each place where a run of a checked image stands it steps on, and what it comes to is again such a place, or the exit.
-use Rattle.std.proofs.Common.{◌≡◌, ℕ, ◌+◌, ◌≤◌, List, length, Option, Some, None, refl, ap, subst, inl, inr}
+use Rattle.std.proofs.Common.{◌≡◌, ℕ, ◌+◌, List, Option, Some, None, refl, ap, subst, inl, inr}
 use Rattle.sbx_image.specs.Parts.{Parts}
-use Rattle.sbx_image.specs.Order.{function_at}
-use Rattle.sbx_image.specs.Regions.{page_rights}
-use Rattle.sbx_image.proofs.Fields.{is_between}
-use Rattle.sbx_image.proofs.Limits.{data_within, functions_within, parts_kept}
 use Rattle.sbx_flat.specs.Registers.{Fresh}
 use Rattle.sbx_flat.specs.Runs.{AreBytes, IsStart, weight_at}
 use Rattle.sbx_flat.specs.States.{State, Turn, Goes, Over}
 use Rattle.sbx_flat.specs.Turns.{Step, goes_on, turn}
 use Rattle.sbx_rules.specs.Verdicts.{Checked}
 use Rattle.sbx_sound.specs.Law.{IsFormed}
-use Rattle.sbx_sound.specs.Positive.{IsPositive}
-use Rattle.sbx_sound.proofs.Begun.{fuel_stays_positive}
-use Rattle.sbx_sound.proofs.Branching.{branch_slots}
-use Rattle.sbx_sound.proofs.Calling.{call_slots}
-use Rattle.sbx_sound.proofs.Dispatch.{Kinds, all_steps}
-use Rattle.sbx_sound.proofs.EachWord.{each_straight, plain_words_do}
-use Rattle.sbx_sound.proofs.Limits.{function_good, have_results, ordered}
-use Rattle.sbx_sound.proofs.Onward.{HaveResults}
-use Rattle.sbx_sound.proofs.Order.{IsOrdered}
-use Rattle.sbx_sound.proofs.Returning.{PlainWordsDo, return_slots}
-use Rattle.sbx_sound.proofs.Safe.{ShowsStand, Spot, Stand, Steps}
-use Rattle.sbx_sound.proofs.Start.{StartsWell, begins}
-use Rattle.sbx_sound.proofs.Wells.{starts_well}
+use Rattle.sbx_sound.proofs.Safe.{ShowsStand, Spot, Stand}
+use Rattle.sbx_sound.proofs.Start.{begins}
+use Rattle.sbx_sound.proofs.Whole.{rules, steps}
 
 over_at : (parts : Parts) (fresh : Fresh) (s : State) (status : ℕ) → s.exit ≡ Some status → turn parts fresh s ≡ Over
 unfolding turn
@@ -50,48 +36,13 @@ pub record Stands (parts : Parts) (s : State) : Type 0 where
   pub shows : ShowsStand parts weight stand s
 
 module _ (parts : Parts) (formed : IsFormed parts) (checked : Checked parts) where
-  pub order : IsOrdered parts
-  order = ordered parts formed.kept formed.typed
-
-  results : HaveResults parts
-  results = have_results parts formed.kept formed.typed
-
-  few : (g : ℕ) → length (function_at parts g).results ≤ 6
-  few g = (function_good parts formed.kept formed.typed g).few_results
-
-  pages : parts.stack_pages ≤ 16
-  pages = (is_between 1 16 parts.stack_pages (parts_kept parts formed.kept).stack_pages).1
-
-  small : length (page_rights parts.regions) ≤ 64
-  small = (data_within parts formed.kept).pages
-
-  does : PlainWordsDo parts
-  does = plain_words_do parts checked order pages small few
-
-  positive : IsPositive parts
-  positive = fuel_stays_positive parts formed checked
-
-  kinds : Kinds parts
-  kinds = record {
-    straight = λ w k f b i start at before no_link no_return. each_straight parts checked order pages small few w k f b i start at before no_link no_return;
-    called = call_slots parts checked order results positive pages does;
-    returned = return_slots parts checked order pages few does;
-    branched = branch_slots parts checked order results pages does;
-  }
-
-  steps : (w : ℕ) (p : Spot parts w) → Steps parts w p
-  steps = all_steps parts kinds
-
-  rules : StartsWell parts
-  rules = starts_well parts checked order pages formed.typed.regions (functions_within parts formed.kept).0
-
   -- a run's start stands
   pub starts : (input : List ℕ) (s : State) → AreBytes input → IsStart parts input s → Stands parts s
-  starts input s bytes start = let pair = begins parts input s bytes rules start in record { weight = 0; stand = pair.0; shows = pair.1 }
+  starts input s bytes start = let pair = begins parts input s bytes (rules parts formed checked) start in record { weight = 0; stand = pair.0; shows = pair.1 }
 
   from : (w : ℕ) (stand : Stand parts w) (s next : State) → ShowsStand parts w stand s → Step parts s next → Stands parts next
   from w (inl p) s next shows step =
-      let here = steps w p in
+      let here = steps parts formed checked w p in
       let r = here.goes step.0 step.1 s shows in
       let same = one_next (turn parts step.0 s) r.next next r.goes step.2 in
       record { weight = w + weight_at parts here.place; stand = here.comes; shows = subst (ShowsStand parts (w + weight_at parts here.place) here.comes) same r.is }

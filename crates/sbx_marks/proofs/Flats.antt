@@ -13,7 +13,8 @@ use Rattle.sbx_sound.specs.Verdicts.{Checked}
 use Rattle.sbx_sound.proofs.Safe.{Pair}
 use Rattle.sbx_sound.proofs.Shared.{Lent, Open, Own, ShowsCalls, ShowsFile, Window}
 use Rattle.sbx_sound.proofs.Start.{begins, calm_start}
-use Rattle.sbx_marks.proofs.Places.{kept, rules}
+use Rattle.sbx_sound.proofs.Whole.{rules}
+use Rattle.sbx_marks.proofs.Places.{kept}
 
 -- ---- bases
 

@@ -1,72 +1,22 @@
--- Where a run of a checked image stands: at a place that it steps on from, or at its exit.
-use Rattle.std.proofs.Common.{ℕ, ◌≤◌, length, arith}
+-- A run of a checked image steps from place to place, beside the calm run, with fuel left at each.
+use Rattle.std.proofs.Common.{ℕ, arith}
 use Rattle.std.specs.Prelude.{ℤ, pos, ◌≤ℤ◌}
 use Rattle.std.proofs.lemmas.Int.{ints}
 use Rattle.sbx_image.specs.Parts.{Parts}
-use Rattle.sbx_image.specs.Order.{function_at}
-use Rattle.sbx_image.specs.Regions.{page_rights}
-use Rattle.sbx_image.proofs.Fields.{is_between}
-use Rattle.sbx_image.proofs.Limits.{data_within, functions_within, parts_kept}
 use Rattle.sbx_flat.proofs.Law.{Keeps}
 use Rattle.sbx_sound.specs.Verdicts.{Checked}
 use Rattle.sbx_sound.specs.Law.{IsFormed}
-use Rattle.sbx_sound.specs.Positive.{IsPositive, left_at}
-use Rattle.sbx_sound.proofs.Begun.{fuel_stays_positive}
-use Rattle.sbx_sound.proofs.Branching.{branch_slots}
-use Rattle.sbx_sound.proofs.Calling.{call_slots}
-use Rattle.sbx_sound.proofs.Dispatch.{Kinds, all_steps}
-use Rattle.sbx_sound.proofs.EachWord.{each_straight, plain_words_do}
-use Rattle.sbx_sound.proofs.Limits.{function_good, have_results, ordered}
-use Rattle.sbx_sound.proofs.Onward.{HaveResults}
-use Rattle.sbx_sound.proofs.Order.{IsOrdered}
-use Rattle.sbx_sound.proofs.Returning.{PlainWordsDo, return_slots}
-use Rattle.sbx_sound.proofs.Safe.{Pair, Spot, Steps, keeps}
-use Rattle.sbx_sound.proofs.Start.{StartsWell}
-use Rattle.sbx_sound.proofs.Wells.{starts_well}
+use Rattle.sbx_sound.specs.Positive.{left_at}
+use Rattle.sbx_sound.proofs.Safe.{Pair, Spot, keeps}
+use Rattle.sbx_sound.proofs.Whole.{positive, steps}
 
 some_left : (z : ℤ) → pos 1 ≤ℤ z → pos 0 ≤ℤ z
 some_left z h = omega (arith, ints)
 
 module _ (parts : Parts) (formed : IsFormed parts) (checked : Checked parts) where
-  order : IsOrdered parts
-  order = ordered parts formed.kept formed.typed
-
-  results : HaveResults parts
-  results = have_results parts formed.kept formed.typed
-
-  few : (g : ℕ) → length (function_at parts g).results ≤ 6
-  few g = (function_good parts formed.kept formed.typed g).few_results
-
-  pages : parts.stack_pages ≤ 16
-  pages = (is_between 1 16 parts.stack_pages (parts_kept parts formed.kept).stack_pages).1
-
-  small : length (page_rights parts.regions) ≤ 64
-  small = (data_within parts formed.kept).pages
-
-  does : PlainWordsDo parts
-  does = plain_words_do parts checked order pages small few
-
-  positive : IsPositive parts
-  positive = fuel_stays_positive parts formed checked
-
-  kinds : Kinds parts
-  kinds = record {
-    straight = λ w k f b i start at before no_link no_return. each_straight parts checked order pages small few w k f b i start at before no_link no_return;
-    called = call_slots parts checked order results positive pages does;
-    returned = return_slots parts checked order pages few does;
-    branched = branch_slots parts checked order results pages does;
-  }
-
-  -- a run's start is a good one
-  pub rules : StartsWell parts
-  rules = starts_well parts checked order pages formed.typed.regions (functions_within parts formed.kept).0
-
-  steps : (w : ℕ) (p : Spot parts w) → Steps parts w p
-  steps = all_steps parts kinds
-
   stays : (w : ℕ) (p : Spot parts w) → pos 0 ≤ℤ left_at parts p.f p.b p.i p.start
-  stays w p = some_left (left_at parts p.f p.b p.i p.start) (positive p.f p.b p.i p.start p.at.place p.at.begun)
+  stays w p = some_left (left_at parts p.f p.b p.i p.start) (positive parts formed checked p.f p.b p.i p.start p.at.place p.at.begun)
 
-  -- and from there on it steps from place to place, beside the calm run
+  -- it steps from place to place, beside the calm run
   pub kept : Keeps parts (Pair parts)
-  kept = keeps parts steps stays
+  kept = keeps parts (steps parts formed checked) stays

@@ -1,4 +1,4 @@
--- The whole: an image that breaks no rule is safe on the flat machine.
+-- The whole: what a checked image's places and steps are, and that it is safe on the flat machine.
 use Rattle.std.proofs.Common.{ℕ, ◌≤◌, length}
 use Rattle.sbx_image.specs.Parts.{Parts}
 use Rattle.sbx_image.specs.Regions.{page_rights}
@@ -18,11 +18,12 @@ use Rattle.sbx_sound.proofs.EachWord.{each_straight, plain_words_do}
 use Rattle.sbx_sound.proofs.Limits.{function_good, have_results, ordered}
 use Rattle.sbx_sound.proofs.Onward.{HaveResults}
 use Rattle.sbx_sound.proofs.Returning.{PlainWordsDo, return_slots}
-use Rattle.sbx_sound.proofs.Start.{is_safe}
+use Rattle.sbx_sound.proofs.Safe.{Spot, Steps}
+use Rattle.sbx_sound.proofs.Start.{StartsWell, is_safe}
 use Rattle.sbx_sound.proofs.Wells.{starts_well}
 
 module _ (parts : Parts) (formed : IsFormed parts) (checked : Checked parts) where
-  order : IsOrdered parts
+  pub order : IsOrdered parts
   order = ordered parts formed.kept formed.typed
 
   results : HaveResults parts
@@ -40,7 +41,7 @@ module _ (parts : Parts) (formed : IsFormed parts) (checked : Checked parts) whe
   does : PlainWordsDo parts
   does = plain_words_do parts checked order pages small few
 
-  positive : IsPositive parts
+  pub positive : IsPositive parts
   positive = fuel_stays_positive parts formed checked
 
   kinds : Kinds parts
@@ -51,8 +52,16 @@ module _ (parts : Parts) (formed : IsFormed parts) (checked : Checked parts) whe
     branched = branch_slots parts checked order results pages does;
   }
 
+  -- each place where a run stands steps on
+  pub steps : (w : ℕ) (p : Spot parts w) → Steps parts w p
+  steps = all_steps parts kinds
+
+  -- a run's start is such a place
+  pub rules : StartsWell parts
+  rules = starts_well parts checked order pages formed.typed.regions (functions_within parts formed.kept).0
+
   pub safe : FlatSafe parts
-  safe = is_safe parts (all_steps parts kinds) positive (starts_well parts checked order pages formed.typed.regions (functions_within parts formed.kept).0)
+  safe = is_safe parts steps positive rules
 
 pub checked_is_safe : CheckedIsSafe
 checked_is_safe parts formed checked = safe parts formed checked
