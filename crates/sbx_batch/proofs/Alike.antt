@@ -5,6 +5,7 @@ use Rattle.v8_loaded.specs.States.{IsState}
 use Rattle.v8_board.specs.declared.outcome.Ending.{Ending}
 use Rattle.v8_board.specs.declared.outcome.Ending.TheVariants.{Exit}
 use Rattle.v8_board.specs.declared.outcome.Outcome.{Outcome}
+use Rattle.v8_board.specs.Contains.{Contains}
 use Rattle.v8_board.specs.Seen.{State}
 use Rattle.v8_board.specs.Start.{IsStart}
 use Rattle.sbx_image.specs.Parts.{Parts}
@@ -67,8 +68,8 @@ module _ (n : ℕ) (parts : Parts) (input : List ℕ) (old end : State n) (image
   finishes : (start : State n) → IsStart n parts (with_input old input) start → Finishes n parts input [] start
   finishes start loaded = runs_to_its_end n parts input (with_input old input) start image safe bytes any loaded
 
-  pub next : (f : Finished) → EndsOn n parts (with_input old input) end (ended_of f) → f.output.items ≡ end.world.memory.device.output → KeepsItsDepth parts n (told_of f) → IsNext n parts input f old end
-  next f ends output depth =
+  pub next : (f : Finished) → EndsOn n parts (with_input old input) end (ended_of f) → f.output.items ≡ end.world.memory.device.output → KeepsItsDepth parts n (told_of f) → Contains n parts end → IsNext n parts input f old end
+  next f ends output depth contained =
       record {
         ends = ends;
         output = output;
@@ -78,4 +79,5 @@ module _ (n : ℕ) (parts : Parts) (input : List ℕ) (old end : State n) (image
             let pages = runs_use_the_same n parts input end is.run.end image formed checked bytes ran (single_ran n parts input single is) in
             (told.0, output ∙ ends.put_out ∙ told.1, ends.pages ∙ pages ∙ sym is.run.pages ∙ sym is.pages);
         depth = depth;
+        contained = contained;
       }

@@ -16,4 +16,4 @@ returns-in-Ok-extend_from_slice-clause-next g c =
     let formed : IsFormed parts = subst IsFormed c.image-image.ensures.image c.tells_form.ensures in
     let output : c.extend_from_slice.new.self.items ≡ end.world.memory.device.output = search rules in
     next g.row.N parts c.args.input.now c.args.board.now.state end limits formed c.image-image.ensures.checked c.image-image.ensures.safe bytes c.requires _
-    (subst (λ (s : State g.row.N). EndsOn g.row.N parts s end c.in-Ok.ended) c.set_back.ensures c.in-Ok.ensures.ended) output c.in-Ok.ensures.depth
+    (subst (λ (s : State g.row.N). EndsOn g.row.N parts s end c.in-Ok.ended) c.set_back.ensures c.in-Ok.ensures.ended) output c.in-Ok.ensures.depth c.run_board.ensures.contained
