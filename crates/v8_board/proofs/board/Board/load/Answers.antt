@@ -1,6 +1,8 @@
 use Rattle.std.proofs.lemmas.Grind.{common_steps}
-use Rattle.std.proofs.Common.{◌≡◌, ◌^◌, ◌<◌, ap, arith}
+use Rattle.std.proofs.Common.{◌≡◌, ◌^◌, ◌<◌, ap, ◌∙◌, arith}
 use Rattle.v8_core.specs.Control.{Control}
+use Rattle.v8_contained.specs.declared.Memory.{Memory}
+use Rattle.v8_board.specs.Seen.{Seen}
 use Rattle.v8_board.proofs.Placed.{placed_kept, placed_loaded, placed_maps}
 use Rattle.v8_board.proofs.Contained.{boots_state, control_is, loads_contained}
 use Rattle.v8_board.proofs.board.Board.load.Goals as goal
@@ -33,3 +35,13 @@ returns-clause-state g c =
     let y : old.control.y < 2 ^ 32 = omega (arith, kept, read) in
     boots_state g.row.N old new c.boot.new.self.bus.ram c.boot.new.self.mmu _ c.boot.ensures.cpu y c.boot.ensures.file
     (rw c.boot.ensures.bus c.place.ensures.ram.size) (rw c.boot.ensures.bus c.place.ensures.bytes) (rw c.boot.ensures.mmu c.self.invariant.2)
+
+pub returns-clause-failed : goal.returns-clause-failed
+returns-clause-failed g c =
+    let port : c.boot.new.self.bus.port ≡ c.self.inside.machine.bus.port = ap (λ (m : Memory g.row.P.Denot). m.port) c.boot.ensures.bus ∙ c.place.ensures.port ∙ ap (λ (m : Memory g.row.P.Denot). m.port) c.bus_mut.ensures.value in
+    ap g.P.Port.failed port ∙ ap (λ (s : Seen g.row.N). s.failed) c.self.view_is
+
+pub returns-clause-calls : goal.returns-clause-calls
+returns-clause-calls g c =
+    let port : c.boot.new.self.bus.port ≡ c.self.inside.machine.bus.port = ap (λ (m : Memory g.row.P.Denot). m.port) c.boot.ensures.bus ∙ c.place.ensures.port ∙ ap (λ (m : Memory g.row.P.Denot). m.port) c.bus_mut.ensures.value in
+    ap g.P.Port.calls port ∙ ap (λ (s : Seen g.row.N). s.calls) c.self.view_is

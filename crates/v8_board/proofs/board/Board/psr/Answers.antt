@@ -1,5 +1,7 @@
-use Rattle.std.proofs.Common.{rules}
+use Rattle.std.proofs.Common.{ap, ◌∙◌}
+use Rattle.v8_core.specs.Registers.{psr_of}
+use Rattle.v8_board.specs.Seen.{Seen}
 use Rattle.v8_board.proofs.board.Board.psr.Goals as goal
 
 pub returns : goal.returns
-returns g c = search rules
+returns g c = c.psr.ensures ∙ ap (λ (s : Seen g.row.N). psr_of g.row.N s.state.world.cpu) c.self.view_is

@@ -45,3 +45,21 @@ returns-in-Err-clause-goes_on g c =
     let stands = cut_short g.row.N c.args.limit c.loop-done.done c.args.self.now.state c.loop-done.self.state c.loop-done.invariant.0 (omega arith) (sym c.ending.ensures ∙ c.in-None.is) in
     let rest = goes_on g.row.N c.args.limit c.args.self.now.state c.loop-done.self.state stands in
     rw c.in-Err.ensures.state rest
+
+pub returns-in_default-clause-told : goal.returns-in_default-clause-told
+returns-in_default-clause-told g c = c.outcome.ensures
+
+pub returns-in_default-clause-count : goal.returns-in_default-clause-count
+returns-in_default-clause-count g c = c.loop-done.invariant.1
+
+pub returns-clause-told : goal.returns-clause-told
+returns-clause-told g c = c.outcome-2.ensures
+
+pub returns-clause-count : goal.returns-clause-count
+returns-clause-count g c = c.loop-done.invariant.1
+
+pub returns-in-Err-clause-count : goal.returns-in-Err-clause-count
+returns-in-Err-clause-count g c = rw (sym c.loop-done.invariant.1) c.in-Err.ensures.count
+
+pub returns-in-Err-clause-own : goal.returns-in-Err-clause-own
+returns-in-Err-clause-own g c = c.in-Err.ensures.own

@@ -1,4 +1,6 @@
-use Rattle.std.proofs.Common.{rules, ap, sym}
+use Rattle.std.proofs.Common.{rules, ap, sym, subst, ◌≤◌, ◌+◌}
+use Rattle.v8_core.specs.Calls.{calls_by}
+use Rattle.v8_contained.specs.Board.{board}
 use Rattle.v8_board.specs.Seen.{Seen, turned}
 use Rattle.v8_board.proofs.board.Board.turn.Goals as goal
 
@@ -15,3 +17,16 @@ returns-in-Err-clause-count g c = rw (sym (ap (λ (s : Seen g.row.N). s.failed) 
 pub returns-in-Err-clause-state : goal.returns-in-Err-clause-state
 returns-in-Err-clause-state g c =
     rw (c.in-Err.ensures.cpu, c.in-Err.ensures.ram, c.in-Err.ensures.device, c.step.ensures.mmu) (ap (λ (s : Seen g.row.N). s.state) c.self.view_is)
+
+pub returns-in-Ok-clause-calls : goal.returns-in-Ok-clause-calls
+returns-in-Ok-clause-calls g c =
+    let calls = g.P.Port.calls c.step.new.self.bus.port in
+    subst (λ (s : Seen g.row.N). (s.calls ≤ calls) × (calls ≤ s.calls + calls_by board s.state.world.memory.device c.in-Ok.turn.access)) c.self.view_is c.in-Ok.ensures.calls
+
+pub returns-in-Err-clause-calls : goal.returns-in-Err-clause-calls
+returns-in-Err-clause-calls g c =
+    let calls = g.P.Port.calls c.step.new.self.bus.port in
+    subst (λ (s : Seen g.row.N). (s.calls ≤ calls) × (calls ≤ s.calls + 1)) c.self.view_is c.in-Err.ensures.calls
+
+pub returns-in-Err-clause-own : goal.returns-in-Err-clause-own
+returns-in-Err-clause-own g c = c.in-Err.ensures.own
