@@ -1,5 +1,6 @@
-use Rattle.std.proofs.Common.{rules}
+use Rattle.std.proofs.Common.{ap}
+use Rattle.v8_core.specs.Parts.{Parts}
 use Rattle.v8_core.proofs.machine.Machine.npc.Goals as goal
 
 pub returns : goal.returns
-returns g c = search rules
+returns g c = ap (λ (p : Parts g.row.N g.row.B.Denot). p.cpu.control.npc) c.self.view_is
