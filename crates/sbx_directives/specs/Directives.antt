@@ -2,7 +2,7 @@
 use Rattle.std.specs.Prelude.{ℕ, ◌+◌, ◌==◌, Bool, true, false, ◌||◌, if◌then◌else◌, pos, negsuc, List, [], ◌∷◌, length, Option, Some, None, codes}
 use Rattle.std.specs.Str.{bytes_eq}
 use Rattle.std.specs.List.{find, list_any, list_all}
-use Rattle.std.specs.Option.{option_map_or}
+use Rattle.std.specs.Option.{option_map, option_map_or}
 use Rattle.sbx_text.specs.declared.Token.{Token}
 use Rattle.v8_syntax.specs.declared.word.Word.{Word}
 use Rattle.v8_syntax.specs.declared.word.Word.TheVariants as words
@@ -23,38 +23,32 @@ use Rattle.sbx_directives.specs.declared.operand.Operand.TheVariants as operands
 use Rattle.sbx_directives.specs.Lines.{text_of}
 use Rattle.sbx_directives.specs.Operands.{◌>>=◌, operands_of, integer_in, natural_in, range_of, coefficient, plain_name, location}
 
-abbrev pub name_of : Keyword → List ℕ
-name_of keywords.Text = codes ".text"
-name_of keywords.Data = codes ".data"
-name_of keywords.Region = codes ".region"
-name_of keywords.Services = codes ".services"
-name_of keywords.Stack = codes ".stack"
-name_of keywords.Function = codes ".function"
-name_of keywords.Param = codes ".param"
-name_of keywords.Result = codes ".result"
-name_of keywords.Depth = codes ".depth"
-name_of keywords.Block = codes ".block"
-name_of keywords.Cell = codes ".cell"
-name_of keywords.Fuel = codes ".fuel"
-name_of keywords.Term = codes ".term"
-name_of keywords.Word = codes ".word"
-name_of keywords.Half = codes ".half"
-name_of keywords.Byte = codes ".byte"
-name_of keywords.Skip = codes ".skip"
-name_of keywords.Align = codes ".align"
-
-unfoldable pub all_keywords : List Keyword
-all_keywords =
-    keywords.Text ∷ keywords.Data ∷ keywords.Region ∷ keywords.Services ∷ keywords.Stack
-    ∷ keywords.Function ∷ keywords.Param ∷ keywords.Result ∷ keywords.Depth ∷ keywords.Block
-    ∷ keywords.Cell ∷ keywords.Fuel ∷ keywords.Term
-    ∷ keywords.Word ∷ keywords.Half ∷ keywords.Byte ∷ keywords.Skip ∷ keywords.Align ∷ []
+-- by their names
+unfoldable pub named_keywords : List (List ℕ × Keyword)
+named_keywords =
+    (codes ".text", keywords.Text)
+    ∷ (codes ".data", keywords.Data)
+    ∷ (codes ".region", keywords.Region)
+    ∷ (codes ".services", keywords.Services)
+    ∷ (codes ".stack", keywords.Stack)
+    ∷ (codes ".function", keywords.Function)
+    ∷ (codes ".param", keywords.Param)
+    ∷ (codes ".result", keywords.Result)
+    ∷ (codes ".depth", keywords.Depth)
+    ∷ (codes ".block", keywords.Block)
+    ∷ (codes ".cell", keywords.Cell)
+    ∷ (codes ".fuel", keywords.Fuel)
+    ∷ (codes ".term", keywords.Term)
+    ∷ (codes ".word", keywords.Word)
+    ∷ (codes ".half", keywords.Half)
+    ∷ (codes ".byte", keywords.Byte)
+    ∷ (codes ".skip", keywords.Skip)
+    ∷ (codes ".align", keywords.Align)
+    ∷ []
 
 -- the keyword of a name
 unfoldable pub keyword_named : List ℕ → Option Keyword
-keyword_named name = find (λ k. bytes_eq (name_of k) name) all_keywords
-
--- ---- operands of some directives
+keyword_named name = option_map (λ x. x.1) (find (λ x. bytes_eq x.0 name) named_keywords)
 
 -- that name
 abbrev pub names : List ℕ → List ℕ → Operand → Bool
@@ -103,8 +97,7 @@ unfoldable pub value_count : List Operand → Option ℕ
 value_count [] = None
 value_count os = if list_all is_expression os then Some (length os) else None
 
--- ---- the table: what the operands of each directive are
-
+-- The table: what the operands of each directive are.
 unfoldable pub directive_of : List ℕ → Keyword → List Operand → Option Directive
 directive_of line keywords.Text [] = Some directives.Text
 directive_of line keywords.Data [] = Some directives.Data
@@ -131,8 +124,6 @@ directive_of line keywords.Byte os = value_count os >>= λ n. Some (directives.V
 directive_of line keywords.Skip (o ∷ []) = natural_in 0 18446744073709551615 o >>= λ n. Some (directives.Skip n)
 directive_of line keywords.Align (o ∷ []) = natural_in 2 8 o >>= λ n. if n == 2 || (n == 4 || n == 8) then Some (directives.Align n) else None
 directive_of line _ _ = None
-
--- ---- a line behind its labels
 
 -- what a function or a block is called, whatever its other operands
 unfoldable pub called : Keyword → List Operand → Option Name

@@ -18,8 +18,6 @@ abbrev pub ◌>>=◌ : {A B : Type 0} → Option A → (A → Option B) → Opti
 (Some x) >>= f = f x
 None >>= f = None
 
--- ---- what stands between the commas
-
 -- an operand by its words
 unfoldable pub operand_of : List Word → Operand
 operand_of (words.Number n ∷ []) = operands.Number (pos n)
@@ -47,8 +45,6 @@ abbrev pub behind : List ℕ → List Token → List Operand
 behind line [] = []
 behind line (t ∷ ts) = map operand_of (slice_split is_comma (words_of line ts))
 
--- ---- numbers
-
 abbrev pub is_between : ℤ → ℤ → ℤ → Bool
 is_between low high z = int_le low z && int_le z high
 
@@ -73,8 +69,6 @@ range_of _ = None
 -- any number but 0
 abbrev pub coefficient : Operand → Option ℤ
 coefficient o = integer_in (negsuc 2147483647) (pos 2147483647) o >>= λ z. if is_coefficient z then Some z else None
-
--- ---- names and locations
 
 abbrev pub plain_name : Operand → Option Name
 plain_name (operands.Name x) = Some x
