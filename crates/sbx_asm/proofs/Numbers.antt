@@ -1,5 +1,5 @@
 -- The numbers of a directive are such that their fields can hold them.
-use Rattle.std.proofs.Common.{◌≡◌, ℕ, ◌+◌, ◌^◌, ◌<◌, ◌≤◌, Bool, true, false, ℤ, pos, negsuc, List, [], ◌∷◌, Option, None, Some, IfSome, arith}
+use Rattle.std.proofs.Common.{◌≡◌, ℕ, ◌+◌, ◌^◌, ◌<◌, ◌≤◌, Bool, true, false, cond, ℤ, pos, negsuc, List, [], ◌∷◌, Option, None, Some, IfSome, arith}
 use Rattle.std.specs.Prelude.{◌&&◌, ◌||◌, ◌==◌, int_le, nat_le, codes, FitsSigned}
 use Rattle.std.specs.Int.{w32, w64}
 use Rattle.std.specs.List.{list_all, list_any}
@@ -22,7 +22,7 @@ use Rattle.sbx_directives.specs.declared.directive.Statement.TheVariants as stat
 use Rattle.sbx_directives.specs.declared.operand.Operand.{Operand}
 use Rattle.sbx_directives.specs.declared.operand.Operand.TheVariants as operands
 use Rattle.sbx_directives.specs.Operands.{◌>>=◌, operands_of, is_between, integer_in, natural_in, range_of, coefficient, plain_name, location}
-use Rattle.sbx_directives.specs.Directives.{bit_if, names, named_services, is_service, services_of, frames_of, right_of, value_count, directive_of, called, told, keyword_named, begun, statement_of}
+use Rattle.sbx_directives.specs.Directives.{names, named_services, is_service, services_of, frames_of, right_of, value_count, directive_of, called, told, keyword_named, begun, statement_of}
 use Rattle.sbx_asm.proofs.Wholes.{whatever}
 
 -- each number that a directive has for the image
@@ -72,11 +72,11 @@ depth_between (operands.Number (pos n)) =
     cond_both (nat_le 0 n && nat_le n 256) (Some n) None (λ k. IfSome k (λ m. m < 2 ^ 16)) (λ h. let k = leb-true n 256 (second (nat_le 0 n) (nat_le n 256) h) in omega arith) (λ _. tt)
 depth_between _ = tt
 
-bit_small : (t : Bool) (bit : ℕ) → bit_if t bit ≤ bit
+bit_small : (t : Bool) (bit : ℕ) → cond t bit 0 ≤ bit
 bit_small true bit = omega arith
 bit_small false bit = omega arith
 
-bits_small : (t u v : Bool) → bit_if t 1 + bit_if u 2 + bit_if v 4 < 2 ^ 16
+bits_small : (t u v : Bool) → cond t 1 0 + cond u 2 0 + cond v 4 0 < 2 ^ 16
 bits_small t u v = omega (arith, bit_small t 1, bit_small u 2, bit_small v 4)
 
 services_small : (line : List ℕ) (os : List Operand) → named_services line os < 2 ^ 16

@@ -72,13 +72,12 @@ right_of line o =
 abbrev pub is_service : List ℕ → Operand → Bool
 is_service line o = names (codes "exit") line o || (names (codes "get") line o || names (codes "put") line o)
 
-abbrev pub bit_if : Bool → ℕ → ℕ
-bit_if test bit = if test then bit else 0
-
 -- the set of the services that are named
 abbrev pub named_services : List ℕ → List Operand → ℕ
 named_services line os =
-    bit_if (list_any (names (codes "exit") line) os) 1 + bit_if (list_any (names (codes "get") line) os) 2 + bit_if (list_any (names (codes "put") line) os) 4
+    (if list_any (names (codes "exit") line) os then 1 else 0)
+    + (if list_any (names (codes "get") line) os then 2 else 0)
+    + (if list_any (names (codes "put") line) os then 4 else 0)
 
 -- at least one
 unfoldable pub services_of : List ℕ → List Operand → Option Services

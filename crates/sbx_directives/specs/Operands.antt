@@ -53,6 +53,7 @@ unfoldable pub integer_in : ℤ → ℤ → Operand → Option ℤ
 integer_in low high (operands.Number z) = if is_between low high z then Some z else None
 integer_in low high _ = None
 
+-- the same of one that is not negative; `-0` is 0
 unfoldable pub natural_in : ℕ → ℕ → Operand → Option ℕ
 natural_in low high (operands.Number (pos n)) = if nat_le low n && nat_le n high then Some n else None
 natural_in low high _ = None

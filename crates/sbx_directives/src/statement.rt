@@ -1,9 +1,9 @@
 // What stands behind the labels of a line.
-ghost use Rattle.std.specs.Prelude.{◌≡◌, ◌≤◌, pos, negsuc};
+ghost use Rattle.std.specs.Prelude.{◌≡◌, ◌≤◌, if◌then◌else◌, pos, negsuc};
 ghost use Rattle.std.specs.List.{list_any, list_all};
 ghost use Rattle.sbx_directives.specs.declared.directive.Keyword.TheVariants as keywords;
 ghost use Rattle.sbx_directives.specs.Operands.{integer_in, behind};
-ghost use Rattle.sbx_directives.specs.Directives.{names, frames_of, right_of, is_service, bit_if, named_services, services_of, is_expression, value_count, directive_of, called, told, statement_of};
+ghost use Rattle.sbx_directives.specs.Directives.{names, frames_of, right_of, is_service, named_services, services_of, is_expression, value_count, directive_of, called, told, statement_of};
 
 use crate::directive::{Directive, Keyword, Name, Statement, Width, text_of};
 use crate::keyword::keyword_named;
@@ -82,7 +82,7 @@ fn are_services(line: &[u8], tokens: &[Token]) -> bool
 }
 
 fn bit_if(test: bool, bit: u16) -> u16
-    ensures value { result ≡ bit_if test bit }
+    ensures value { result ≡ (if test then bit else 0) }
     ensures bound { result ≤ bit }
 {
     if test { bit } else { 0 }
