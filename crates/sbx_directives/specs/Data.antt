@@ -2,9 +2,8 @@
 use Rattle.std.specs.Prelude.{◌≡◌, ◌≢◌, ℕ, ◌-◌, Bool, false, not, if◌then◌else◌, ℤ, pos, negsuc, ◌+ℤ◌, neg_ℤ, List, [], ◌++◌, drop, Option, Some, None, Result, Ok, Err, MatchResult}
 use Rattle.std.specs.List.{flat_map, list_all}
 use Rattle.std.specs.Int.{w8, w16, w32, to_be_bytes}
-use Rattle.std.specs.Option.{is_some, is_none, option_map_or}
+use Rattle.std.specs.Option.{is_some, is_none, option_map, option_map_or}
 use Rattle.sbx_text.specs.declared.Token.{Token}
-use Rattle.sbx_directives.specs.declared.directive.Name.{Name}
 use Rattle.sbx_directives.specs.declared.directive.Width.{Width}
 use Rattle.sbx_directives.specs.declared.directive.Width.TheVariants as widths
 use Rattle.sbx_directives.specs.declared.fault.DataFault.{DataFault}
@@ -13,7 +12,7 @@ use Rattle.want.specs.Wants.{refused}
 use Rattle.sbx_directives.specs.declared.operand.Operand.{Operand}
 use Rattle.sbx_directives.specs.declared.operand.Operand.TheVariants as operands
 use Rattle.sbx_directives.specs.Lines.{text_of}
-use Rattle.sbx_directives.specs.Operands.{◌>>=◌, operands_of, is_between}
+use Rattle.sbx_directives.specs.Operands.{operands_of, is_between}
 use Rattle.sbx_directives.specs.Directives.{value_count}
 
 abbrev pub bytes_of_width : Width → ℕ
@@ -40,16 +39,12 @@ spelled widths.Word z = to_be_bytes w32 (of_bits 4294967296 z)
 
 -- what the symbols are worth, and the line
 module _ (values : List ℕ → Option ℕ) (line : List ℕ) where
-  -- a symbol and a number
-  abbrev pub moved : Name → ℤ → Option ℤ
-  moved x z = values (text_of line x) >>= λ v. Some (pos v +ℤ z)
-
-  -- a whole number, none where its symbol is unknown
+  -- the whole number that an expression is, none where its symbol is unknown
   abbrev pub value_of : Operand → Option ℤ
   value_of (operands.Number z) = Some z
-  value_of (operands.Name x) = moved x (pos 0)
-  value_of (operands.Sum x n) = moved x (pos n)
-  value_of (operands.Difference x n) = moved x (neg_ℤ (pos n))
+  value_of (operands.Name x) = option_map pos (values (text_of line x))
+  value_of (operands.Sum x n) = option_map (λ v. pos v +ℤ pos n) (values (text_of line x))
+  value_of (operands.Difference x n) = option_map (λ v. pos v +ℤ neg_ℤ (pos n)) (values (text_of line x))
   value_of _ = None
 
   abbrev pub is_known : Operand → Bool

@@ -23,7 +23,7 @@ use Rattle.sbx_directives.specs.declared.operand.Operand.TheVariants as operands
 use Rattle.sbx_directives.specs.Lines.{text_of}
 use Rattle.sbx_directives.specs.Operands.{◌>>=◌, operands_of, integer_in, natural_in, range_of, coefficient, plain_name, location}
 
--- by their names
+-- the directives and annotations by their names
 unfoldable pub named_keywords : List (List ℕ × Keyword)
 named_keywords =
     (codes ".text", keywords.Text)
@@ -50,7 +50,7 @@ named_keywords =
 unfoldable pub keyword_named : List ℕ → Option Keyword
 keyword_named name = option_map (λ x. x.1) (find (λ x. bytes_eq x.0 name) named_keywords)
 
--- that name
+-- the name that is wanted
 abbrev pub names : List ℕ → List ℕ → Operand → Bool
 names wanted line (operands.Name x) = bytes_eq (text_of line x) wanted
 names wanted line _ = false
@@ -79,7 +79,7 @@ named_services line os =
     + (if list_any (names (codes "get") line) os then 2 else 0)
     + (if list_any (names (codes "put") line) os then 4 else 0)
 
--- at least one
+-- of the services at least one
 unfoldable pub services_of : List ℕ → List Operand → Option Services
 services_of line [] = None
 services_of line os = if list_all (is_service line) os then Some (record { 0 = named_services line os }) else None

@@ -35,12 +35,12 @@ abbrev pub is_comma : Word → Bool
 is_comma (words.Sign b) = b == 44
 is_comma _ = false
 
--- none where no token stands
+-- what some tokens have between their commas; none where there is no token
 abbrev pub operands_of : List ℕ → List Token → List Operand
 operands_of line [] = []
 operands_of line tokens = map operand_of (slice_split is_comma (words_of line tokens))
 
--- those behind a first token, which may be a comma: at least one
+-- what stands behind a first token, which may be a comma: an operand at least
 abbrev pub behind : List ℕ → List Token → List Operand
 behind line [] = []
 behind line (t ∷ ts) = map operand_of (slice_split is_comma (words_of line ts))

@@ -1,11 +1,12 @@
 // The values of a data directive as bytes.
-ghost use Rattle.std.specs.Prelude.{◌≡◌, ◌++◌, ℕ, List, Option, pos, negsuc, ◌≤ℤ◌, length, take, OnOk, OnErr, true};
+ghost use Rattle.std.specs.Prelude.{◌≡◌, ◌++◌, ℕ, List, Option, pos, negsuc, ◌+ℤ◌, ◌≤ℤ◌, length, take, OnOk, OnErr, true};
 ghost use Rattle.std.specs.List.{flat_map, list_all};
+ghost use Rattle.std.specs.Option.{option_map};
 ghost use Rattle.std.specs.Int.{w8, w16, w32, to_be_bytes};
 ghost use Rattle.sbx_directives.specs.Operands.{behind};
-ghost use Rattle.sbx_directives.specs.Data.{bytes_of_width, fits, of_bits, spelled, moved, value_of, is_known, is_fit, bytes_of, listed, data_of, Gives};
+ghost use Rattle.sbx_directives.specs.Data.{bytes_of_width, fits, of_bits, spelled, value_of, is_known, is_fit, bytes_of, listed, data_of, Gives};
 
-use crate::directive::{Name, Width, text_of};
+use crate::directive::{Width, text_of};
 use crate::fault::DataFault;
 use crate::operand::{Operand, next_operand, operands};
 use crate::statement::value_count;
@@ -34,13 +35,13 @@ fn fits(width: Width, value: i128) -> bool
     }
 }
 
-/// What a symbol and a number make.
-fn moved<S: Symbols>(symbols: &S, line: &[u8], name: Name, by: i128) -> Option<i128>
+/// A symbol and a number.
+fn moved<S: Symbols>(symbols: &S, name: &[u8], by: i128) -> Option<i128>
     requires low { negsuc 18446744073709551615 ≤ℤ by }
     requires high { by ≤ℤ pos 18446744073709551615 }
-    ensures { result ≡ moved (S.values symbols.now) line.now name by }
+    ensures { result ≡ option_map (λ v. pos v +ℤ by) (S.values symbols.now name.now) }
 {
-    let word = symbols.value(text_of(line, name))?;
+    let word = symbols.value(name)?;
     Some(i128::from(word) + by)
 }
 
@@ -50,9 +51,13 @@ fn value_of<S: Symbols>(symbols: &S, line: &[u8], operand: Operand) -> Option<i1
 {
     match operand {
         Operand::Number(number) => Some(number),
-        Operand::Name(name) => moved(symbols, line, name, 0),
-        Operand::Sum(name, number) => moved(symbols, line, name, i128::from(number)),
-        Operand::Difference(name, number) => moved(symbols, line, name, -i128::from(number)),
+        Operand::Name(name) => Some(i128::from(symbols.value(text_of(line, name))?)),
+        Operand::Sum(name, number) => moved(symbols, text_of(line, name), i128::from(number)),
+        Operand::Difference(name, number) => moved(
+            symbols,
+            text_of(line, name),
+            -i128::from(number),
+        ),
         _ => None,
     }
 }
