@@ -1,7 +1,7 @@
 -- The values of a data directive are bytes.
 use Rattle.std.proofs.Common.{ℕ, zero, suc, ◌<◌, ℤ, List, [], ◌∷◌, Option, None, Some, Result, Ok, IfOk, arith}
 use Rattle.std.specs.Prelude.{not, drop}
-use Rattle.std.specs.Option.{is_none}
+use Rattle.std.specs.Option.{is_none, option_map_or}
 use Rattle.std.specs.List.{AllByRecursion, flat_map, list_all}
 use Rattle.std.specs.Int.{w8, w16, w32, to_be_bytes}
 use Rattle.std.proofs.lemmas.Bool.{cond_both}
@@ -13,7 +13,7 @@ use Rattle.sbx_directives.specs.declared.fault.DataFault.{DataFault}
 use Rattle.sbx_directives.specs.declared.operand.Operand.{Operand}
 use Rattle.sbx_directives.specs.Operands.{operands_of}
 use Rattle.sbx_directives.specs.Directives.{value_count}
-use Rattle.sbx_directives.specs.Data.{of_bits, spelled, spelled_some, value_of, is_known, is_fit, bytes_of, listed, data_of}
+use Rattle.sbx_directives.specs.Data.{of_bits, spelled, value_of, is_known, is_fit, bytes_of, listed, data_of}
 use Rattle.sbx_asm.proofs.Wholes.{flat_all}
 
 abbrev pub Bytes : List ℕ → Type 0
@@ -39,7 +39,7 @@ spelled_bytes widths.Byte z = one_byte (of_bits 256 z)
 spelled_bytes widths.Half z = two_bytes (of_bits 65536 z)
 spelled_bytes widths.Word z = four_bytes (of_bits 4294967296 z)
 
-some_bytes : (width : Width) (o : Option ℤ) → Bytes (spelled_some width o)
+some_bytes : (width : Width) (o : Option ℤ) → Bytes (option_map_or (spelled width) o [])
 some_bytes width (Some z) = spelled_bytes width z
 some_bytes width None = tt
 

@@ -1,13 +1,15 @@
 -- The numbers of a directive are such that their fields can hold them.
-use Rattle.std.proofs.Common.{◌≡◌, ℕ, ◌+◌, ◌^◌, ◌<◌, ◌≤◌, Bool, true, false, ℤ, pos, negsuc, List, [], ◌∷◌, Option, None, Some, IfSome, arith}
-use Rattle.std.specs.Prelude.{◌&&◌, int_le, nat_le, codes, FitsSigned}
+use Rattle.std.proofs.Common.{◌≡◌, ℕ, ◌+◌, ◌^◌, ◌<◌, ◌≤◌, Bool, true, false, cond, ℤ, pos, negsuc, List, [], ◌∷◌, Option, None, Some, IfSome, arith}
+use Rattle.std.specs.Prelude.{◌&&◌, ◌||◌, ◌==◌, int_le, nat_le, codes, FitsSigned}
 use Rattle.std.specs.Int.{w32, w64}
 use Rattle.std.specs.List.{list_all, list_any}
+use Rattle.std.specs.Option.{option_map_or}
 use Rattle.std.proofs.lemmas.Bool.{cond_both, leb-true}
 use Rattle.std.proofs.lemmas.Int.{ints}
 use Rattle.sbx_text.specs.declared.Token.{Token}
-use Rattle.sbx_text.specs.declared.Kind.{Kind}
-use Rattle.sbx_text.specs.declared.Kind.TheVariants as kinds
+use Rattle.v8_syntax.specs.declared.word.Word.{Word}
+use Rattle.v8_syntax.specs.declared.word.Word.TheVariants as words
+use Rattle.v8_syntax.specs.Words.{word_of}
 use Rattle.sbx_image.specs.Services.{Services}
 use Rattle.sbx_image.specs.Rules.{is_coefficient}
 use Rattle.sbx_image.specs.Spelling.{IsTypedRange, IsTypedCell, IsTypedTerm}
@@ -18,9 +20,9 @@ use Rattle.sbx_directives.specs.declared.directive.Directive.TheVariants as dire
 use Rattle.sbx_directives.specs.declared.directive.Statement.{Statement}
 use Rattle.sbx_directives.specs.declared.directive.Statement.TheVariants as statements
 use Rattle.sbx_directives.specs.declared.operand.Operand.{Operand}
-use Rattle.sbx_directives.specs.Lines.{text_of}
-use Rattle.sbx_directives.specs.Operands.{◌>>=◌, operands_of, is_between, integer, integer_in, natural, natural_in, range_of, coefficient, plain_name, location, none, one, two, three, four, five}
-use Rattle.sbx_directives.specs.Directives.{bit_if, names, named_services, is_service, is_alignment, services_of, frames_of, right_named, value_count, function_of, cell_of, term_of, ranged, numbered, fuel_of, alignment_of, directive_of, told, keyed, keyword_named, begun, statement_of}
+use Rattle.sbx_directives.specs.declared.operand.Operand.TheVariants as operands
+use Rattle.sbx_directives.specs.Operands.{◌>>=◌, operands_of, is_between, integer_in, natural_in, range_of, coefficient, plain_name, location}
+use Rattle.sbx_directives.specs.Directives.{names, named_services, is_service, services_of, frames_of, right_of, value_count, directive_of, called, told, keyword_named, begun, statement_of}
 use Rattle.sbx_asm.proofs.Wholes.{whatever}
 
 -- each number that a directive has for the image
@@ -57,7 +59,8 @@ long_fits (negsuc n) h = record { sfits = grind (arith, ints) }
 
 integer_between : (low high : ℤ) (o : Operand) → IfSome (integer_in low high o) (λ z. is_between low high z ≡ true)
 unfolding integer_in
-integer_between low high o = then_any _ (integer o) _ (λ z. cond_both (is_between low high z) (Some z) None (λ k. IfSome k (λ y. is_between low high y ≡ true)) (λ h. h) (λ _. tt))
+integer_between low high (operands.Number z) = cond_both (is_between low high z) (Some z) None (λ k. IfSome k (λ y. is_between low high y ≡ true)) (λ h. h) (λ _. tt)
+integer_between low high _ = tt
 
 second : (b c : Bool) → (b && c) ≡ true → c ≡ true
 second true c h = h
@@ -65,15 +68,15 @@ second false c h = absurd (cc)
 
 depth_between : (o : Operand) → IfSome (natural_in 0 256 o) (λ n. n < 2 ^ 16)
 unfolding natural_in
-depth_between o =
-    then_any (λ n. n < 2 ^ 16) (natural o) _
-    (λ n. cond_both (nat_le 0 n && nat_le n 256) (Some n) None (λ k. IfSome k (λ m. m < 2 ^ 16)) (λ h. let k = leb-true n 256 (second (nat_le 0 n) (nat_le n 256) h) in omega arith) (λ _. tt))
+depth_between (operands.Number (pos n)) =
+    cond_both (nat_le 0 n && nat_le n 256) (Some n) None (λ k. IfSome k (λ m. m < 2 ^ 16)) (λ h. let k = leb-true n 256 (second (nat_le 0 n) (nat_le n 256) h) in omega arith) (λ _. tt)
+depth_between _ = tt
 
-bit_small : (t : Bool) (bit : ℕ) → bit_if t bit ≤ bit
+bit_small : (t : Bool) (bit : ℕ) → cond t bit 0 ≤ bit
 bit_small true bit = omega arith
 bit_small false bit = omega arith
 
-bits_small : (t u v : Bool) → bit_if t 1 + bit_if u 2 + bit_if v 4 < 2 ^ 16
+bits_small : (t u v : Bool) → cond t 1 0 + cond u 2 0 + cond v 4 0 < 2 ^ 16
 bits_small t u v = omega (arith, bit_small t 1, bit_small u 2, bit_small v 4)
 
 services_small : (line : List ℕ) (os : List Operand) → named_services line os < 2 ^ 16
@@ -84,70 +87,46 @@ unfolding services_of
 services_fit line [] = tt
 services_fit line (o ∷ os) = cond_both (list_all (is_service line) (o ∷ os)) (Some (record { 0 = named_services line (o ∷ os) })) None (λ k. IfSome k (λ (x : Services). x.0 < 2 ^ 16)) (λ _. services_small line (o ∷ os)) (λ _. tt)
 
-range_fits : (a b c : Operand) → IfSome (range_of a b c) IsTypedRange
+range_fits : (os : List Operand) → IfSome (range_of os) IsTypedRange
 unfolding range_of
-range_fits a b c =
+range_fits (a ∷ b ∷ c ∷ []) =
     then_all (λ z. is_between (negsuc 2147483647) (pos 2147483647) z ≡ true) IsTypedRange (integer_in (negsuc 2147483647) (pos 2147483647) a) _ (integer_between _ _ a)
     (λ lo l. then_all (λ z. is_between (negsuc 2147483647) (pos 2147483647) z ≡ true) IsTypedRange (integer_in (negsuc 2147483647) (pos 2147483647) b) _ (integer_between _ _ b)
     (λ hi h. then_any IsTypedRange (natural_in 0 3 c) _
     (λ alignment. cond_both (int_le lo hi) (Some (record { lo = lo; hi = hi; alignment = alignment })) None (λ k. IfSome k IsTypedRange) (λ _. record { lo = word_fits lo l; hi = word_fits hi h }) (λ _. tt))))
+range_fits _ = tt
 
 coefficient_fits : (o : Operand) → IfSome (coefficient o) (FitsSigned w32)
 coefficient_fits o =
     then_all (λ z. is_between (negsuc 2147483647) (pos 2147483647) z ≡ true) (FitsSigned w32) (integer_in (negsuc 2147483647) (pos 2147483647) o) _ (integer_between _ _ o)
     (λ z h. cond_both (is_coefficient z) (Some z) None (λ k. IfSome k (FitsSigned w32)) (λ _. word_fits z h) (λ _. tt))
 
-ranged_fits : (os : List Operand) → IfSome (ranged os) IsTypedRange
-ranged_fits os = then_any IsTypedRange (three os) _ (λ x. range_fits x.0 x.1 x.2)
-
 -- ---- directives
-
-function_fits : (line : List ℕ) (os : List Operand) → FitSome (function_of line os)
-unfolding function_of
-function_fits line os =
-    then_any Fits (five os) _ (λ x. then_any Fits (plain_name x.0) _ (λ name. then_any Fits (frames_of line x.1) _ (λ kind. then_any Fits (natural_in 0 4096 x.2) _ (λ frame.
-    then_any Fits (natural_in 0 65536 x.3) _ (λ room. then_any Fits (natural_in 0 1099511627775 x.4) _ (λ budget. tt))))))
-
-cell_fits : (line : List ℕ) (os : List Operand) → FitSome (cell_of line os)
-unfolding cell_of
-cell_fits line os =
-    then_any Fits (four os) _ (λ x. then_any Fits (location line x.0) _ (λ place. then_all IsTypedRange Fits (range_of x.1 x.2 x.3) _ (range_fits x.1 x.2 x.3) (λ range h. h)))
-
-term_fits : (line : List ℕ) (os : List Operand) → FitSome (term_of line os)
-unfolding term_of
-term_fits line os =
-    then_any Fits (two os) _ (λ x. then_any Fits (location line x.0) _ (λ place. then_all (FitsSigned w32) Fits (coefficient x.1) _ (coefficient_fits x.1) (λ n h. h)))
-
-fuel_fits : (os : List Operand) → FitSome (fuel_of os >>= λ z. Some (directives.Fuel z))
-fuel_fits os =
-    then_all (λ z. is_between (negsuc 1099511627774) (pos 1099511627775) z ≡ true) Fits (fuel_of os) _ (then_any _ (one os) _ (λ o. integer_between _ _ o)) (λ z h. long_fits z h)
-
-depth_fits : (os : List Operand) → FitSome (numbered 0 256 os >>= λ n. Some (directives.Depth n))
-depth_fits os = then_all (λ n. n < 2 ^ 16) Fits (numbered 0 256 os) _ (then_any (λ n. n < 2 ^ 16) (one os) _ (λ o. depth_between o)) (λ n h. h)
-
-alignment_fits : (os : List Operand) → FitSome (alignment_of os)
-alignment_fits os = then_any Fits (numbered 2 8 os) _ (λ n. cond_both (is_alignment n) (Some (directives.Align n)) None FitSome (λ _. tt) (λ _. tt))
 
 directive_fits : (line : List ℕ) (k : Keyword) (os : List Operand) → FitSome (directive_of line k os)
 unfolding directive_of
-directive_fits line keywords.Text os = then_any Fits (none os) _ (λ _. tt)
-directive_fits line keywords.Data os = then_any Fits (none os) _ (λ _. tt)
-directive_fits line keywords.Region os = then_any Fits (one os >>= plain_name) _ (λ x. then_any Fits (right_named (text_of line x)) _ (λ writable. tt))
+directive_fits line keywords.Text [] = tt
+directive_fits line keywords.Data [] = tt
+directive_fits line keywords.Region (o ∷ []) = then_any Fits (right_of line o) _ (λ _. tt)
 directive_fits line keywords.Services os = then_all (λ x. x.0 < 2 ^ 16) Fits (services_of line os) _ (services_fit line os) (λ x h. h)
-directive_fits line keywords.Stack os = then_any Fits (numbered 1 16 os) _ (λ _. tt)
-directive_fits line keywords.Function os = function_fits line os
-directive_fits line keywords.Param os = then_all IsTypedRange Fits (ranged os) _ (ranged_fits os) (λ r h. h)
-directive_fits line keywords.Result os = then_all IsTypedRange Fits (ranged os) _ (ranged_fits os) (λ r h. h)
-directive_fits line keywords.Depth os = depth_fits os
-directive_fits line keywords.Block os = then_any Fits (one os >>= plain_name) _ (λ _. tt)
-directive_fits line keywords.Cell os = cell_fits line os
-directive_fits line keywords.Fuel os = fuel_fits os
-directive_fits line keywords.Term os = term_fits line os
+directive_fits line keywords.Stack (o ∷ []) = then_any Fits (natural_in 1 16 o) _ (λ _. tt)
+directive_fits line keywords.Function (a ∷ b ∷ c ∷ d ∷ e ∷ []) =
+    then_any Fits (plain_name a) _ (λ name. then_any Fits (frames_of line b) _ (λ kind. then_any Fits (natural_in 0 4096 c) _ (λ frame.
+    then_any Fits (natural_in 0 65536 d) _ (λ room. then_any Fits (natural_in 0 1099511627775 e) _ (λ budget. tt)))))
+directive_fits line keywords.Param os = then_all IsTypedRange Fits (range_of os) _ (range_fits os) (λ r h. h)
+directive_fits line keywords.Result os = then_all IsTypedRange Fits (range_of os) _ (range_fits os) (λ r h. h)
+directive_fits line keywords.Depth (o ∷ []) = then_all (λ n. n < 2 ^ 16) Fits (natural_in 0 256 o) _ (depth_between o) (λ n h. h)
+directive_fits line keywords.Block (o ∷ []) = then_any Fits (plain_name o) _ (λ _. tt)
+directive_fits line keywords.Cell (o ∷ os) = then_any Fits (location line o) _ (λ place. then_all IsTypedRange Fits (range_of os) _ (range_fits os) (λ r h. h))
+directive_fits line keywords.Fuel (o ∷ []) =
+    then_all (λ z. is_between (negsuc 1099511627774) (pos 1099511627775) z ≡ true) Fits (integer_in (negsuc 1099511627774) (pos 1099511627775) o) _ (integer_between _ _ o) (λ z h. long_fits z h)
+directive_fits line keywords.Term (o ∷ p ∷ []) = then_any Fits (location line o) _ (λ place. then_all (FitsSigned w32) Fits (coefficient p) _ (coefficient_fits p) (λ n h. h))
 directive_fits line keywords.Word os = then_any Fits (value_count os) _ (λ _. tt)
 directive_fits line keywords.Half os = then_any Fits (value_count os) _ (λ _. tt)
 directive_fits line keywords.Byte os = then_any Fits (value_count os) _ (λ _. tt)
-directive_fits line keywords.Skip os = then_any Fits (numbered 0 18446744073709551615 os) _ (λ _. tt)
-directive_fits line keywords.Align os = alignment_fits os
+directive_fits line keywords.Skip (o ∷ []) = then_any Fits (natural_in 0 18446744073709551615 o) _ (λ _. tt)
+directive_fits line keywords.Align (o ∷ []) = then_any Fits (natural_in 2 8 o) _ (λ n. cond_both (n == 2 || (n == 4 || n == 8)) (Some (directives.Align n)) None FitSome (λ _. tt) (λ _. tt))
+directive_fits line _ _ = tt
 
 -- ---- statements
 
@@ -155,21 +134,19 @@ abbrev pub StatementFits : Statement → Type 0
 StatementFits (statements.Directive d) = Fits d
 StatementFits _ = Unit {0}
 
-told_fits : (k : Keyword) (os : List Operand) (o : Option Directive) → FitSome o → StatementFits (told k os o)
+told_fits : (k : Keyword) (os : List Operand) (o : Option Directive) → FitSome o → StatementFits (option_map_or statements.Directive o (statements.Malformed k (called k os)))
 told_fits k os (Some d) h = h
 told_fits k os None h = tt
 
-keyed_fits : (line : List ℕ) (o : Option Keyword) (rest : List Token) → StatementFits (keyed line o rest)
-keyed_fits line (Some k) rest = told_fits k _ _ (directive_fits line k (operands_of line rest))
-keyed_fits line None rest = tt
+named_fits : (line : List ℕ) (o : Option Keyword) (os : List Operand) → StatementFits (option_map_or (λ k. told line k os) o statements.Instruction)
+named_fits line (Some k) os = told_fits k os _ (directive_fits line k os)
+named_fits line None os = tt
 
-begun_fits : (line : List ℕ) (kind : Kind) (first : Token) (rest : List Token) → StatementFits (begun line kind first rest)
-begun_fits line kinds.Name first rest = keyed_fits line (keyword_named _) rest
-begun_fits line kinds.Percent first rest = tt
-begun_fits line (kinds.Number n) first rest = tt
-begun_fits line kinds.Sign first rest = tt
+begun_fits : (line : List ℕ) (w : Word) (rest : List Token) → StatementFits (begun line w rest)
+begun_fits line (words.Name k start stop) rest = named_fits line (keyword_named _) (operands_of line rest)
+begun_fits line _ rest = tt
 
 pub statement_fits : (line : List ℕ) (ts : List Token) → StatementFits (statement_of line ts)
 unfolding statement_of
 statement_fits line [] = tt
-statement_fits line (first ∷ rest) = begun_fits line first.kind first rest
+statement_fits line (first ∷ rest) = begun_fits line (word_of line first) rest

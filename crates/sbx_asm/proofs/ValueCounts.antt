@@ -1,15 +1,16 @@
 -- A list of values has as many bytes as its directive says.
 use Rattle.std.proofs.Common.{◌≡◌, ℕ, suc, ◌+◌, ◌*◌, Bool, true, false, cond, ℤ, List, [], ◌∷◌, length, map, drop, Option, None, Some, IfSome, Result, Ok, Err, refl, ap, ◌∙◌, arith}
-use Rattle.std.specs.Prelude.{not, ◌&&◌}
-use Rattle.std.specs.Option.{is_none}
+use Rattle.std.specs.Prelude.{not, ◌&&◌, ◌||◌, ◌==◌}
+use Rattle.std.specs.Option.{is_none, option_map_or}
 use Rattle.std.specs.List.{AllByRecursion, flat_map, list_all}
 use Rattle.std.proofs.lemmas.Bool.{cond_both}
 use Rattle.std.proofs.lemmas.List.{length-append}
 use Rattle.sbx_text.specs.declared.Token.{Token}
-use Rattle.sbx_text.specs.declared.Kind.{Kind}
-use Rattle.sbx_text.specs.declared.Kind.TheVariants as kinds
 use Rattle.sbx_text.specs.declared.fault.TextFault.{TextFault}
 use Rattle.sbx_text.specs.Tokens.{tokens_of}
+use Rattle.v8_syntax.specs.declared.word.Word.{Word}
+use Rattle.v8_syntax.specs.declared.word.Word.TheVariants as words
+use Rattle.v8_syntax.specs.Words.{word_of}
 use Rattle.sbx_directives.specs.declared.directive.Width.{Width}
 use Rattle.sbx_directives.specs.declared.directive.Width.TheVariants as widths
 use Rattle.sbx_directives.specs.declared.directive.Keyword.{Keyword}
@@ -19,10 +20,10 @@ use Rattle.sbx_directives.specs.declared.directive.Directive.TheVariants as dire
 use Rattle.sbx_directives.specs.declared.directive.Statement.TheVariants as statements
 use Rattle.sbx_directives.specs.declared.fault.DataFault.TheVariants as data_faults
 use Rattle.sbx_directives.specs.declared.operand.Operand.{Operand}
-use Rattle.sbx_directives.specs.Lines.{text_of, label_count}
-use Rattle.sbx_directives.specs.Operands.{◌>>=◌, operands_of, natural_in, plain_name, location, none, one, two, four, five, range_of, coefficient}
-use Rattle.sbx_directives.specs.Directives.{is_alignment, is_expression, services_of, frames_of, right_named, value_count, function_of, cell_of, term_of, ranged, numbered, fuel_of, directive_of, told, keyed, keyword_named, begun, statement_of}
-use Rattle.sbx_directives.specs.Data.{bytes_of_width, fits_some, spelled, spelled_some, value_of, is_known, is_fit, bytes_of, listed, data_of}
+use Rattle.sbx_directives.specs.Lines.{label_count}
+use Rattle.sbx_directives.specs.Operands.{◌>>=◌, operands_of, integer_in, natural_in, range_of, coefficient, plain_name, location}
+use Rattle.sbx_directives.specs.Directives.{is_expression, services_of, frames_of, right_of, value_count, directive_of, called, told, keyword_named, begun, statement_of}
+use Rattle.sbx_directives.specs.Data.{bytes_of_width, fits, spelled, value_of, is_known, is_fit, bytes_of, listed, data_of}
 use Rattle.sbx_asm.specs.Items.{Item, Said, read_line, item_of, items_of, all_lines}
 use Rattle.sbx_asm.specs.Rules.{Values, value_rules}
 use Rattle.sbx_asm.specs.Images.{bytes_meant}
@@ -46,29 +47,29 @@ values_count : (os : List Operand) (w : Width) → CountsSome os (value_count os
 values_count os w = then_all (λ n. value_count os ≡ Some n) (Counts os) (value_count os) _ (given (value_count os)) (λ n h. h)
 
 directive_counts : (line : List ℕ) (k : Keyword) (os : List Operand) → CountsSome os (directive_of line k os)
-unfolding directive_of function_of cell_of term_of
-directive_counts line keywords.Text os = then_any (Counts os) (none os) _ (λ _. tt)
-directive_counts line keywords.Data os = then_any (Counts os) (none os) _ (λ _. tt)
-directive_counts line keywords.Region os = then_any (Counts os) (one os >>= plain_name) _ (λ x. then_any (Counts os) (right_named (text_of line x)) _ (λ writable. tt))
+unfolding directive_of
+directive_counts line keywords.Text [] = tt
+directive_counts line keywords.Data [] = tt
+directive_counts line keywords.Region (o ∷ []) = then_any (Counts (o ∷ [])) (right_of line o) _ (λ _. tt)
 directive_counts line keywords.Services os = then_any (Counts os) (services_of line os) _ (λ _. tt)
-directive_counts line keywords.Stack os = then_any (Counts os) (numbered 1 16 os) _ (λ _. tt)
-directive_counts line keywords.Function os =
-    then_any (Counts os) (five os) _ (λ x. then_any (Counts os) (plain_name x.0) _ (λ name. then_any (Counts os) (frames_of line x.1) _ (λ kind. then_any (Counts os) (natural_in 0 4096 x.2) _ (λ frame.
-    then_any (Counts os) (natural_in 0 65536 x.3) _ (λ room. then_any (Counts os) (natural_in 0 1099511627775 x.4) _ (λ budget. tt))))))
-directive_counts line keywords.Param os = then_any (Counts os) (ranged os) _ (λ _. tt)
-directive_counts line keywords.Result os = then_any (Counts os) (ranged os) _ (λ _. tt)
-directive_counts line keywords.Depth os = then_any (Counts os) (numbered 0 256 os) _ (λ _. tt)
-directive_counts line keywords.Block os = then_any (Counts os) (one os >>= plain_name) _ (λ _. tt)
-directive_counts line keywords.Cell os =
-    then_any (Counts os) (four os) _ (λ x. then_any (Counts os) (location line x.0) _ (λ place. then_any (Counts os) (range_of x.1 x.2 x.3) _ (λ _. tt)))
-directive_counts line keywords.Fuel os = then_any (Counts os) (fuel_of os) _ (λ _. tt)
-directive_counts line keywords.Term os = then_any (Counts os) (two os) _ (λ x. then_any (Counts os) (location line x.0) _ (λ place. then_any (Counts os) (coefficient x.1) _ (λ _. tt)))
+directive_counts line keywords.Stack (o ∷ []) = then_any (Counts (o ∷ [])) (natural_in 1 16 o) _ (λ _. tt)
+directive_counts line keywords.Function (a ∷ b ∷ c ∷ d ∷ e ∷ []) =
+    then_any _ (plain_name a) _ (λ name. then_any _ (frames_of line b) _ (λ kind. then_any _ (natural_in 0 4096 c) _ (λ frame.
+    then_any _ (natural_in 0 65536 d) _ (λ room. then_any (Counts (a ∷ b ∷ c ∷ d ∷ e ∷ [])) (natural_in 0 1099511627775 e) _ (λ budget. tt)))))
+directive_counts line keywords.Param os = then_any (Counts os) (range_of os) _ (λ _. tt)
+directive_counts line keywords.Result os = then_any (Counts os) (range_of os) _ (λ _. tt)
+directive_counts line keywords.Depth (o ∷ []) = then_any (Counts (o ∷ [])) (natural_in 0 256 o) _ (λ _. tt)
+directive_counts line keywords.Block (o ∷ []) = then_any (Counts (o ∷ [])) (plain_name o) _ (λ _. tt)
+directive_counts line keywords.Cell (o ∷ os) = then_any (Counts (o ∷ os)) (location line o) _ (λ place. then_any (Counts (o ∷ os)) (range_of os) _ (λ _. tt))
+directive_counts line keywords.Fuel (o ∷ []) = then_any (Counts (o ∷ [])) (integer_in _ _ o) _ (λ _. tt)
+directive_counts line keywords.Term (o ∷ p ∷ []) = then_any (Counts (o ∷ p ∷ [])) (location line o) _ (λ place. then_any (Counts (o ∷ p ∷ [])) (coefficient p) _ (λ _. tt))
 directive_counts line keywords.Word os = values_count os widths.Word
 directive_counts line keywords.Half os = values_count os widths.Half
 directive_counts line keywords.Byte os = values_count os widths.Byte
-directive_counts line keywords.Skip os = then_any (Counts os) (numbered 0 18446744073709551615 os) _ (λ _. tt)
-directive_counts line keywords.Align os =
-    then_any (Counts os) (numbered 2 8 os) _ (λ n. cond_both (is_alignment n) (Some (directives.Align n)) None (CountsSome os) (λ _. tt) (λ _. tt))
+directive_counts line keywords.Skip (o ∷ []) = then_any (Counts (o ∷ [])) (natural_in 0 18446744073709551615 o) _ (λ _. tt)
+directive_counts line keywords.Align (o ∷ []) =
+    then_any (Counts (o ∷ [])) (natural_in 2 8 o) _ (λ n. cond_both (n == 2 || (n == 4 || n == 8)) (Some (directives.Align n)) None (CountsSome (o ∷ [])) (λ _. tt) (λ _. tt))
+directive_counts line _ _ = tt
 
 -- ---- what a line says of them
 
@@ -80,24 +81,23 @@ SaysCount line ts _ = Unit {0}
 abbrev pub ItemCounts : Item → Type 0
 ItemCounts i = SaysCount i.bytes i.tokens i.said
 
-told_counts : (line : List ℕ) (first : Token) (rest : List Token) (k : Keyword) (o : Option Directive) → CountsSome (operands_of line rest) o → SaysCount line (first ∷ rest) (Ok (told k (operands_of line rest) o))
+told_counts : (line : List ℕ) (first : Token) (rest : List Token) (k : Keyword) (o : Option Directive) → CountsSome (operands_of line rest) o
+    → SaysCount line (first ∷ rest) (Ok (option_map_or statements.Directive o (statements.Malformed k (called k (operands_of line rest)))))
 told_counts line first rest k (Some d) h = h
 told_counts line first rest k None h = tt
 
-keyed_counts : (line : List ℕ) (first : Token) (o : Option Keyword) (rest : List Token) → SaysCount line (first ∷ rest) (Ok (keyed line o rest))
-keyed_counts line first (Some k) rest = told_counts line first rest k _ (directive_counts line k (operands_of line rest))
-keyed_counts line first None rest = tt
+named_counts : (line : List ℕ) (first : Token) (o : Option Keyword) (rest : List Token) → SaysCount line (first ∷ rest) (Ok (option_map_or (λ k. told line k (operands_of line rest)) o statements.Instruction))
+named_counts line first (Some k) rest = told_counts line first rest k _ (directive_counts line k (operands_of line rest))
+named_counts line first None rest = tt
 
-begun_counts : (line : List ℕ) (kind : Kind) (first : Token) (rest : List Token) → SaysCount line (first ∷ rest) (Ok (begun line kind first rest))
-begun_counts line kinds.Name first rest = keyed_counts line first (keyword_named _) rest
-begun_counts line kinds.Percent first rest = tt
-begun_counts line (kinds.Number n) first rest = tt
-begun_counts line kinds.Sign first rest = tt
+begun_counts : (line : List ℕ) (w : Word) (first : Token) (rest : List Token) → SaysCount line (first ∷ rest) (Ok (begun line w rest))
+begun_counts line (words.Name k start stop) first rest = named_counts line first (keyword_named _) rest
+begun_counts line _ first rest = tt
 
 statement_counts : (line : List ℕ) (ts : List Token) → SaysCount line ts (Ok (statement_of line ts))
 unfolding statement_of
 statement_counts line [] = tt
-statement_counts line (first ∷ rest) = begun_counts line first.kind first rest
+statement_counts line (first ∷ rest) = begun_counts line (word_of line first) first rest
 
 read_counts : (number : ℕ) (line : List ℕ) (r : Result (List Token) TextFault) → ItemCounts (read_line number line r)
 read_counts number line (Ok ts) = statement_counts line (drop (2 * label_count line ts) ts)
@@ -126,7 +126,7 @@ spelled_length widths.Byte z = refl
 spelled_length widths.Half z = refl
 spelled_length widths.Word z = refl
 
-one_length : (w : Width) (o : Option ℤ) → fits_some w o ≡ true → length (spelled_some w o) ≡ bytes_of_width w
+one_length : (w : Width) (o : Option ℤ) → option_map_or (fits w) o false ≡ true → length (option_map_or (spelled w) o []) ≡ bytes_of_width w
 one_length w (Some z) h = spelled_length w z
 one_length w None h = absurd (cc)
 

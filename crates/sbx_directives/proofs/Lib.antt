@@ -1,4 +1,3 @@
-pub mod Labels
 pub mod Groups
 pub mod Counts
 pub mod Appending

@@ -2,7 +2,7 @@
 use Rattle.std.specs.Prelude.{◌≡◌, ◌≢◌, ℕ, ◌-◌, Bool, false, not, if◌then◌else◌, ℤ, pos, negsuc, ◌+ℤ◌, neg_ℤ, List, [], ◌++◌, drop, Option, Some, None, Result, Ok, Err, MatchResult}
 use Rattle.std.specs.List.{flat_map, list_all}
 use Rattle.std.specs.Int.{w8, w16, w32, to_be_bytes}
-use Rattle.std.specs.Option.{is_some, is_none}
+use Rattle.std.specs.Option.{is_some, is_none, option_map, option_map_or}
 use Rattle.sbx_text.specs.declared.Token.{Token}
 use Rattle.sbx_directives.specs.declared.directive.Width.{Width}
 use Rattle.sbx_directives.specs.declared.directive.Width.TheVariants as widths
@@ -37,39 +37,24 @@ spelled widths.Byte z = to_be_bytes w8 (of_bits 256 z)
 spelled widths.Half z = to_be_bytes w16 (of_bits 65536 z)
 spelled widths.Word z = to_be_bytes w32 (of_bits 4294967296 z)
 
-abbrev pub moved : Option ℕ → ℤ → Option ℤ
-moved (Some v) z = Some (pos v +ℤ z)
-moved None z = None
-
-abbrev pub fits_some : Width → Option ℤ → Bool
-fits_some width (Some z) = fits width z
-fits_some width None = false
-
-abbrev pub spelled_some : Width → Option ℤ → List ℕ
-spelled_some width (Some z) = spelled width z
-spelled_some width None = []
-
 -- what the symbols are worth, and the line
 module _ (values : List ℕ → Option ℕ) (line : List ℕ) where
-  -- a whole number, none where its symbol is unknown
+  -- the whole number that an expression is, none where its symbol is unknown
   abbrev pub value_of : Operand → Option ℤ
-  value_of (operands.Number n) = Some (pos n)
-  value_of (operands.Minus n) = Some (neg_ℤ (pos n))
-  value_of (operands.Register r) = None
-  value_of (operands.Name x) = moved (values (text_of line x)) (pos 0)
-  value_of (operands.Counted x n) = None
-  value_of (operands.Sum x n) = moved (values (text_of line x)) (pos n)
-  value_of (operands.Difference x n) = moved (values (text_of line x)) (neg_ℤ (pos n))
-  value_of operands.Other = None
+  value_of (operands.Number z) = Some z
+  value_of (operands.Name x) = option_map pos (values (text_of line x))
+  value_of (operands.Sum x n) = option_map (λ v. pos v +ℤ pos n) (values (text_of line x))
+  value_of (operands.Difference x n) = option_map (λ v. pos v +ℤ neg_ℤ (pos n)) (values (text_of line x))
+  value_of _ = None
 
   abbrev pub is_known : Operand → Bool
   is_known o = is_some (value_of o)
 
   abbrev pub is_fit : Width → Operand → Bool
-  is_fit width o = fits_some width (value_of o)
+  is_fit width o = option_map_or (fits width) (value_of o) false
 
   abbrev pub bytes_of : Width → Operand → List ℕ
-  bytes_of width o = spelled_some width (value_of o)
+  bytes_of width o = option_map_or (spelled width) (value_of o) []
 
   -- an unknown symbol anywhere is told before a value that does not fit
   unfoldable pub listed : Width → List Operand → Result (List ℕ) DataFault

@@ -1,14 +1,14 @@
 -- The directives and annotations: their names, the operands of each, and what stands behind the labels of a line.
-use Rattle.std.specs.Prelude.{ℕ, ◌+◌, ◌==◌, Bool, true, false, ◌||◌, if◌then◌else◌, ℤ, pos, negsuc, List, [], ◌∷◌, length, Option, Some, None, codes}
+use Rattle.std.specs.Prelude.{ℕ, ◌+◌, ◌==◌, Bool, true, false, ◌||◌, if◌then◌else◌, pos, negsuc, List, [], ◌∷◌, length, Option, Some, None, codes}
 use Rattle.std.specs.Str.{bytes_eq}
 use Rattle.std.specs.List.{find, list_any, list_all}
+use Rattle.std.specs.Option.{option_map, option_map_or}
 use Rattle.sbx_text.specs.declared.Token.{Token}
-use Rattle.sbx_text.specs.declared.Kind.{Kind}
-use Rattle.sbx_text.specs.declared.Kind.TheVariants as kinds
-use Rattle.v8_syntax.specs.Words.{bytes_between}
-use Rattle.sbx_image.specs.Kind.{Kind as Frames}
+use Rattle.v8_syntax.specs.declared.word.Word.{Word}
+use Rattle.v8_syntax.specs.declared.word.Word.TheVariants as words
+use Rattle.v8_syntax.specs.Words.{bytes_between, word_of}
+use Rattle.sbx_image.specs.Kind.{Kind}
 use Rattle.sbx_image.specs.Kind.TheVariants.{Leaf, Framed}
-use Rattle.sbx_image.specs.Range.{Range}
 use Rattle.sbx_image.specs.Services.{Services}
 use Rattle.sbx_directives.specs.declared.directive.Name.{Name}
 use Rattle.sbx_directives.specs.declared.directive.Width.TheVariants as widths
@@ -21,214 +21,124 @@ use Rattle.sbx_directives.specs.declared.directive.Statement.TheVariants as stat
 use Rattle.sbx_directives.specs.declared.operand.Operand.{Operand}
 use Rattle.sbx_directives.specs.declared.operand.Operand.TheVariants as operands
 use Rattle.sbx_directives.specs.Lines.{text_of}
-use Rattle.sbx_directives.specs.Operands.{◌>>=◌, operands_of, integer_in, natural_in, range_of, coefficient, plain_name, location, none, one, two, three, four, five}
+use Rattle.sbx_directives.specs.Operands.{◌>>=◌, operands_of, integer_in, natural_in, range_of, coefficient, plain_name, location}
 
--- ---- names
-
-abbrev pub name_of : Keyword → List ℕ
-name_of keywords.Text = codes ".text"
-name_of keywords.Data = codes ".data"
-name_of keywords.Region = codes ".region"
-name_of keywords.Services = codes ".services"
-name_of keywords.Stack = codes ".stack"
-name_of keywords.Function = codes ".function"
-name_of keywords.Param = codes ".param"
-name_of keywords.Result = codes ".result"
-name_of keywords.Depth = codes ".depth"
-name_of keywords.Block = codes ".block"
-name_of keywords.Cell = codes ".cell"
-name_of keywords.Fuel = codes ".fuel"
-name_of keywords.Term = codes ".term"
-name_of keywords.Word = codes ".word"
-name_of keywords.Half = codes ".half"
-name_of keywords.Byte = codes ".byte"
-name_of keywords.Skip = codes ".skip"
-name_of keywords.Align = codes ".align"
-
--- all of them
-unfoldable pub all_keywords : List Keyword
-all_keywords =
-    keywords.Text ∷ keywords.Data ∷ keywords.Region ∷ keywords.Services ∷ keywords.Stack
-    ∷ keywords.Function ∷ keywords.Param ∷ keywords.Result ∷ keywords.Depth ∷ keywords.Block
-    ∷ keywords.Cell ∷ keywords.Fuel ∷ keywords.Term
-    ∷ keywords.Word ∷ keywords.Half ∷ keywords.Byte ∷ keywords.Skip ∷ keywords.Align ∷ []
+-- the directives and annotations by their names
+unfoldable pub named_keywords : List (List ℕ × Keyword)
+named_keywords =
+    (codes ".text", keywords.Text)
+    ∷ (codes ".data", keywords.Data)
+    ∷ (codes ".region", keywords.Region)
+    ∷ (codes ".services", keywords.Services)
+    ∷ (codes ".stack", keywords.Stack)
+    ∷ (codes ".function", keywords.Function)
+    ∷ (codes ".param", keywords.Param)
+    ∷ (codes ".result", keywords.Result)
+    ∷ (codes ".depth", keywords.Depth)
+    ∷ (codes ".block", keywords.Block)
+    ∷ (codes ".cell", keywords.Cell)
+    ∷ (codes ".fuel", keywords.Fuel)
+    ∷ (codes ".term", keywords.Term)
+    ∷ (codes ".word", keywords.Word)
+    ∷ (codes ".half", keywords.Half)
+    ∷ (codes ".byte", keywords.Byte)
+    ∷ (codes ".skip", keywords.Skip)
+    ∷ (codes ".align", keywords.Align)
+    ∷ []
 
 -- the keyword of a name
 unfoldable pub keyword_named : List ℕ → Option Keyword
-keyword_named name = find (λ k. bytes_eq (name_of k) name) all_keywords
+keyword_named name = option_map (λ x. x.1) (find (λ x. bytes_eq x.0 name) named_keywords)
 
--- ---- operands of some directives
+-- the name that is wanted
+abbrev pub names : List ℕ → List ℕ → Operand → Bool
+names wanted line (operands.Name x) = bytes_eq (text_of line x) wanted
+names wanted line _ = false
 
 -- `leaf` or `framed`
-abbrev pub kind_named : List ℕ → Option Frames
-kind_named name =
-    if bytes_eq name (codes "leaf") then Some Leaf
-    else (if bytes_eq name (codes "framed") then Some Framed
+abbrev pub frames_of : List ℕ → Operand → Option Kind
+frames_of line o =
+    if names (codes "leaf") line o then Some Leaf
+    else (if names (codes "framed") line o then Some Framed
     else None)
 
 -- `ro` or `rw`: whether the program may write
-abbrev pub right_named : List ℕ → Option Bool
-right_named name =
-    if bytes_eq name (codes "ro") then Some false
-    else (if bytes_eq name (codes "rw") then Some true
+abbrev pub right_of : List ℕ → Operand → Option Bool
+right_of line o =
+    if names (codes "ro") line o then Some false
+    else (if names (codes "rw") line o then Some true
     else None)
 
-abbrev pub is_called : List ℕ → List ℕ → Option Name → Bool
-is_called wanted line (Some x) = bytes_eq (text_of line x) wanted
-is_called wanted line None = false
-
--- that name
-abbrev pub names : List ℕ → List ℕ → Operand → Bool
-names wanted line o = is_called wanted line (plain_name o)
-
-abbrev pub bit_if : Bool → ℕ → ℕ
-bit_if true bit = bit
-bit_if false bit = 0
+abbrev pub is_service : List ℕ → Operand → Bool
+is_service line o = names (codes "exit") line o || (names (codes "get") line o || names (codes "put") line o)
 
 -- the set of the services that are named
 abbrev pub named_services : List ℕ → List Operand → ℕ
 named_services line os =
-    bit_if (list_any (names (codes "exit") line) os) 1 + bit_if (list_any (names (codes "get") line) os) 2 + bit_if (list_any (names (codes "put") line) os) 4
+    (if list_any (names (codes "exit") line) os then 1 else 0)
+    + (if list_any (names (codes "get") line) os then 2 else 0)
+    + (if list_any (names (codes "put") line) os then 4 else 0)
 
-abbrev pub is_service_name : List ℕ → Bool
-is_service_name name = bytes_eq name (codes "exit") || (bytes_eq name (codes "get") || bytes_eq name (codes "put"))
-
-abbrev pub is_service_at : List ℕ → Option Name → Bool
-is_service_at line (Some x) = is_service_name (text_of line x)
-is_service_at line None = false
-
-abbrev pub is_service : List ℕ → Operand → Bool
-is_service line o = is_service_at line (plain_name o)
-
+-- of the services at least one
 unfoldable pub services_of : List ℕ → List Operand → Option Services
 services_of line [] = None
-services_of line (o ∷ os) =
-    if list_all (is_service line) (o ∷ os) then Some (record { 0 = named_services line (o ∷ os) }) else None
-
-abbrev pub frames_of : List ℕ → Operand → Option Frames
-frames_of line o = plain_name o >>= λ x. kind_named (text_of line x)
+services_of line os = if list_all (is_service line) os then Some (record { 0 = named_services line os }) else None
 
 -- a number, `-` number, a symbol, a symbol with `+` or `-` number
 abbrev pub is_expression : Operand → Bool
-is_expression (operands.Number n) = true
-is_expression (operands.Minus n) = true
 is_expression (operands.Register r) = false
-is_expression (operands.Name x) = true
 is_expression (operands.Counted x n) = false
-is_expression (operands.Sum x n) = true
-is_expression (operands.Difference x n) = true
 is_expression operands.Other = false
+is_expression _ = true
 
 -- how many values, at least one
 unfoldable pub value_count : List Operand → Option ℕ
 value_count [] = None
-value_count (o ∷ os) = if list_all is_expression (o ∷ os) then Some (length (o ∷ os)) else None
+value_count os = if list_all is_expression os then Some (length os) else None
 
--- `NAME,KIND,FRAME,STACK,BUDGET`
-unfoldable pub function_of : List ℕ → List Operand → Option Directive
-function_of line os =
-    five os >>= λ x.
-    plain_name x.0 >>= λ name.
-    frames_of line x.1 >>= λ kind.
-    natural_in 0 4096 x.2 >>= λ frame.
-    natural_in 0 65536 x.3 >>= λ stack_room.
-    natural_in 0 1099511627775 x.4 >>= λ budget.
-    Some (directives.Function name kind frame stack_room budget)
-
--- `LOC,LO,HI,AL`
-unfoldable pub cell_of : List ℕ → List Operand → Option Directive
-cell_of line os =
-    four os >>= λ x.
-    location line x.0 >>= λ place.
-    range_of x.1 x.2 x.3 >>= λ range.
-    Some (directives.Cell (record { location = place; range = range }))
-
--- `LOC,N`
-unfoldable pub term_of : List ℕ → List Operand → Option Directive
-term_of line os =
-    two os >>= λ x.
-    location line x.0 >>= λ place.
-    coefficient x.1 >>= λ n.
-    Some (directives.Term (record { location = place; coefficient = n }))
-
--- `LO,HI,AL`
-abbrev pub ranged : List Operand → Option Range
-ranged os = three os >>= λ x. range_of x.0 x.1 x.2
-
-abbrev pub is_alignment : ℕ → Bool
-is_alignment n = n == 2 || (n == 4 || n == 8)
-
--- `ro` or `rw`
-abbrev pub region_of : List ℕ → List Operand → Option Directive
-region_of line os =
-    one os >>= plain_name >>= λ x.
-    right_named (text_of line x) >>= λ writable.
-    Some (directives.Region writable)
-
--- no operand
-abbrev pub plainly : Directive → List Operand → Option Directive
-plainly d os = none os >>= λ _. Some d
-
--- one number
-abbrev pub numbered : ℕ → ℕ → List Operand → Option ℕ
-numbered low high os = one os >>= natural_in low high
-
--- below 2^40 in magnitude
-abbrev pub fuel_of : List Operand → Option ℤ
-fuel_of os = one os >>= integer_in (negsuc 1099511627774) (pos 1099511627775)
-
-abbrev pub alignment_of : List Operand → Option Directive
-alignment_of os = numbered 2 8 os >>= λ n. if is_alignment n then Some (directives.Align n) else None
-
--- ---- the table: what the operands of each directive are
-
+-- The table: what the operands of each directive are.
 unfoldable pub directive_of : List ℕ → Keyword → List Operand → Option Directive
-directive_of line keywords.Text os = plainly directives.Text os
-directive_of line keywords.Data os = plainly directives.Data os
-directive_of line keywords.Region os = region_of line os
+directive_of line keywords.Text [] = Some directives.Text
+directive_of line keywords.Data [] = Some directives.Data
+directive_of line keywords.Region (o ∷ []) = right_of line o >>= λ writable. Some (directives.Region writable)
 directive_of line keywords.Services os = services_of line os >>= λ s. Some (directives.Services s)
-directive_of line keywords.Stack os = numbered 1 16 os >>= λ n. Some (directives.Stack n)
-directive_of line keywords.Function os = function_of line os
-directive_of line keywords.Param os = ranged os >>= λ r. Some (directives.Param r)
-directive_of line keywords.Result os = ranged os >>= λ r. Some (directives.Result r)
-directive_of line keywords.Depth os = numbered 0 256 os >>= λ n. Some (directives.Depth n)
-directive_of line keywords.Block os = one os >>= plain_name >>= λ x. Some (directives.Block x)
-directive_of line keywords.Cell os = cell_of line os
-directive_of line keywords.Fuel os = fuel_of os >>= λ z. Some (directives.Fuel z)
-directive_of line keywords.Term os = term_of line os
+directive_of line keywords.Stack (o ∷ []) = natural_in 1 16 o >>= λ n. Some (directives.Stack n)
+directive_of line keywords.Function (a ∷ b ∷ c ∷ d ∷ e ∷ []) =
+    plain_name a >>= λ name.
+    frames_of line b >>= λ kind.
+    natural_in 0 4096 c >>= λ frame.
+    natural_in 0 65536 d >>= λ stack_room.
+    natural_in 0 1099511627775 e >>= λ budget.
+    Some (directives.Function name kind frame stack_room budget)
+directive_of line keywords.Param os = range_of os >>= λ r. Some (directives.Param r)
+directive_of line keywords.Result os = range_of os >>= λ r. Some (directives.Result r)
+directive_of line keywords.Depth (o ∷ []) = natural_in 0 256 o >>= λ n. Some (directives.Depth n)
+directive_of line keywords.Block (o ∷ []) = plain_name o >>= λ x. Some (directives.Block x)
+directive_of line keywords.Cell (o ∷ os) = location line o >>= λ place. range_of os >>= λ r. Some (directives.Cell (record { location = place; range = r }))
+directive_of line keywords.Fuel (o ∷ []) = integer_in (negsuc 1099511627774) (pos 1099511627775) o >>= λ z. Some (directives.Fuel z)
+directive_of line keywords.Term (o ∷ p ∷ []) = location line o >>= λ place. coefficient p >>= λ z. Some (directives.Term (record { location = place; coefficient = z }))
 directive_of line keywords.Word os = value_count os >>= λ n. Some (directives.Values widths.Word n)
 directive_of line keywords.Half os = value_count os >>= λ n. Some (directives.Values widths.Half n)
 directive_of line keywords.Byte os = value_count os >>= λ n. Some (directives.Values widths.Byte n)
-directive_of line keywords.Skip os = numbered 0 18446744073709551615 os >>= λ n. Some (directives.Skip n)
-directive_of line keywords.Align os = alignment_of os
-
--- ---- a line behind its labels
-
-abbrev pub first_name : List Operand → Option Name
-first_name [] = None
-first_name (o ∷ os) = plain_name o
+directive_of line keywords.Skip (o ∷ []) = natural_in 0 18446744073709551615 o >>= λ n. Some (directives.Skip n)
+directive_of line keywords.Align (o ∷ []) = natural_in 2 8 o >>= λ n. if n == 2 || (n == 4 || n == 8) then Some (directives.Align n) else None
+directive_of line _ _ = None
 
 -- what a function or a block is called, whatever its other operands
 unfoldable pub called : Keyword → List Operand → Option Name
-called keywords.Function os = first_name os
-called keywords.Block os = first_name os
-called _ os = None
+called keywords.Function (o ∷ os) = plain_name o
+called keywords.Block (o ∷ os) = plain_name o
+called _ _ = None
 
-abbrev pub told : Keyword → List Operand → Option Directive → Statement
-told k os (Some d) = statements.Directive d
-told k os None = statements.Malformed k (called k os)
+abbrev pub told : List ℕ → Keyword → List Operand → Statement
+told line k os = option_map_or statements.Directive (directive_of line k os) (statements.Malformed k (called k os))
 
-abbrev pub keyed : List ℕ → Option Keyword → List Token → Statement
-keyed line (Some k) rest = told k (operands_of line rest) (directive_of line k (operands_of line rest))
-keyed line None rest = statements.Instruction
-
-abbrev pub begun : List ℕ → Kind → Token → List Token → Statement
-begun line kinds.Name first rest = keyed line (keyword_named (bytes_between line first.start first.stop)) rest
-begun line kinds.Percent first rest = statements.Instruction
-begun line (kinds.Number n) first rest = statements.Instruction
-begun line kinds.Sign first rest = statements.Instruction
+-- a name that is no directive's begins an instruction
+abbrev pub begun : List ℕ → Word → List Token → Statement
+begun line (words.Name k start stop) rest = option_map_or (λ k. told line k (operands_of line rest)) (keyword_named (bytes_between line start stop)) statements.Instruction
+begun line _ rest = statements.Instruction
 
 -- What the tokens behind the labels of a line ask for.
 unfoldable pub statement_of : List ℕ → List Token → Statement
 statement_of line [] = statements.Nothing
-statement_of line (first ∷ rest) = begun line first.kind first rest
+statement_of line (first ∷ rest) = begun line (word_of line first) rest

@@ -1,11 +1,22 @@
 // What a line asks for behind its labels.
+ghost use Rattle.std.specs.Prelude.{◌≡◌};
+ghost use Rattle.sbx_directives.specs.Lines.{text_of};
+
 use sbx_image::{Cell, Kind, Range, Services, Term};
+use v8_syntax::bytes_between;
 
 /// A name in a line: the bytes from `start` up to `stop`.
 #[derive(Clone, Copy)]
 pub struct Name {
     pub start: usize,
     pub stop: usize,
+}
+
+/// The bytes of a name of the line; none where the line has no such bytes.
+pub fn text_of(line: &[u8], name: Name) -> &[u8]
+    ensures { result.now ≡ text_of line.now name }
+{
+    bytes_between(line, name.start, name.stop)
 }
 
 /// How many bytes each value of a data directive takes: 1, 2 or 4.

@@ -1,22 +1,27 @@
 // The labels of a line.
-ghost use Rattle.std.specs.Prelude.{◌≡◌, ◌*◌, ◌≤◌, true, length};
-ghost use Rattle.sbx_directives.specs.Lines.{words_of, begins_with_label, label_count};
+ghost use Rattle.std.specs.Prelude.{◌≡◌, ◌+◌, ◌*◌, ◌≤◌, suc, MatchOption, IfSome, length};
+ghost use Rattle.v8_syntax.specs.Words.{words_of};
+ghost use Rattle.sbx_directives.specs.Lines.{labels_first, label_count};
 
-use crate::word::{is_name, is_sign, word_of};
 use sbx_text::Token;
+use v8_syntax::{Word, front};
 
-/// Whether some tokens begin with a name and `:`.
-fn begins_with_label(line: &[u8], tokens: &[Token]) -> bool
-    ensures value { result ≡ begins_with_label (words_of line.now tokens.now) }
-    ensures room { result ≡ true → 2 ≤ length tokens.now }
+/// What follows the label that some tokens begin with.
+#[tactic(auto, unfolding(crate::specs::Lines::labels_first))]
+fn behind_label<'t>(line: &[u8], tokens: &'t [Token]) -> Option<&'t [Token]>
+    ensures value { MatchOption result (labels_first (words_of line.now tokens.now) ≡ 0) (λ rest. labels_first (words_of line.now tokens.now) ≡ suc (labels_first (words_of line.now rest.now))) }
+    ensures room { IfSome result (λ rest. 2 + length rest.now ≡ length tokens.now) }
 {
-    let Some((first, after)) = tokens.split_first() else {
-        return false;
+    let Some((first, after)) = front(line, tokens) else {
+        return None;
     };
-    let Some((second, _)) = after.split_first() else {
-        return false;
+    let Some((second, rest)) = front(line, after) else {
+        return None;
     };
-    is_name(word_of(line, first)) && is_sign(b':', word_of(line, second))
+    match (first, second) {
+        (Word::Name(..), Word::Sign(b':')) => Some(rest),
+        _ => None,
+    }
 }
 
 /// How many labels a line begins with, each a name and `:`. The name of the k-th is the token 2 k, whatever it names.
@@ -26,9 +31,9 @@ pub fn label_count(line: &[u8], tokens: &[Token]) -> usize
 {
     let mut count = 0;
     let mut rest = tokens;
-    while begins_with_label(line, rest) {
+    while let Some(after) = behind_label(line, rest) {
         count += 1;
-        rest = rest.split_at(2).1;
+        rest = after;
     }
     count
 }

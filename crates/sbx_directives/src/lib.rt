@@ -9,11 +9,9 @@ mod number;
 mod operand;
 mod statement;
 mod values;
-mod word;
 
-pub use directive::{Directive, Keyword, Name, Statement, Width};
+pub use directive::{Directive, Keyword, Name, Statement, Width, text_of};
 pub use fault::DataFault;
 pub use label::label_count;
 pub use statement::read_statement;
 pub use values::{byte_len, push_values};
-pub use word::text_of;

@@ -1,27 +1,12 @@
 // Numbers, ranges and locations among the operands of a directive.
 ghost use Rattle.std.specs.Prelude.{◌≡◌, ◌≤◌, ◌+◌, ℕ, pos, negsuc, ◌≤ℤ◌, IfSome};
-ghost use Rattle.sbx_directives.specs.Operands.{integer, is_between, integer_in, natural, natural_in, range_of, coefficient, plain_name, slot, location};
+ghost use Rattle.sbx_directives.specs.Operands.{integer_in, natural_in, range_of, coefficient, plain_name, slot, location, behind};
 
-use crate::directive::Name;
-use crate::operand::Operand;
-use crate::word::text_of;
+use crate::directive::{Name, text_of};
+use crate::operand::{Operand, next_operand, none};
 use sbx_image::Range;
+use sbx_text::Token;
 use v8_syntax::is_same;
-
-fn integer(operand: Operand) -> Option<i128>
-    ensures { result ≡ integer operand }
-{
-    match operand {
-        Operand::Number(number) => Some(i128::from(number)),
-        Operand::Minus(number) => Some(-i128::from(number)),
-        Operand::Register(_)
-        | Operand::Name(_)
-        | Operand::Counted(..)
-        | Operand::Sum(..)
-        | Operand::Difference(..)
-        | Operand::Other => None,
-    }
-}
 
 /// A number from `low` to `high`.
 #[tactic(auto, unfolding(crate::specs::Operands::integer_in))]
@@ -30,26 +15,15 @@ pub fn integer_in(low: i64, high: i64, operand: Operand) -> Option<i64>
     ensures least { IfSome result (λ z. low ≤ℤ z) }
     ensures greatest { IfSome result (λ z. z ≤ℤ high) }
 {
-    let number = integer(operand)?;
-    if i128::from(low) <= number && number <= i128::from(high) {
-        Some(number as i64)
-    } else {
-        None
-    }
-}
-
-fn natural(operand: Operand) -> Option<u64>
-    ensures { result ≡ natural operand }
-{
     match operand {
-        Operand::Number(number) => Some(number),
-        Operand::Minus(number) => { if number == 0 { Some(0) } else { None } }
-        Operand::Register(_)
-        | Operand::Name(_)
-        | Operand::Counted(..)
-        | Operand::Sum(..)
-        | Operand::Difference(..)
-        | Operand::Other => None,
+        Operand::Number(number) => {
+            if i128::from(low) <= number && number <= i128::from(high) {
+                Some(number as i64)
+            } else {
+                None
+            }
+        }
+        _ => None,
     }
 }
 
@@ -59,11 +33,15 @@ pub fn natural_in(low: u64, high: u64, operand: Operand) -> Option<u64>
     ensures value { result ≡ natural_in low high operand }
     ensures greatest { IfSome result (λ n. n ≤ high) }
 {
-    let number = natural(operand)?;
-    if low <= number && number <= high {
-        Some(number)
-    } else {
-        None
+    match operand {
+        Operand::Number(number) => {
+            if i128::from(low) <= number && number <= i128::from(high) {
+                Some(number as u64)
+            } else {
+                None
+            }
+        }
+        _ => None,
     }
 }
 
@@ -75,11 +53,21 @@ pub fn signed_word(operand: Operand) -> Option<i32>
     Some(number as i32)
 }
 
-/// `LO,HI,AL`, `LO` at most `HI`.
+/// `LO,HI,AL` behind a first token, `LO` at most `HI`.
 #[tactic(auto, unfolding(crate::specs::Operands::range_of))]
-pub fn range_of(low: Operand, high: Operand, alignment: Operand) -> Option<Range>
-    ensures { result ≡ range_of low high alignment }
+pub fn range_of(line: &[u8], tokens: &[Token]) -> Option<Range>
+    ensures { result ≡ range_of (behind line.now tokens.now) }
 {
+    let Some((low, rest)) = next_operand(line, tokens) else {
+        return None;
+    };
+    let Some((high, rest)) = next_operand(line, rest) else {
+        return None;
+    };
+    let Some((alignment, rest)) = next_operand(line, rest) else {
+        return None;
+    };
+    none(line, rest)?;
     let lo = signed_word(low)?;
     let hi = signed_word(high)?;
     let alignment = natural_in(0, 3, alignment)? as u8;
@@ -108,13 +96,7 @@ pub fn plain_name(operand: Operand) -> Option<Name>
 {
     match operand {
         Operand::Name(name) => Some(name),
-        Operand::Number(_)
-        | Operand::Minus(_)
-        | Operand::Register(_)
-        | Operand::Counted(..)
-        | Operand::Sum(..)
-        | Operand::Difference(..)
-        | Operand::Other => None,
+        _ => None,
     }
 }
 
@@ -151,10 +133,6 @@ pub fn location(line: &[u8], operand: Operand) -> Option<u16>
                 None
             }
         }
-        Operand::Number(_)
-        | Operand::Minus(_)
-        | Operand::Name(_)
-        | Operand::Sum(..)
-        | Operand::Other => None,
+        _ => None,
     }
 }

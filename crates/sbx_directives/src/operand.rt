@@ -1,21 +1,19 @@
 // What stands between the commas of a directive.
-ghost use Rattle.std.specs.Prelude.{◌≡◌, ℕ, ◌<◌, ◌≤◌, MatchOption, IfSome, not, List, [], ◌∷◌, length, drop};
+ghost use Rattle.std.specs.Prelude.{◌≡◌, ◌≢◌, ℕ, ◌<◌, ◌≤◌, MatchOption, IfSome, not, List, [], ◌∷◌, length, drop};
 ghost use Rattle.std.specs.List.{prefix_len};
-ghost use Rattle.sbx_directives.specs.Lines.{word_of, words_of, is_sign};
-ghost use Rattle.sbx_directives.specs.Operands.{alone, signed, counted, pair_of, moved_by, moved, triple_of, operand_of, behind, operands_of, none, one, two, three, four, five};
+ghost use Rattle.v8_syntax.specs.Words.{word_of, words_of};
+ghost use Rattle.sbx_directives.specs.Operands.{operand_of, is_comma, behind, operands_of};
 
 use crate::directive::Name;
-use crate::word::{Word, front, is_sign, word_of};
 use sbx_text::Token;
+use v8_syntax::{Word, front, word_of};
 use v8_word::Reg;
 
 /// An operand by its shape.
 #[derive(Clone, Copy)]
 pub enum Operand {
-    /// `n`
-    Number(u64),
-    /// `-n`
-    Minus(u64),
+    /// `n` or `-n`
+    Number(i128),
     Register(Reg),
     Name(Name),
     /// A name and a number behind it, as `slot 5`.
@@ -27,83 +25,43 @@ pub enum Operand {
     Other,
 }
 
-fn alone(word: Word) -> Operand
-    ensures { result ≡ alone word }
+#[tactic(auto, unfolding(crate::specs::Operands::operand_of))]
+fn of_one(word: Word) -> Operand
+    ensures { result ≡ operand_of (word ∷ []) }
 {
     match word {
-        Word::Name(name) => Operand::Name(name),
+        Word::Number(number) => Operand::Number(i128::from(number)),
         Word::Register(register) => Operand::Register(register),
-        Word::Number(number) => Operand::Number(number),
-        Word::Sign(_) | Word::Other => Operand::Other,
+        Word::Name(_, start, stop) => Operand::Name(Name { start, stop }),
+        _ => Operand::Other,
     }
 }
 
-fn signed(sign: u8, word: Word) -> Operand
-    ensures { result ≡ signed sign word }
+#[tactic(auto, unfolding(crate::specs::Operands::operand_of))]
+fn of_two(first: Word, second: Word) -> Operand
+    ensures { result ≡ operand_of (first ∷ second ∷ []) }
 {
-    match word {
-        Word::Number(number) => {
-            if sign == b'-' {
-                Operand::Minus(number)
-            } else {
-                Operand::Other
-            }
+    match (first, second) {
+        (Word::Sign(b'-'), Word::Number(number)) => Operand::Number(-i128::from(number)),
+        (Word::Name(_, start, stop), Word::Number(number)) => {
+            Operand::Counted(Name { start, stop }, number)
         }
-        Word::Name(_) | Word::Register(_) | Word::Sign(_) | Word::Other => Operand::Other,
+        _ => Operand::Other,
     }
 }
 
-fn counted(name: Name, word: Word) -> Operand
-    ensures { result ≡ counted name word }
+#[tactic(auto, unfolding(crate::specs::Operands::operand_of))]
+fn of_three(first: Word, second: Word, third: Word) -> Operand
+    ensures { result ≡ operand_of (first ∷ second ∷ third ∷ []) }
 {
-    match word {
-        Word::Number(number) => Operand::Counted(name, number),
-        Word::Name(_) | Word::Register(_) | Word::Sign(_) | Word::Other => Operand::Other,
-    }
-}
-
-fn pair_of(first: Word, second: Word) -> Operand
-    ensures { result ≡ pair_of first second }
-{
-    match first {
-        Word::Name(name) => counted(name, second),
-        Word::Sign(sign) => signed(sign, second),
-        Word::Register(_) | Word::Number(_) | Word::Other => Operand::Other,
-    }
-}
-
-fn moved_by(name: Name, sign: u8, word: Word) -> Operand
-    ensures { result ≡ moved_by name sign word }
-{
-    match word {
-        Word::Number(number) => {
-            if sign == b'+' {
-                Operand::Sum(name, number)
-            } else if sign == b'-' {
-                Operand::Difference(name, number)
-            } else {
-                Operand::Other
-            }
+    match (first, second, third) {
+        (Word::Name(_, start, stop), Word::Sign(b'+'), Word::Number(number)) => {
+            Operand::Sum(Name { start, stop }, number)
         }
-        Word::Name(_) | Word::Register(_) | Word::Sign(_) | Word::Other => Operand::Other,
-    }
-}
-
-fn moved(name: Name, second: Word, third: Word) -> Operand
-    ensures { result ≡ moved name second third }
-{
-    match second {
-        Word::Sign(sign) => moved_by(name, sign, third),
-        Word::Name(_) | Word::Register(_) | Word::Number(_) | Word::Other => Operand::Other,
-    }
-}
-
-fn triple_of(first: Word, second: Word, third: Word) -> Operand
-    ensures { result ≡ triple_of first second third }
-{
-    match first {
-        Word::Name(name) => moved(name, second, third),
-        Word::Register(_) | Word::Number(_) | Word::Sign(_) | Word::Other => Operand::Other,
+        (Word::Name(_, start, stop), Word::Sign(b'-'), Word::Number(number)) => {
+            Operand::Difference(Name { start, stop }, number)
+        }
+        _ => Operand::Other,
     }
 }
 
@@ -112,29 +70,38 @@ fn triple_of(first: Word, second: Word, third: Word) -> Operand
 fn operand_of(line: &[u8], tokens: &[Token]) -> Operand
     ensures { result ≡ operand_of (words_of line.now tokens.now) }
 {
-    let Some((first, behind_first)) = front(line, tokens) else {
+    let Some((first, rest)) = front(line, tokens) else {
         return Operand::Other;
     };
-    let Some((second, behind_second)) = front(line, behind_first) else {
-        return alone(first);
+    let Some((second, rest)) = front(line, rest) else {
+        return of_one(first);
     };
-    let Some((third, behind_third)) = front(line, behind_second) else {
-        return pair_of(first, second);
+    let Some((third, rest)) = front(line, rest) else {
+        return of_two(first, second);
     };
-    match front(line, behind_third) {
-        None => triple_of(first, second, third),
+    match front(line, rest) {
         Some(_) => Operand::Other,
+        None => of_three(first, second, third),
+    }
+}
+
+fn is_comma(word: Word) -> bool
+    ensures { result ≡ is_comma word }
+{
+    match word {
+        Word::Sign(sign) => sign == b',',
+        _ => false,
     }
 }
 
 /// How many tokens stand before the next comma, or the end.
 fn group_len(line: &[u8], tokens: &[Token]) -> usize
-    ensures value { result ≡ prefix_len (λ t. not (is_sign 44 (word_of line.now t))) tokens.now }
+    ensures value { result ≡ prefix_len (λ t. not (is_comma (word_of line.now t))) tokens.now }
     ensures bound { result ≤ length tokens.now }
 {
     tokens
         .iter()
-        .take_while(|token| !is_sign(b',', word_of(line, token)))
+        .take_while(|token| !is_comma(word_of(line, token)))
         .count()
 }
 
@@ -153,7 +120,7 @@ pub fn next_operand<'t>(line: &[u8], tokens: &'t [Token]) -> Option<(Operand, &'
 
 /// No operand.
 pub fn none(line: &[u8], tokens: &[Token]) -> Option<()>
-    ensures { result ≡ none (behind line.now tokens.now) }
+    ensures { MatchOption result ((o : Operand) × (os : List Operand) × (behind line.now tokens.now ≡ o ∷ os)) (λ _. behind line.now tokens.now ≡ []) }
 {
     match next_operand(line, tokens) {
         Some(_) => None,
@@ -163,57 +130,13 @@ pub fn none(line: &[u8], tokens: &[Token]) -> Option<()>
 
 /// The only operand.
 pub fn one(line: &[u8], tokens: &[Token]) -> Option<Operand>
-    ensures { result ≡ one (behind line.now tokens.now) }
+    ensures { MatchOption result (length (behind line.now tokens.now) ≢ 1) (λ o. behind line.now tokens.now ≡ o ∷ []) }
 {
-    let Some((first, rest)) = next_operand(line, tokens) else {
+    let Some((operand, rest)) = next_operand(line, tokens) else {
         return None;
     };
     none(line, rest)?;
-    Some(first)
-}
-
-/// Two operands, and no other.
-pub fn two(line: &[u8], tokens: &[Token]) -> Option<(Operand, Operand)>
-    ensures { result ≡ two (behind line.now tokens.now) }
-{
-    let Some((first, rest)) = next_operand(line, tokens) else {
-        return None;
-    };
-    let second = one(line, rest)?;
-    Some((first, second))
-}
-
-/// Three operands, and no other.
-pub fn three(line: &[u8], tokens: &[Token]) -> Option<(Operand, Operand, Operand)>
-    ensures { result ≡ three (behind line.now tokens.now) }
-{
-    let Some((first, rest)) = next_operand(line, tokens) else {
-        return None;
-    };
-    let (second, third) = two(line, rest)?;
-    Some((first, second, third))
-}
-
-/// Four operands, and no other.
-pub fn four(line: &[u8], tokens: &[Token]) -> Option<(Operand, Operand, Operand, Operand)>
-    ensures { result ≡ four (behind line.now tokens.now) }
-{
-    let Some((first, rest)) = next_operand(line, tokens) else {
-        return None;
-    };
-    let (second, third, fourth) = three(line, rest)?;
-    Some((first, second, third, fourth))
-}
-
-/// Five operands, and no other.
-pub fn five(line: &[u8], tokens: &[Token]) -> Option<(Operand, Operand, Operand, Operand, Operand)>
-    ensures { result ≡ five (behind line.now tokens.now) }
-{
-    let Some((first, rest)) = next_operand(line, tokens) else {
-        return None;
-    };
-    let (second, third, fourth, fifth) = four(line, rest)?;
-    Some((first, second, third, fourth, fifth))
+    Some(operand)
 }
 
 /// What a directive's tokens have behind its name: nothing where the name is the last one, else operands between commas.

@@ -1,79 +1,57 @@
 // What stands behind the labels of a line.
-ghost use Rattle.std.specs.Prelude.{◌≡◌, ◌≤◌, IfSome};
+ghost use Rattle.std.specs.Prelude.{◌≡◌, ◌≤◌, if◌then◌else◌, pos, negsuc};
 ghost use Rattle.std.specs.List.{list_any, list_all};
-ghost use Rattle.sbx_directives.specs.Operands.{behind};
-ghost use Rattle.sbx_directives.specs.Directives.{kind_named, names, bit_if, named_services, is_service_name, is_service, services_of, frames_of, right_named, region_of, is_expression, value_count, function_of, cell_of, term_of, ranged, plainly, numbered, fuel_of, alignment_of, directive_of, called, told, statement_of};
+ghost use Rattle.sbx_directives.specs.declared.directive.Keyword.TheVariants as keywords;
+ghost use Rattle.sbx_directives.specs.Operands.{integer_in, behind};
+ghost use Rattle.sbx_directives.specs.Directives.{names, frames_of, right_of, is_service, named_services, services_of, is_expression, value_count, directive_of, called, told, statement_of};
 
-use crate::directive::{Directive, Keyword, Name, Statement, Width};
+use crate::directive::{Directive, Keyword, Name, Statement, Width, text_of};
 use crate::keyword::keyword_named;
 use crate::number::{coefficient, integer_in, location, natural_in, plain_name, range_of};
-use crate::operand::{Operand, five, four, next_operand, none, one, operands, three, two};
-use crate::word::text_of;
-use sbx_image::{Cell, Kind as Frames, Range, Services, Term};
-use sbx_text::{Kind, Token};
-use v8_syntax::{bytes_between, is_same};
+use crate::operand::{Operand, next_operand, none, one, operands};
+use sbx_image::{Cell, Kind, Services, Term};
+use sbx_text::Token;
+use v8_syntax::{Word, bytes_between, is_same, word_of};
 
-fn kind_named(name: &[u8]) -> Option<Frames>
-    ensures { result ≡ kind_named name.now }
+/// Whether an operand is the name that is wanted.
+fn names(wanted: &[u8], line: &[u8], operand: &Operand) -> bool
+    ensures { result ≡ names wanted.now line.now operand.now }
 {
-    if is_same(name, b"leaf") {
-        Some(Frames::Leaf)
-    } else if is_same(name, b"framed") {
-        Some(Frames::Framed)
+    match operand {
+        Operand::Name(name) => is_same(text_of(line, *name), wanted),
+        _ => false,
+    }
+}
+
+fn frames_of(line: &[u8], operand: Operand) -> Option<Kind>
+    ensures { result ≡ frames_of line.now operand }
+{
+    if names(b"leaf", line, &operand) {
+        Some(Kind::Leaf)
+    } else if names(b"framed", line, &operand) {
+        Some(Kind::Framed)
     } else {
         None
     }
 }
 
-fn frames_of(line: &[u8], operand: Operand) -> Option<Frames>
-    ensures { result ≡ frames_of line.now operand }
-{
-    let name = plain_name(operand)?;
-    kind_named(text_of(line, name))
-}
-
 /// Whether the program may write what `ro` or `rw` names.
-fn right_named(name: &[u8]) -> Option<bool>
-    ensures { result ≡ right_named name.now }
+fn right_of(line: &[u8], operand: Operand) -> Option<bool>
+    ensures { result ≡ right_of line.now operand }
 {
-    if is_same(name, b"ro") {
+    if names(b"ro", line, &operand) {
         Some(false)
-    } else if is_same(name, b"rw") {
+    } else if names(b"rw", line, &operand) {
         Some(true)
     } else {
         None
     }
 }
 
-/// Whether an operand is the name that is wanted.
-fn names(wanted: &[u8], line: &[u8], operand: Operand) -> bool
-    ensures { result ≡ names wanted.now line.now operand }
-{
-    match plain_name(operand) {
-        Some(name) => is_same(text_of(line, name), wanted),
-        None => false,
-    }
-}
-
-fn is_service_name(name: &[u8]) -> bool
-    ensures { result ≡ is_service_name name.now }
-{
-    if is_same(name, b"exit") {
-        true
-    } else if is_same(name, b"get") {
-        true
-    } else {
-        is_same(name, b"put")
-    }
-}
-
 fn is_service(line: &[u8], operand: Operand) -> bool
     ensures { result ≡ is_service line.now operand }
 {
-    match plain_name(operand) {
-        Some(name) => is_service_name(text_of(line, name)),
-        None => false,
-    }
+    names(b"exit", line, &operand) || names(b"get", line, &operand) || names(b"put", line, &operand)
 }
 
 /// Whether some operand is the name that is wanted.
@@ -82,7 +60,7 @@ fn any_names(wanted: &[u8], line: &[u8], tokens: &[Token]) -> bool
 {
     let mut rest = tokens;
     while let Some((operand, after)) = next_operand(line, rest) {
-        if names(wanted, line, operand) {
+        if names(wanted, line, &operand) {
             return true;
         }
         rest = after;
@@ -104,7 +82,7 @@ fn are_services(line: &[u8], tokens: &[Token]) -> bool
 }
 
 fn bit_if(test: bool, bit: u16) -> u16
-    ensures value { result ≡ bit_if test bit }
+    ensures value { result ≡ (if test then bit else 0) }
     ensures bound { result ≤ bit }
 {
     if test { bit } else { 0 }
@@ -137,12 +115,8 @@ fn is_expression(operand: Operand) -> bool
     ensures { result ≡ is_expression operand }
 {
     match operand {
-        Operand::Number(_)
-        | Operand::Minus(_)
-        | Operand::Name(_)
-        | Operand::Sum(..)
-        | Operand::Difference(..) => true,
         Operand::Register(_) | Operand::Counted(..) | Operand::Other => false,
+        _ => true,
     }
 }
 
@@ -162,11 +136,27 @@ pub fn value_count(line: &[u8], tokens: &[Token]) -> Option<usize>
     if count == 0 { None } else { Some(count) }
 }
 
-#[tactic(auto, unfolding(crate::specs::Directives::function_of))]
+/// `NAME,KIND,FRAME,STACK,BUDGET`
+#[tactic(auto, unfolding(crate::specs::Directives::directive_of))]
 fn function_of(line: &[u8], tokens: &[Token]) -> Option<Directive>
-    ensures { result ≡ function_of line.now (behind line.now tokens.now) }
+    ensures { result ≡ directive_of line.now keywords.Function (behind line.now tokens.now) }
 {
-    let (name, kind, frame, stack_room, budget) = five(line, tokens)?;
+    let Some((name, rest)) = next_operand(line, tokens) else {
+        return None;
+    };
+    let Some((kind, rest)) = next_operand(line, rest) else {
+        return None;
+    };
+    let Some((frame, rest)) = next_operand(line, rest) else {
+        return None;
+    };
+    let Some((stack_room, rest)) = next_operand(line, rest) else {
+        return None;
+    };
+    let Some((budget, rest)) = next_operand(line, rest) else {
+        return None;
+    };
+    none(line, rest)?;
     let name = plain_name(name)?;
     let kind = frames_of(line, kind)?;
     let frame = natural_in(0, 4096, frame)? as u32;
@@ -181,21 +171,31 @@ fn function_of(line: &[u8], tokens: &[Token]) -> Option<Directive>
     })
 }
 
-#[tactic(auto, unfolding(crate::specs::Directives::cell_of))]
+/// `LOC,LO,HI,AL`
+#[tactic(auto, unfolding(crate::specs::Directives::directive_of))]
 fn cell_of(line: &[u8], tokens: &[Token]) -> Option<Directive>
-    ensures { result ≡ cell_of line.now (behind line.now tokens.now) }
+    ensures { result ≡ directive_of line.now keywords.Cell (behind line.now tokens.now) }
 {
-    let (place, low, high, alignment) = four(line, tokens)?;
+    let Some((place, rest)) = next_operand(line, tokens) else {
+        return None;
+    };
     let location = location(line, place)?;
-    let range = range_of(low, high, alignment)?;
+    let range = range_of(line, rest)?;
     Some(Directive::Cell(Cell { location, range }))
 }
 
-#[tactic(auto, unfolding(crate::specs::Directives::term_of))]
+/// `LOC,N`
+#[tactic(auto, unfolding(crate::specs::Directives::directive_of))]
 fn term_of(line: &[u8], tokens: &[Token]) -> Option<Directive>
-    ensures { result ≡ term_of line.now (behind line.now tokens.now) }
+    ensures { result ≡ directive_of line.now keywords.Term (behind line.now tokens.now) }
 {
-    let (place, number) = two(line, tokens)?;
+    let Some((place, rest)) = next_operand(line, tokens) else {
+        return None;
+    };
+    let Some((number, rest)) = next_operand(line, rest) else {
+        return None;
+    };
+    none(line, rest)?;
     let location = location(line, place)?;
     let coefficient = coefficient(number)?;
     Some(Directive::Term(Term {
@@ -204,45 +204,18 @@ fn term_of(line: &[u8], tokens: &[Token]) -> Option<Directive>
     }))
 }
 
-fn ranged(line: &[u8], tokens: &[Token]) -> Option<Range>
-    ensures { result ≡ ranged (behind line.now tokens.now) }
+fn fuel_of(operand: Operand) -> Option<i64>
+    ensures { result ≡ integer_in (negsuc 1099511627774) (pos 1099511627775) operand }
 {
-    let (low, high, alignment) = three(line, tokens)?;
-    range_of(low, high, alignment)
+    integer_in(-0xff_ffff_ffff, 0xff_ffff_ffff, operand)
 }
 
-fn region_of(line: &[u8], tokens: &[Token]) -> Option<Directive>
-    ensures { result ≡ region_of line.now (behind line.now tokens.now) }
-{
-    let name = plain_name(one(line, tokens)?)?;
-    let writable = right_named(text_of(line, name))?;
-    Some(Directive::Region { writable })
-}
-
-fn plainly(directive: Directive, line: &[u8], tokens: &[Token]) -> Option<Directive>
-    ensures { result ≡ plainly directive (behind line.now tokens.now) }
-{
-    none(line, tokens)?;
-    Some(directive)
-}
-
-fn numbered(low: u64, high: u64, line: &[u8], tokens: &[Token]) -> Option<u64>
-    ensures value { result ≡ numbered low high (behind line.now tokens.now) }
-    ensures greatest { IfSome result (λ n. n ≤ high) }
-{
-    natural_in(low, high, one(line, tokens)?)
-}
-
-fn fuel_of(line: &[u8], tokens: &[Token]) -> Option<i64>
-    ensures { result ≡ fuel_of (behind line.now tokens.now) }
-{
-    integer_in(-0xff_ffff_ffff, 0xff_ffff_ffff, one(line, tokens)?)
-}
-
+/// 2, 4 or 8
+#[tactic(auto, unfolding(crate::specs::Directives::directive_of))]
 fn alignment_of(line: &[u8], tokens: &[Token]) -> Option<Directive>
-    ensures { result ≡ alignment_of (behind line.now tokens.now) }
+    ensures { result ≡ directive_of line.now keywords.Align (behind line.now tokens.now) }
 {
-    let number = numbered(2, 8, line, tokens)?;
+    let number = natural_in(2, 8, one(line, tokens)?)?;
     if number == 2 || (number == 4 || number == 8) {
         Some(Directive::Align(number as u32))
     } else {
@@ -256,23 +229,26 @@ fn directive_of(line: &[u8], keyword: Keyword, tokens: &[Token]) -> Option<Direc
     ensures { result ≡ directive_of line.now keyword (behind line.now tokens.now) }
 {
     match keyword {
-        Keyword::Text => plainly(Directive::Text, line, tokens),
-        Keyword::Data => plainly(Directive::Data, line, tokens),
-        Keyword::Region => region_of(line, tokens),
+        Keyword::Text => none(line, tokens).and(Some(Directive::Text)),
+        Keyword::Data => none(line, tokens).and(Some(Directive::Data)),
+        Keyword::Region => {
+            let writable = right_of(line, one(line, tokens)?)?;
+            Some(Directive::Region { writable })
+        }
         Keyword::Services => Some(Directive::Services(services_of(line, tokens)?)),
-        Keyword::Stack => Some(Directive::Stack(numbered(1, 16, line, tokens)? as u16)),
+        Keyword::Stack => Some(Directive::Stack(natural_in(1, 16, one(line, tokens)?)? as u16)),
         Keyword::Function => function_of(line, tokens),
-        Keyword::Param => Some(Directive::Param(ranged(line, tokens)?)),
-        Keyword::Result => Some(Directive::Result(ranged(line, tokens)?)),
-        Keyword::Depth => Some(Directive::Depth(numbered(0, 256, line, tokens)? as u16)),
+        Keyword::Param => Some(Directive::Param(range_of(line, tokens)?)),
+        Keyword::Result => Some(Directive::Result(range_of(line, tokens)?)),
+        Keyword::Depth => Some(Directive::Depth(natural_in(0, 256, one(line, tokens)?)? as u16)),
         Keyword::Block => Some(Directive::Block(plain_name(one(line, tokens)?)?)),
         Keyword::Cell => cell_of(line, tokens),
-        Keyword::Fuel => Some(Directive::Fuel(fuel_of(line, tokens)?)),
+        Keyword::Fuel => Some(Directive::Fuel(fuel_of(one(line, tokens)?)?)),
         Keyword::Term => term_of(line, tokens),
         Keyword::Word => Some(Directive::Values(Width::Word, value_count(line, tokens)?)),
         Keyword::Half => Some(Directive::Values(Width::Half, value_count(line, tokens)?)),
         Keyword::Byte => Some(Directive::Values(Width::Byte, value_count(line, tokens)?)),
-        Keyword::Skip => Some(Directive::Skip(numbered(0, u64::MAX, line, tokens)?)),
+        Keyword::Skip => Some(Directive::Skip(natural_in(0, u64::MAX, one(line, tokens)?)?)),
         Keyword::Align => alignment_of(line, tokens),
     }
 }
@@ -295,7 +271,7 @@ fn called(line: &[u8], keyword: Keyword, tokens: &[Token]) -> Option<Name>
 
 /// The directive of a keyword and the operands behind the first token, or what is wrong in its place.
 fn told(line: &[u8], keyword: Keyword, tokens: &[Token]) -> Statement
-    ensures { result ≡ told keyword (behind line.now tokens.now) (directive_of line.now keyword (behind line.now tokens.now)) }
+    ensures { result ≡ told line.now keyword (behind line.now tokens.now) }
 {
     match directive_of(line, keyword, tokens) {
         Some(directive) => Statement::Directive(directive),
@@ -312,12 +288,11 @@ pub fn read_statement(line: &[u8], tokens: &[Token]) -> Statement
     let Some((first, _)) = tokens.split_first() else {
         return Statement::Nothing;
     };
-    let Token { kind, start, stop } = *first;
-    match kind {
-        Kind::Name => match keyword_named(bytes_between(line, start, stop)) {
+    match word_of(line, first) {
+        Word::Name(_, start, stop) => match keyword_named(bytes_between(line, start, stop)) {
             Some(keyword) => told(line, keyword, operands(tokens)),
             None => Statement::Instruction,
         },
-        Kind::Percent | Kind::Number(_) | Kind::Sign => Statement::Instruction,
+        _ => Statement::Instruction,
     }
 }

@@ -1,16 +1,15 @@
 // The values of a data directive as bytes.
-ghost use Rattle.std.specs.Prelude.{◌≡◌, ◌++◌, ℕ, List, Option, pos, negsuc, ◌≤ℤ◌, length, take, OnOk, OnErr, true};
+ghost use Rattle.std.specs.Prelude.{◌≡◌, ◌++◌, ℕ, List, Option, pos, negsuc, ◌+ℤ◌, ◌≤ℤ◌, length, take, OnOk, OnErr, true};
 ghost use Rattle.std.specs.List.{flat_map, list_all};
+ghost use Rattle.std.specs.Option.{option_map};
 ghost use Rattle.std.specs.Int.{w8, w16, w32, to_be_bytes};
-ghost use Rattle.sbx_directives.specs.Lines.{text_of};
 ghost use Rattle.sbx_directives.specs.Operands.{behind};
-ghost use Rattle.sbx_directives.specs.Data.{bytes_of_width, fits, of_bits, spelled, moved, value_of, is_known, is_fit, bytes_of, listed, data_of, Gives};
+ghost use Rattle.sbx_directives.specs.Data.{bytes_of_width, fits, of_bits, spelled, value_of, is_known, is_fit, bytes_of, listed, data_of, Gives};
 
-use crate::directive::{Name, Width};
+use crate::directive::{Width, text_of};
 use crate::fault::DataFault;
 use crate::operand::{Operand, next_operand, operands};
 use crate::statement::value_count;
-use crate::word::text_of;
 use sbx_text::Token;
 use std::alloc::AllocError;
 use v8_syntax::Symbols;
@@ -36,21 +35,14 @@ fn fits(width: Width, value: i128) -> bool
     }
 }
 
-fn moved(symbol: Option<u32>, by: i128) -> Option<i128>
+/// A symbol and a number.
+fn moved<S: Symbols>(symbols: &S, name: &[u8], by: i128) -> Option<i128>
     requires low { negsuc 18446744073709551615 ≤ℤ by }
     requires high { by ≤ℤ pos 18446744073709551615 }
-    ensures { result ≡ moved symbol by }
+    ensures { result ≡ option_map (λ v. pos v +ℤ by) (S.values symbols.now name.now) }
 {
-    match symbol {
-        Some(word) => Some(i128::from(word) + by),
-        None => None,
-    }
-}
-
-fn symbol_of<S: Symbols>(symbols: &S, line: &[u8], name: Name) -> Option<u32>
-    ensures { result ≡ S.values symbols.now (text_of line.now name) }
-{
-    symbols.value(text_of(line, name))
+    let word = symbols.value(name)?;
+    Some(i128::from(word) + by)
 }
 
 /// The whole number that an operand is, if it is an expression and its symbol is known.
@@ -58,14 +50,15 @@ fn value_of<S: Symbols>(symbols: &S, line: &[u8], operand: Operand) -> Option<i1
     ensures { result ≡ value_of (S.values symbols.now) line.now operand }
 {
     match operand {
-        Operand::Number(number) => Some(i128::from(number)),
-        Operand::Minus(number) => Some(-i128::from(number)),
-        Operand::Name(name) => moved(symbol_of(symbols, line, name), 0),
-        Operand::Sum(name, number) => moved(symbol_of(symbols, line, name), i128::from(number)),
-        Operand::Difference(name, number) => {
-            moved(symbol_of(symbols, line, name), -i128::from(number))
-        }
-        Operand::Register(_) | Operand::Counted(..) | Operand::Other => None,
+        Operand::Number(number) => Some(number),
+        Operand::Name(name) => Some(i128::from(symbols.value(text_of(line, name))?)),
+        Operand::Sum(name, number) => moved(symbols, text_of(line, name), i128::from(number)),
+        Operand::Difference(name, number) => moved(
+            symbols,
+            text_of(line, name),
+            -i128::from(number),
+        ),
+        _ => None,
     }
 }
 

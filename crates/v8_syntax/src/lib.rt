@@ -13,4 +13,6 @@ mod word;
 pub use fault::SyntaxFault;
 pub use statement::{length_of, parse_instr};
 pub use symbols::Symbols;
-pub use word::{after_first, bytes_between, is_same, register_named, sign_byte};
+pub use word::{
+    NameKind, Word, after_first, bytes_between, front, is_same, register_named, sign_byte, word_of,
+};

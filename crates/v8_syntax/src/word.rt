@@ -165,7 +165,7 @@ pub fn after_first<T>(items: &[T]) -> &[T]
 
 /// What a token is.
 #[tactic(auto, unfolding(crate::specs::Words::word_of))]
-fn word_of(line: &[u8], token: &Token) -> Word
+pub fn word_of(line: &[u8], token: &Token) -> Word
     ensures { result ≡ word_of line.now token.now }
 {
     let Token { kind, start, stop } = *token;

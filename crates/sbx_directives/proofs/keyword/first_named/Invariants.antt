@@ -1,10 +1,10 @@
-use Rattle.std.proofs.Common.{◌≡◌, drop}
+use Rattle.std.proofs.Common.{◌≡◌, ℕ, List, drop, map}
 use Rattle.std.specs.List.{find}
 use Rattle.std.specs.Str.{bytes_eq}
-use Rattle.sbx_directives.specs.Directives.{name_of}
+use Rattle.sbx_directives.specs.declared.directive.Keyword.{Keyword}
 use Rattle.sbx_directives.proofs.keyword.first_named.Given as goal
 
 -- the first of those that are left is the first of all
-abbrev pub invariant-loop-keyword : goal.invariant-loop-keyword
-invariant-loop-keyword l =
-    find (λ k. bytes_eq (name_of k) l.name) (drop l.keyword-index l.keywords) ≡ find (λ k. bytes_eq (name_of k) l.name) l.keywords
+abbrev pub invariant-loop-text : goal.invariant-loop-text
+invariant-loop-text l =
+    find (λ (x : List ℕ × Keyword). bytes_eq x.0 l.name) (map (λ x. (x.0.now, x.1)) (drop l.text-index l.keywords)) ≡ find (λ (x : List ℕ × Keyword). bytes_eq x.0 l.name) (map (λ x. (x.0.now, x.1)) l.keywords)
