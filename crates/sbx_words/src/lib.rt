@@ -12,7 +12,7 @@ mod starved;
 
 use clap::error::ErrorKind;
 use clap::{Arg, ArgAction, ArgMatches, Command, Error};
-pub use sbx_command::{Full, Job, Stop, Windows, exit_status};
+pub use sbx_command::{Full, Job, Stop, Windows};
 use sbx_command::{turns, window_count};
 pub use starved::Starved;
 use std::alloc::{AllocError, Global};
