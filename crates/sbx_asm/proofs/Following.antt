@@ -31,14 +31,8 @@ use Rattle.sbx_asm.specs.Rules.{Values, acts, is_unknown, takes_annotations, tak
 use Rattle.sbx_asm.specs.Addresses.{padding_of, section_room}
 use Rattle.sbx_asm.specs.Stages.Places.{has_room}
 use Rattle.sbx_asm.specs.Stages.Drafts as stages
-use Rattle.sbx_asm.specs.Stages.Drafts.{close_block, close_headed, close_function, headed, open_block, begin_function, begin_block_of, begin_block, param_if, add_param, result_if, add_result, depth_by, add_depth, cell_if, add_cell, term_if, add_term, fuel_if, fuel_by, add_fuel, services_by, add_services, stack_by, add_stack, noted, noted_where, begun, leave_region, close_region, choose_data, begin_region, with_bytes, data_checked, with_data, with_zeros, add_values, add_zeros, instruction_checked, with_words, instruction_does, statement_does, numbered_line}
-use Rattle.sbx_asm.proofs.Standing.{item, passed}
-
--- ---- a line as an item
-
-abbrev pub said_does : Values → Item → Said → Draft → Draft
-said_does values i (Ok s) d = record (statement_does values i.bytes i.tokens s d) { place = passed i (Ok s) d.place }
-said_does values i (Err f) d = record d { fault = told d.fault (at d.line (causes.Text f)); block = record d.block { begun = true }; place = passed i (Err f) d.place }
+use Rattle.sbx_asm.specs.Stages.Drafts.{close_block, close_headed, close_function, headed, open_block, begin_function, begin_block_of, begin_block, param_if, add_param, result_if, add_result, depth_by, add_depth, cell_if, add_cell, term_if, add_term, fuel_if, fuel_by, add_fuel, services_by, add_services, stack_by, add_stack, noted, noted_where, begun, leave_region, close_region, choose_data, begin_region, with_bytes, data_checked, with_data, with_zeros, add_values, add_zeros, instruction_checked, with_words, instruction_does, statement_does, said_does}
+use Rattle.sbx_asm.proofs.Standing.{item}
 
 -- ---- what a draft and the lines before have in common
 
@@ -453,7 +447,7 @@ module _ (values : Values) (before : List Item) (number : ℕ) (labels : List (L
   unfolding leave_region close_region begin_region
   region_follows writable d h = (h.0, h.1, h.2, h.3, h.4, h.5, h.6, h.7, h.8, h.9, h.10, another 8 d.region.count (count is_region before) h.11, h.12, refl, h.14)
 
-  words_follow : (d : Draft) → Follows values before d → (r : Result (List Instr) SyntaxFault) → Behind values before true (begun (with_words r (instruction_checked bytes tokens d)))
+  words_follow : (d : Draft) → Follows values before d → (r : Result (List Instr) SyntaxFault) → Behind values before true (begun (with_words r (instruction_checked (it (Ok statements.Instruction)) d)))
   words_follow d h (Ok is) = acted d h
   words_follow d h (Err f) = acted d h
 

@@ -1,5 +1,5 @@
 -- The numbers of a directive are such that their fields can hold them.
-use Rattle.std.proofs.Common.{◌≡◌, ℕ, ◌+◌, ◌^◌, ◌<◌, ◌≤◌, Bool, true, false, ℤ, pos, negsuc, List, [], ◌∷◌, Option, None, Some, IfSome, arith}
+use Rattle.std.proofs.Common.{◌≡◌, ℕ, ◌+◌, ◌^◌, ◌<◌, ◌≤◌, Bool, true, false, ℤ, pos, negsuc, List, [], ◌∷◌, Option, None, Some, Ok, Err, IfSome, arith}
 use Rattle.std.specs.Prelude.{◌&&◌, int_le, nat_le, codes, FitsSigned}
 use Rattle.std.specs.Int.{w32, w64}
 use Rattle.std.specs.List.{list_all, list_any}
@@ -21,6 +21,7 @@ use Rattle.sbx_directives.specs.declared.operand.Operand.{Operand}
 use Rattle.sbx_directives.specs.Lines.{text_of}
 use Rattle.sbx_directives.specs.Operands.{◌>>=◌, operands_of, is_between, integer, integer_in, natural, natural_in, range_of, coefficient, plain_name, location, none, one, two, three, four, five}
 use Rattle.sbx_directives.specs.Directives.{bit_if, names, named_services, is_service, is_alignment, services_of, frames_of, right_named, value_count, function_of, cell_of, term_of, ranged, numbered, fuel_of, alignment_of, directive_of, told, keyed, keyword_named, begun, statement_of}
+use Rattle.sbx_asm.specs.Items.{Said}
 use Rattle.sbx_asm.proofs.Wholes.{whatever}
 
 -- each number that a directive has for the image
@@ -154,6 +155,10 @@ directive_fits line keywords.Align os = alignment_fits os
 abbrev pub StatementFits : Statement → Type 0
 StatementFits (statements.Directive d) = Fits d
 StatementFits _ = Unit {0}
+
+abbrev pub SaidFits : Said → Type 0
+SaidFits (Ok s) = StatementFits s
+SaidFits (Err f) = Unit {0}
 
 told_fits : (k : Keyword) (os : List Operand) (o : Option Directive) → FitSome o → StatementFits (told k os o)
 told_fits k os (Some d) h = h

@@ -20,11 +20,6 @@ use Rattle.sbx_asm.specs.Stages.Places.{moved_on, with_code, with_data, address_
 abbrev pub place_of : List Item → Place
 place_of before = record { section = section_after before; next_word = code_address before; region_start = region_start before; region_bytes = data_offset before }
 
--- what the stages make of it
-abbrev pub passed : Item → Said → Place → Place
-passed i (Ok s) p = place_after i.bytes i.tokens s p
-passed i (Err f) p = with_code 4 p
-
 module _ (base size n : ℕ) where
   by : (fits room both : Bool) → leb size section_room ≡ fits → leb n (base + section_room - (base + cond fits size section_room)) ≡ room → leb (size + n) section_room ≡ both
       → cond room (base + cond fits size section_room + n) (base + section_room) ≡ base + cond both (size + n) section_room
@@ -105,7 +100,7 @@ module _ (before : List Item) (number : ℕ) (labels : List (List ℕ)) (bytes :
       ≡ record { section = Data; next_word = CODE_START + up_to_room (code_size before + 0); region_start = start_behind (region_start before) (data_offset before); region_bytes = 0 }
   begins = λ j. record { section = Data; next_word = same_size CODE_START (code_size before) j; region_start = start_behind (region_start before) (data_offset before); region_bytes = 0 }
 
-  pub stands : (s : Said) → passed (item s) s (place_of before) ≡ place_of (item s ∷ before)
+  pub stands : (s : Said) → place_after (item s) s (place_of before) ≡ place_of (item s ∷ before)
   unfolding place_after
   stands (Err f) = codes_more 4
   stands (Ok statements.Nothing) = stays (section_after before)

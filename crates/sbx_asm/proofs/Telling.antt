@@ -31,10 +31,10 @@ use Rattle.sbx_asm.specs.Addresses.{code_offset, data_offset, padding_of, fits_b
 use Rattle.sbx_asm.specs.Rules.{Values, when, acts, is_code, takes_annotations, takes_ranges, has_fuel, has_depth, is_services, is_stack, in_place, range_rules, cell_rules, term_rules, value_rules, statement_rules, data_rules, another_region, another_block, block_rules, line_rules}
 use Rattle.sbx_asm.specs.Stages.Places.{has_room, code_end}
 use Rattle.sbx_asm.specs.Stages.Drafts as stages
-use Rattle.sbx_asm.specs.Stages.Drafts.{close_block, close_headed, close_function, headed, open_block, begin_function, begin_block_of, begin_block, param_if, add_param, result_if, add_result, depth_by, add_depth, cell_if, add_cell, term_if, add_term, fuel_if, fuel_by, add_fuel, services_by, add_services, stack_by, add_stack, noted, noted_where, begun, leave_region, close_region, choose_data, begin_region, with_bytes, data_checked, with_data, with_zeros, add_values, add_zeros, instruction_checked, with_words, instruction_does, statement_does}
+use Rattle.sbx_asm.specs.Stages.Drafts.{close_block, close_headed, close_function, headed, open_block, begin_function, begin_block_of, begin_block, param_if, add_param, result_if, add_result, depth_by, add_depth, cell_if, add_cell, term_if, add_term, fuel_if, fuel_by, add_fuel, services_by, add_services, stack_by, add_stack, noted, noted_where, begun, leave_region, close_region, choose_data, begin_region, with_bytes, data_checked, with_data, with_zeros, add_values, add_zeros, instruction_checked, with_words, instruction_does, statement_does, said_does}
 use Rattle.sbx_asm.proofs.Labelling.{fold_append}
 use Rattle.sbx_asm.proofs.Standing.{item, place_of}
-use Rattle.sbx_asm.proofs.Following.{said_does, Follows, bit, capped_room, capped_least, one_longer, same_annotations, same_ranges}
+use Rattle.sbx_asm.proofs.Following.{Follows, bit, capped_room, capped_least, one_longer, same_annotations, same_ranges}
 
 pub joined : (o : Option AsmFault) (n : ℕ) (cs ds : List Cause) → fold told o (map (at n) (cs ++ ds)) ≡ fold told (fold told o (map (at n) cs)) (map (at n) ds)
 joined o n cs ds = ap (fold told o) (map-append (at n) cs ds) ∙ fold_append told o (map (at n) cs) (map (at n) ds)
@@ -110,7 +110,7 @@ module _ (values : Values) (before : List Item) (number : ℕ) (labels : List (L
   abbrev full : List Cause
   full = when (not (fits_behind (code_offset before) (4 * statement_length bytes tokens))) causes.Limit
 
-  words_told : (r : Result (List Instr) SyntaxFault) → (begun (with_words r (instruction_checked bytes tokens d))).fault
+  words_told : (r : Result (List Instr) SyntaxFault) → (begun (with_words r (instruction_checked (it (Ok statements.Instruction)) d))).fault
       ≡ with_more (when (not (is_code (section_after before) && in_function before)) causes.Directive ++ (when (not (fits_behind (code_offset before) (4 * statement_length bytes tokens))) causes.Limit ++ statement_rules r))
   words_told r =
       by r
@@ -118,7 +118,7 @@ module _ (values : Values) (before : List Item) (number : ℕ) (labels : List (L
       ∙ sym (joined (with_more misplaced) d.line full (statement_rules r))
       ∙ sym (joined d.fault d.line misplaced (full ++ statement_rules r))
     where
-      by : (r : Result (List Instr) SyntaxFault) → (begun (with_words r (instruction_checked bytes tokens d))).fault ≡ fold told (instruction_checked bytes tokens d).fault (map (at d.line) (statement_rules r))
+      by : (r : Result (List Instr) SyntaxFault) → (begun (with_words r (instruction_checked (it (Ok statements.Instruction)) d))).fault ≡ fold told (instruction_checked (it (Ok statements.Instruction)) d).fault (map (at d.line) (statement_rules r))
       by (Ok is) = refl
       by (Err f) = refl
 

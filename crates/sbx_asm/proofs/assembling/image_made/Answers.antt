@@ -1,7 +1,0 @@
-use Rattle.sbx_asm.specs.Stages.Whole.{image_made}
-use Rattle.std.proofs.Common.{rules}
-use Rattle.sbx_asm.proofs.assembling.image_made.Goals as goal
-
-pub returns-in-Ok : goal.returns-in-Ok
-unfolding image_made
-returns-in-Ok c = search rules
