@@ -36,7 +36,6 @@ use Rattle.sbx_directives.specs.declared.directive.Statement.TheVariants as stat
 use Rattle.sbx_directives.specs.declared.fault.DataFault.{DataFault}
 use Rattle.sbx_directives.specs.declared.fault.DataFault.TheVariants as data_faults
 use Rattle.sbx_directives.specs.Lines.{label_count}
-use Rattle.sbx_directives.specs.Directives.{statement_of}
 use Rattle.sbx_directives.specs.Data.{data_of, bytes_of_width}
 use Rattle.sbx_asm.specs.declared.fault.AsmFault.{AsmFault}
 use Rattle.sbx_asm.specs.declared.fault.Cause.{Cause}

@@ -25,7 +25,6 @@ use Rattle.sbx_directives.specs.Data.{data_of, bytes_of_width}
 use Rattle.sbx_asm.specs.declared.fault.Cause.TheVariants as causes
 use Rattle.sbx_asm.specs.declared.opening.Head.{Head}
 use Rattle.sbx_asm.specs.declared.draft.Draft.{Draft}
-use Rattle.sbx_asm.specs.Faults.{told, at}
 use Rattle.sbx_asm.specs.Items.{Item, Said, up_to, count, starts_function, ends_function, is_data, is_region, is_block, ends_block, in_function, block_count, params, results, cells, terms}
 use Rattle.sbx_asm.specs.Rules.{Values, acts, is_unknown, takes_annotations, takes_ranges, has_fuel, has_depth, last_cell, last_term, is_services, is_stack}
 use Rattle.sbx_asm.specs.Addresses.{padding_of, section_room}
