@@ -1,6 +1,6 @@
 -- Where the regions of an image begin: where a label behind their `.region` points.
 use Rattle.std.proofs.Common.{◌≡◌, ℕ, suc, ◌+◌, ◌*◌, ◌<◌, ◌≤◌, Bool, true, false, List, [], ◌∷◌, ◌++◌, length, drop, None, Some, Ok, Err, refl, sym, ap, subst, ◌∙◌, append_assoc, arith}
-use Rattle.std.specs.Prelude.{not, ◌&&◌, ◌||◌, nat_le, slice_get, if◌then◌else◌}
+use Rattle.std.specs.Prelude.{not, ◌&&◌, ◌||◌, nat_le, slice_get, if◌then◌else◌, nat_lt}
 use Rattle.std.specs.List.{AllByRecursion, list_any, list_all}
 use Rattle.std.proofs.lemmas.Bool.{ltb-true}
 use Rattle.std.proofs.lemmas.List.{append-nil, length-append}
@@ -19,11 +19,12 @@ use Rattle.sbx_asm.specs.declared.place.Section.{Section}
 use Rattle.sbx_asm.specs.declared.place.Section.TheVariants.{Code, Data}
 use Rattle.sbx_asm.specs.declared.fault.Cause.TheVariants as causes
 use Rattle.sbx_asm.specs.Faults.{at}
-use Rattle.sbx_asm.specs.Items.{Item, Said, each, behind, up_to, count, is_region, is_data, starts_region, chooses_data, leaves, leaves_region, has_bytes, gives_bytes}
-use Rattle.sbx_asm.specs.Addresses.{data_length, section_room, up_to_room, data_size, data_offset, region_start, section_after, chosen, address_in_section, label_address}
-use Rattle.sbx_asm.specs.Rules.{Values, when, is_code, data_rules, value_rules, another_region, line_rules, own_faults, empty_region, empty_block, faults_at}
-use Rattle.sbx_asm.specs.Images.{filled, region_with, bytes_said, bytes_at, region_at}
+use Rattle.sbx_asm.specs.Items.{Item, Said, each, behind, up_to, count, is_region, is_data, has_bytes}
+use Rattle.sbx_asm.specs.Addresses.{data_length, section_room, up_to_room, data_size, data_offset, region_start, section_after, label_address, is_code}
+use Rattle.sbx_asm.specs.Rules.{Values, when, data_rules, value_rules, line_rules, faults_at}
+use Rattle.sbx_asm.specs.Images.{filled, region_with, bytes_at, region_at}
 use Rattle.sbx_asm.specs.Laws.{RegionsBeginWhereLabelsSay}
+use Rattle.sbx_asm.proofs.Views.{starts_region, chooses_data, leaves, leaves_region, gives_bytes, chosen, address_in_section, another_region, bytes_said}
 use Rattle.sbx_asm.proofs.Standing.{item}
 use Rattle.sbx_asm.proofs.Making.{cons_nil, nil_left, nil_right, nil_map}
 use Rattle.sbx_asm.proofs.ValueCounts.{SaysCount, ItemCounts}
@@ -146,7 +147,7 @@ module _ (values : Values) where
   region_has : (before : List Item) (i : Item) (after : List Item) → AllByRecursion ItemCounts after → each (faults_at values) before (i ∷ after) ≡ [] → is_region i ≡ true → 0 < length (ahead (i ∷ before) after)
   region_has before i after says clean e =
       let mine = nil_left (faults_at values before i after) (each (faults_at values) (i ∷ before) after) clean in
-      let told = nil_map (at i.number) _ (nil_right (own_faults values before i) (empty_region i after) (nil_left (own_faults values before i ++ empty_region i after) (empty_block values before i after) mine)) in
+      let told = nil_left (when (is_region i && not (list_any has_bytes (up_to leaves_region after))) causes.Directive) _ (nil_right (line_rules values before i i.said) _ (nil_right (when (nat_lt 1000000 i.number) causes.Limit) _ (nil_map (at i.number) _ mine))) in
       some_ahead after (i ∷ before) says (nil_right (faults_at values before i after) (each (faults_at values) (i ∷ before) after) clean) (wanted (is_region i) (list_any has_bytes (up_to leaves_region after)) e told)
 
   -- ---- the start of a region, by those before it

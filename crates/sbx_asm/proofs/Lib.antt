@@ -7,6 +7,7 @@ mod Wholes
 mod StatementWords
 mod Numbers
 mod DataBytes
+mod Views
 mod Standing
 mod Labelling
 mod Following

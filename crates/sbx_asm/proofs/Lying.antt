@@ -18,12 +18,13 @@ use Rattle.sbx_asm.specs.declared.place.Section.TheVariants.{Code, Data}
 use Rattle.sbx_asm.specs.declared.fault.Cause.{Cause}
 use Rattle.sbx_asm.specs.declared.fault.Cause.TheVariants as causes
 use Rattle.sbx_asm.specs.Faults.{at}
-use Rattle.sbx_asm.specs.Items.{Item, items_of, Said, each, behind, up_to, count, is_region, starts_region}
-use Rattle.sbx_asm.specs.Addresses.{data_length, padding_of, section_room, up_to_room, fits_behind, size_with, data_size, data_offset, last_start, up_to_last, start_with, region_start, data_address, section_after, address_in_section, label_address, all_labels, values_of}
-use Rattle.sbx_asm.specs.Rules.{Values, duplicates, faults_of, least_of, when, is_code, data_rules, value_rules, another_region, line_rules, own_faults, empty_block, empty_region, faults_at}
-use Rattle.sbx_asm.specs.Images.{filled, region_with, bytes_said, bytes_at, region_begun, region_at, image_of}
+use Rattle.sbx_asm.specs.Items.{Item, items_of, Said, each, behind, up_to, count, is_region}
+use Rattle.sbx_asm.specs.Addresses.{data_length, padding_of, section_room, up_to_room, fits_behind, data_size, data_offset, last_start, region_start, data_address, section_after, label_address, all_labels, values_of, is_code}
+use Rattle.sbx_asm.specs.Rules.{Values, duplicates, faults_of, least_of, when, data_rules, value_rules, line_rules, faults_at}
+use Rattle.sbx_asm.specs.Images.{filled, region_with, bytes_at, region_at, image_of}
 use Rattle.sbx_asm.specs.Meaning.{source_image}
 use Rattle.sbx_asm.specs.Laws.{DataLieWhereLabelsSay}
+use Rattle.sbx_asm.proofs.Views.{starts_region, size_with, start_with, address_in_section, another_region, bytes_said}
 use Rattle.sbx_asm.proofs.Standing.{item, low}
 use Rattle.sbx_asm.proofs.Making.{cons_nil, nil_left, nil_right, nil_map}
 use Rattle.sbx_asm.proofs.Agreement.{none_told}
@@ -102,11 +103,11 @@ size_grows size (Ok (statements.Directive _)) h = refl
 size_grows size (Ok _) h = refl
 size_grows size (Err f) h = refl
 
-begins_none : (values : Values) (behind_it after : List Item) (s : Said) → starts_region s ≡ false → region_begun values behind_it s after ≡ []
-begins_none values behind_it after (Ok (statements.Directive (directives.Region writable))) h = absurd (cc)
-begins_none values behind_it after (Ok (statements.Directive _)) h = refl
-begins_none values behind_it after (Ok _) h = refl
-begins_none values behind_it after (Err f) h = refl
+begins_none : (values : Values) (before : List Item) (i : Item) (after : List Item) (s : Said) → starts_region s ≡ false → region_at values before (record i { said = s }) after ≡ []
+begins_none values before i after (Ok (statements.Directive (directives.Region writable))) h = absurd (cc)
+begins_none values before i after (Ok (statements.Directive _)) h = refl
+begins_none values before i after (Ok _) h = refl
+begins_none values before i after (Err f) h = refl
 
 -- ---- one that begins one
 
@@ -135,6 +136,9 @@ in_room size h = ap (λ (t : Bool). cond t size section_room) (le-leb size secti
 
 small_offset : (size : ℕ) → up_to_room size ≤ section_room
 small_offset size = cond_both (leb size section_room) size section_room (λ m. m ≤ section_room) (λ h. leb-true size section_room h) (λ _. omega arith)
+
+abbrev up_to_last : ℕ → ℕ
+up_to_last address = if nat_le address last_start then address else last_start
 
 capped : (address : ℕ) → up_to_last address ≤ address
 capped address = cond_both (leb address last_start) address last_start (λ m. m ≤ address) (λ _. omega arith) (λ h. let k = leb-false address last_start h in omega (arith, k))
@@ -240,8 +244,8 @@ module _ (values : Values) where
   -- with a line that begins no region
   pub newest_more : (writable : Bool) (bs : List ℕ) (before : List Item) (i : Item) (after : List Item) → is_region i ≡ false → newest writable bs before (i ∷ after) ≡ newest writable (bs ++ bytes_at values before i []) (i ∷ before) after
   newest_more writable bs before i after h =
-      (λ j. region_with writable (filled (bs ++ each (bytes_at values) before (cond (h j) [] (i ∷ up_to is_region after)))) ++ (region_begun values (i ∷ before) i.said after ++ each (region_at values) (i ∷ before) after))
-      ∙ ap (λ (rs : List Region). region_with writable (filled (bs ++ (bytes_at values before i [] ++ each (bytes_at values) (i ∷ before) (up_to is_region after)))) ++ (rs ++ each (region_at values) (i ∷ before) after)) (begins_none values (i ∷ before) after i.said h)
+      (λ j. region_with writable (filled (bs ++ each (bytes_at values) before (cond (h j) [] (i ∷ up_to is_region after)))) ++ (region_at values before i after ++ each (region_at values) (i ∷ before) after))
+      ∙ ap (λ (rs : List Region). region_with writable (filled (bs ++ (bytes_at values before i [] ++ each (bytes_at values) (i ∷ before) (up_to is_region after)))) ++ (rs ++ each (region_at values) (i ∷ before) after)) (begins_none values before i after i.said h)
       ∙ ap (λ (xs : List ℕ). region_with writable (filled xs) ++ each (region_at values) (i ∷ before) after) (sym (append_assoc bs (bytes_at values before i []) (each (bytes_at values) (i ∷ before) (up_to is_region after))))
 
   -- the byte at an address
@@ -314,8 +318,7 @@ module _ (values : Values) where
 
   pub line_clean : (before : List Item) (i : Item) (after : List Item) → faults_at values before i after ≡ [] → line_rules values before i i.said ≡ []
   line_clean before i after mine =
-      nil_right (when (nat_lt 1000000 i.number) causes.Limit) (line_rules values before i i.said)
-      (nil_map (at i.number) _ (nil_left (own_faults values before i) (empty_region i after) (nil_left (own_faults values before i ++ empty_region i after) (empty_block values before i after) mine)))
+      nil_left (line_rules values before i i.said) _ (nil_right (when (nat_lt 1000000 i.number) causes.Limit) _ (nil_map (at i.number) _ mine))
 
   lies : (front before : List Item) (bs : List ℕ) (writable : Bool) (i : Item) (after : List Item) (k b : ℕ) → data_size before ≡ length bs → length bs ≤ section_room
       → AllByRecursion ItemCounts (front ++ i ∷ after) → each (faults_at values) before (front ++ i ∷ after) ≡ [] → slice_get (bytes_at values (behind before front) i []) k ≡ Some b

@@ -13,8 +13,9 @@ use Rattle.sbx_asm.specs.declared.place.Section.{Section}
 use Rattle.sbx_asm.specs.declared.place.Section.TheVariants.{Code, Data}
 use Rattle.sbx_asm.specs.declared.place.Place.{Place}
 use Rattle.sbx_asm.specs.Items.{Item, Said}
-use Rattle.sbx_asm.specs.Addresses.{padding_of, code_size, data_size, section_room, up_to_room, last_start, start_behind, start_with, region_start, code_address, data_offset, section_after, address_in_section}
+use Rattle.sbx_asm.specs.Addresses.{padding_of, code_size, data_size, section_room, up_to_room, last_start, start_behind, region_start, code_address, data_offset, section_after}
 use Rattle.sbx_asm.specs.Stages.Places.{moved_on, with_code, with_data, address_in, place_after}
+use Rattle.sbx_asm.proofs.Views.{start_with, address_in_section}
 
 -- what some lines, the nearest first, make of the place
 abbrev pub place_of : List Item → Place
