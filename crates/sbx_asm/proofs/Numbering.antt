@@ -20,13 +20,13 @@ use Rattle.sbx_asm.specs.declared.fault.Cause.TheVariants as causes
 use Rattle.sbx_asm.specs.declared.place.Section.{Section}
 use Rattle.sbx_asm.specs.declared.place.Section.TheVariants.{Code, Data}
 use Rattle.sbx_asm.specs.Faults.{at}
-use Rattle.sbx_asm.specs.Items.{fuels, Item, Said, each, up_to, count, starts_function, ends_function, is_data, is_region, has_bytes, is_block, ends_block, in_function, begins_block, block_count, params, results, depths, cells, terms, first_or, services, stacks, has}
-use Rattle.sbx_asm.specs.Addresses.{Label, code_length, data_length, code_size, data_size, region_start, up_to_room, code_offset, data_offset, code_address, fits_behind, section_after, labelled, names_said, labels_at, all_labels, worth_in, values_of, is_called, is_code}
+use Rattle.sbx_asm.specs.Items.{Item, Said, each, up_to, count, starts_function, ends_function, is_data, is_region, has_bytes, is_block, ends_block, in_function, begins_block, block_count, services, stacks, params, results, depths, fuels, cells, terms, has, first_or, is_text}
+use Rattle.sbx_asm.specs.Addresses.{Label, code_length, data_length, region_start, up_to_room, start_behind, code_offset, data_offset, code_address, fits_behind, section_after, labelled, names_said, labels_at, all_labels, worth_in, values_of, is_called, is_code}
 use Rattle.sbx_asm.specs.Rules.{Values, when, ascending, duplicates, data_rules, another_block, block_rules, in_place, value_rules, acts, takes_annotations, takes_ranges, has_fuel, has_depth, line_rules, faults_at, faults_of}
 use Rattle.sbx_asm.specs.Images as images
 use Rattle.sbx_asm.specs.Images.{block_with, block_at, function_at, words_at, bytes_at, filled, region_with, version_with, region_at, image_of}
 use Rattle.sbx_asm.specs.Laws.{renumbered, retold, NumbersShowInFaultsAlone}
-use Rattle.sbx_asm.proofs.Views.{saying, leaves_region, start_with, size_with, chosen, address_in_section, told_again, range_rules, statement_rules, words_meant, words_said, bytes_said}
+use Rattle.sbx_asm.proofs.Views.{saying, leaves_region, address_in_section, told_again, range_rules, statement_rules, words_meant}
 use Rattle.sbx_asm.proofs.Tables.{same_values}
 
 module _ (f : ℕ → ℕ) where
@@ -73,30 +73,24 @@ module _ (f : ℕ → ℕ) where
 
   -- ---- places
 
-  code_size_u : (is : List Item) → code_size (us is) ≡ code_size is
-  code_size_u [] = refl
-  code_size_u (i ∷ is) = ap (λ (n : ℕ). n + code_length i) (code_size_u is)
-
-  data_size_u : (is : List Item) → data_size (us is) ≡ data_size is
-  data_size_u [] = refl
-  data_size_u (i ∷ is) = ap (λ (n : ℕ). size_with n i.said) (data_size_u is)
-
   code_offset_u : (is : List Item) → code_offset (us is) ≡ code_offset is
-  code_offset_u is = ap up_to_room (code_size_u is)
+  code_offset_u [] = refl
+  code_offset_u (i ∷ is) = ap (λ (n : ℕ). up_to_room (n + code_length i)) (code_offset_u is)
 
   data_offset_u : (is : List Item) → data_offset (us is) ≡ data_offset is
-  data_offset_u is = ap up_to_room (data_size_u is)
+  data_offset_u [] = refl
+  data_offset_u (i ∷ is) = ap (λ (n : ℕ). if is_region i then 0 else up_to_room (n + data_length n i.said)) (data_offset_u is)
 
   code_address_u : (is : List Item) → code_address (us is) ≡ code_address is
   code_address_u is = ap (λ (n : ℕ). CODE_START + n) (code_offset_u is)
 
   start_u : (is : List Item) → region_start (us is) ≡ region_start is
   start_u [] = refl
-  start_u (i ∷ is) = let a = start_u is in let b = data_offset_u is in λ k. start_with (a k) (b k) i.said
+  start_u (i ∷ is) = let a = start_u is in let b = data_offset_u is in λ k. if is_region i then start_behind (a k) (b k) else a k
 
   section_u : (is : List Item) → section_after (us is) ≡ section_after is
   section_u [] = refl
-  section_u (i ∷ is) = ap (chosen i.said) (section_u is)
+  section_u (i ∷ is) = ap (λ (x : Section). if is_text i then Code else (if is_data i || is_region i then Data else x)) (section_u is)
 
   address_u : (is : List Item) (x : Section) → address_in_section (us is) x ≡ address_in_section is x
   address_u is Code = code_address_u is
@@ -205,7 +199,7 @@ module _ (f : ℕ → ℕ) where
   -- ---- what the labels are worth
 
   module _ (values : Values) where
-    words_said_u : (before : List Item) (i : Item) (s : Said) → words_said values (us before) (u i) s ≡ words_said values before i s
+    words_said_u : (before : List Item) (i : Item) (s : Said) → words_at values (us before) (u (record i { said = s })) [] ≡ words_at values before (record i { said = s }) []
     words_said_u before i (Ok statements.Instruction) = ap (λ (a : ℕ). words_meant (source_meaning values a i.bytes i.tokens)) (code_address_u before)
     words_said_u before i (Ok _) = refl
     words_said_u before i (Err e) = refl
@@ -214,7 +208,7 @@ module _ (f : ℕ → ℕ) where
     words_u before [] = refl
     words_u before (i ∷ is) = let a = words_said_u before i i.said in let b = words_u (i ∷ before) is in λ k. a k ++ b k
 
-    bytes_said_u : (before : List Item) (i : Item) (s : Said) → bytes_said values (us before) (u i) s ≡ bytes_said values before i s
+    bytes_said_u : (before : List Item) (i : Item) (s : Said) → bytes_at values (us before) (u (record i { said = s })) [] ≡ bytes_at values before (record i { said = s }) []
     bytes_said_u before i (Ok (statements.Directive (directives.Align n))) = ap (λ (o : ℕ). replicate (data_length o (Ok (statements.Directive (directives.Align n)))) 0) (data_offset_u before)
     bytes_said_u before i (Ok (statements.Directive (directives.Values w n))) = refl
     bytes_said_u before i (Ok (statements.Directive (directives.Skip n))) = refl

@@ -32,7 +32,7 @@ use Rattle.sbx_asm.specs.Rules.{Values, when, ascending, acts, takes_annotations
 use Rattle.sbx_asm.specs.Stages.Places.{has_room, code_end}
 use Rattle.sbx_asm.specs.Stages.Drafts as stages
 use Rattle.sbx_asm.specs.Stages.Drafts.{close_block, close_headed, close_function, headed, open_block, begin_function, begin_block_of, begin_block, param_if, add_param, result_if, add_result, depth_by, add_depth, cell_if, add_cell, term_if, add_term, fuel_if, fuel_by, add_fuel, services_by, add_services, stack_by, add_stack, noted, noted_where, begun, leave_region, close_region, choose_data, begin_region, with_bytes, data_checked, with_data, with_zeros, add_values, add_zeros, instruction_checked, with_words, instruction_does, statement_does}
-use Rattle.sbx_asm.proofs.Views.{cell_places, term_places, leaves, leaves_region, ends, divides, range_rules, statement_rules, another_region}
+use Rattle.sbx_asm.proofs.Views.{saying, cell_places, term_places, leaves_region, range_rules, statement_rules, another_region}
 use Rattle.sbx_asm.proofs.Labelling.{fold_append}
 use Rattle.sbx_asm.proofs.Standing.{item, place_of}
 use Rattle.sbx_asm.proofs.Following.{said_does, Follows, bit, capped_room, capped_least, one_longer, same_annotations, same_ranges}
@@ -42,11 +42,11 @@ joined o n cs ds = ap (fold told o) (map-append (at n) cs ds) ∙ fold_append to
 
 -- the block that a line ends, where no line of it acts
 abbrev pub closing : Said → Draft → List AsmFault
-closing s d = map (at d.block.line) (when ((ends s || divides s) && (is_some d.function.head && not d.block.begun)) causes.Directive)
+closing s d = map (at d.block.line) (when (ends_block (saying s) && (is_some d.function.head && not d.block.begun)) causes.Directive)
 
 -- the region that a line leaves, where it has no bytes
 abbrev pub leaving : Said → Draft → List AsmFault
-leaving s d = map (at d.region.line) (when (leaves s && not d.region.begun) causes.Directive)
+leaving s d = map (at d.region.line) (when (leaves_region (saying s) && not d.region.begun) causes.Directive)
 
 -- the newest region, where it has no bytes up to its end
 abbrev pub wanting : Draft → List Item → List AsmFault

@@ -28,40 +28,10 @@ use Rattle.sbx_asm.specs.Meaning.{whole_cause}
 abbrev pub saying : Said → Item
 saying s = record { number = 0; labels = []; bytes = []; tokens = []; said = s }
 
-abbrev pub starts : Said → Bool
-starts s = starts_function (saying s)
-
-abbrev pub ends : Said → Bool
-ends s = ends_function (saying s)
-
-abbrev pub divides : Said → Bool
-divides s = is_block (saying s)
-
-abbrev pub chooses_data : Said → Bool
-chooses_data s = is_data (saying s)
-
-abbrev pub starts_region : Said → Bool
-starts_region s = is_region (saying s)
-
 abbrev pub leaves_region : Item → Bool
 leaves_region i = is_text i || is_region i
 
-abbrev pub leaves : Said → Bool
-leaves s = leaves_region (saying s)
-
-abbrev pub gives_bytes : Said → Bool
-gives_bytes s = has_bytes (saying s)
-
 -- ---- places
-
-abbrev pub start_with : ℕ → ℕ → Said → ℕ
-start_with start size s = if starts_region s then start_behind start size else start
-
-abbrev pub size_with : ℕ → Said → ℕ
-size_with size s = if starts_region s then 0 else size + data_length (up_to_room size) s
-
-abbrev pub chosen : Said → Section → Section
-chosen s section = if is_text (saying s) then Code else (if chooses_data s || starts_region s then Data else section)
 
 abbrev pub address_in_section : List Item → Section → ℕ
 address_in_section before section = if is_code section then code_address before else data_address before
@@ -97,15 +67,8 @@ words_meant r = map spelling (result_unwrap_or r [])
 abbrev pub bytes_meant : Result (List ℕ) DataFault → List ℕ
 bytes_meant r = result_unwrap_or r []
 
-module _ (values : Values) where
-  abbrev pub words_said : List Item → Item → Said → List ℕ
-  words_said before i s = words_at values before (record i { said = s }) []
-
-  abbrev pub bytes_said : List Item → Item → Said → List ℕ
-  bytes_said before i s = bytes_at values before (record i { said = s }) []
-
-  abbrev pub empty_block : List Item → Item → List Item → List AsmFault
-  empty_block before i after = map (at i.number) (when (begins_block before i && not (list_any (acts values) (up_to ends_block after))) causes.Directive)
+abbrev pub empty_block : Values → List Item → Item → List Item → List AsmFault
+empty_block values before i after = map (at i.number) (when (begins_block before i && not (list_any (acts values) (up_to ends_block after))) causes.Directive)
 
 abbrev pub empty_region : Item → List Item → List AsmFault
 empty_region i after = map (at i.number) (when (is_region i && not (list_any has_bytes (up_to leaves_region after))) causes.Directive)

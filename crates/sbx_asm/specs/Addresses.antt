@@ -40,24 +40,17 @@ up_to_room size = if nat_le size section_room then size else section_room
 abbrev pub fits_behind : ℕ → ℕ → Bool
 fits_behind offset n = nat_le n (section_room - offset)
 
--- the sums of the lengths of some items, the nearest first
-abbrev pub code_size : List Item → ℕ
-code_size [] = 0
-code_size (i ∷ before) = code_size before + code_length i
+-- how far some items, the nearest first, fill the code
+abbrev pub code_offset : List Item → ℕ
+code_offset [] = 0
+code_offset (i ∷ before) = up_to_room (code_offset before + code_length i)
 
--- those of the data are of the newest region
-abbrev pub data_size : List Item → ℕ
-data_size [] = 0
-data_size (i ∷ before) = if is_region i then 0 else data_size before + data_length (up_to_room (data_size before)) i.said
+-- and the data, of which the newest region counts
+abbrev pub data_offset : List Item → ℕ
+data_offset [] = 0
+data_offset (i ∷ before) = if is_region i then 0 else up_to_room (data_offset before + data_length (data_offset before) i.said)
 
 -- ---- addresses
-
--- how far they fill their section
-abbrev pub code_offset : List Item → ℕ
-code_offset before = up_to_room (code_size before)
-
-abbrev pub data_offset : List Item → ℕ
-data_offset before = up_to_room (data_size before)
 
 -- where a ninth region, which is too many, begins at the latest
 abbrev pub last_start : ℕ
