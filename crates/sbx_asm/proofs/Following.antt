@@ -26,7 +26,7 @@ use Rattle.sbx_asm.specs.declared.fault.Cause.TheVariants as causes
 use Rattle.sbx_asm.specs.declared.opening.Head.{Head}
 use Rattle.sbx_asm.specs.declared.draft.Draft.{Draft}
 use Rattle.sbx_asm.specs.Faults.{told, at}
-use Rattle.sbx_asm.specs.Items.{Item, Said, up_to, count, starts_function, ends_function, is_data, is_region, is_block, ends_block, in_function, block_count, params, results, cells, terms, services, stacks, has, first_or}
+use Rattle.sbx_asm.specs.Items.{Item, Said, up_to, count, starts_function, ends_function, is_data, is_region, is_block, ends_block, in_function, block_count, params, results, services, stacks, has, first_or}
 use Rattle.sbx_asm.specs.Rules.{Values, acts, takes_annotations, takes_ranges, has_fuel, has_depth}
 use Rattle.sbx_asm.specs.Addresses.{padding_of, section_room}
 use Rattle.sbx_asm.specs.Stages.Places.{has_room}

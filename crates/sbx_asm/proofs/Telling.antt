@@ -1,6 +1,6 @@
 -- The faults that the stages note line by line are those of the rules.
 use Rattle.std.proofs.Common.{◌≡◌, ℕ, ◌+◌, ◌-◌, ◌*◌, Bool, true, false, cond, ltb, leb, ℤ, List, [], ◌∷◌, ◌++◌, length, map, Option, None, Some, Result, Ok, Err, refl, sym, ap, ◌∙◌, arith}
-use Rattle.std.specs.Prelude.{not, ◌&&◌, ◌||◌, nat_lt, nat_le, if◌then◌else◌}
+use Rattle.std.specs.Prelude.{not, ◌&&◌, nat_lt, nat_le, if◌then◌else◌}
 use Rattle.std.specs.Option.{is_some}
 use Rattle.std.specs.List.{fold, list_any, flat_map}
 use Rattle.std.proofs.lemmas.List.{map-append}
@@ -26,7 +26,7 @@ use Rattle.sbx_asm.specs.declared.fault.Cause.TheVariants as causes
 use Rattle.sbx_asm.specs.declared.opening.Head.{Head}
 use Rattle.sbx_asm.specs.declared.draft.Draft.{Draft}
 use Rattle.sbx_asm.specs.Faults.{told, at}
-use Rattle.sbx_asm.specs.Items.{Item, Said, up_to, count, starts_function, ends_function, is_data, is_region, has_bytes, is_block, ends_block, in_function, block_count, params, results, cells, terms, depths, services, stacks, has}
+use Rattle.sbx_asm.specs.Items.{Item, Said, up_to, count, starts_function, ends_function, is_data, is_region, has_bytes, is_block, ends_block, in_function, block_count, params, results, depths, services, stacks, has}
 use Rattle.sbx_asm.specs.Addresses.{code_offset, data_offset, padding_of, fits_behind, section_after, section_room, is_code}
 use Rattle.sbx_asm.specs.Rules.{Values, when, ascending, acts, takes_annotations, takes_ranges, has_fuel, has_depth, in_place, value_rules, data_rules, another_block, block_rules, line_rules}
 use Rattle.sbx_asm.specs.Stages.Places.{has_room, code_end}

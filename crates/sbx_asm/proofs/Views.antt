@@ -1,5 +1,5 @@
 -- Parts of the definitions that lemmas speak of, by what a line says or by themselves.
-use Rattle.std.specs.Prelude.{ℕ, ◌+◌, Bool, true, false, not, ◌&&◌, ◌||◌, nat_le, if◌then◌else◌, List, [], ◌∷◌, ◌++◌, map, Result, Ok, Err}
+use Rattle.std.specs.Prelude.{ℕ, Bool, true, false, not, ◌&&◌, ◌||◌, nat_le, if◌then◌else◌, List, [], ◌∷◌, ◌++◌, map, Result, Ok, Err}
 use Rattle.std.specs.List.{list_any, flat_map}
 use Rattle.std.specs.Result.{result_unwrap_or}
 use Rattle.v8_formats.specs.declared.instr.Instr.{Instr}
@@ -12,15 +12,13 @@ use Rattle.sbx_image.specs.Term.{Term}
 use Rattle.sbx_directives.specs.declared.fault.DataFault.{DataFault}
 use Rattle.sbx_directives.specs.declared.fault.DataFault.TheVariants as data_faults
 use Rattle.sbx_asm.specs.declared.place.Section.{Section}
-use Rattle.sbx_asm.specs.declared.place.Section.TheVariants.{Code, Data}
 use Rattle.sbx_asm.specs.declared.fault.AsmFault.{AsmFault}
 use Rattle.sbx_asm.specs.declared.fault.Cause.{Cause}
 use Rattle.sbx_asm.specs.declared.fault.Cause.TheVariants as causes
 use Rattle.sbx_asm.specs.Faults.{at}
-use Rattle.sbx_asm.specs.Items.{Item, Said, up_to, count, starts_function, ends_function, is_block, ends_block, is_text, is_data, is_region, has_bytes, begins_block, cells, terms}
-use Rattle.sbx_asm.specs.Addresses.{data_length, up_to_room, start_behind, code_address, data_address, is_code}
+use Rattle.sbx_asm.specs.Items.{Item, Said, up_to, count, ends_block, is_text, is_data, is_region, has_bytes, begins_block, cells, terms}
+use Rattle.sbx_asm.specs.Addresses.{code_address, data_address, is_code}
 use Rattle.sbx_asm.specs.Rules.{Values, when, acts}
-use Rattle.sbx_asm.specs.Images.{words_at, bytes_at}
 use Rattle.sbx_asm.specs.Meaning.{whole_cause}
 
 -- ---- a line by what it says
