@@ -22,5 +22,4 @@ mod Numbering
 mod ValueCounts
 mod Lying
 mod Beginning
-mod Worked
 pub mod Fitting

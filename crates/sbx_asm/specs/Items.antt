@@ -37,7 +37,9 @@ label_names line (suc n) (t ∷ ts) = bytes_between line t.start t.stop ∷ labe
 -- the labels of a line without tokens don't count
 abbrev pub read_line : ℕ → List ℕ → Result (List Token) TextFault → Item
 read_line number line (Ok ts) =
-    record { number = number; labels = label_names line (label_count line ts) ts; bytes = line; tokens = drop (2 * label_count line ts) ts; said = Ok (statement_of line (drop (2 * label_count line ts) ts)) }
+    let count : ℕ = label_count line ts in
+    let rest : List Token = drop (2 * count) ts in
+    record { number = number; labels = label_names line count ts; bytes = line; tokens = rest; said = Ok (statement_of line rest) }
 read_line number line (Err f) = record { number = number; labels = []; bytes = line; tokens = []; said = Err f }
 
 abbrev pub item_of : ℕ × List ℕ → Item

@@ -25,8 +25,9 @@ Values = List ℕ → Option ℕ
 abbrev pub when : Bool → Cause → List Cause
 when test cause = if test then cause ∷ [] else []
 
+-- the rules of what stands in its place
 abbrev pub in_place : Bool → List Cause → List Cause
-in_place test causes_there = if test then causes_there else causes.Annotation ∷ []
+in_place test rules = if test then rules else causes.Annotation ∷ []
 
 -- one name, one place: the second of two equal labels is told
 abbrev pub duplicates : List Label → List Label → List AsmFault
