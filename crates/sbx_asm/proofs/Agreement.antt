@@ -6,11 +6,11 @@ use Rattle.std.proofs.lemmas.Bool.{true≢false}
 use Rattle.sbx_asm.specs.declared.fault.AsmFault.{AsmFault}
 use Rattle.sbx_asm.specs.declared.draft.Draft.{Draft}
 use Rattle.sbx_asm.specs.Faults.{is_earlier, told}
-use Rattle.sbx_asm.specs.Items.{Item, each}
+use Rattle.sbx_asm.specs.Items.{Item, items_of, each}
 use Rattle.sbx_asm.specs.Addresses.{all_labels, values_of}
 use Rattle.sbx_asm.specs.Rules.{Values, duplicates, faults_at, faults_of, least_of}
 use Rattle.sbx_asm.specs.Images.{version_with, image_of}
-use Rattle.sbx_asm.specs.Meaning.{judged, meaning_of}
+use Rattle.sbx_asm.specs.Meaning.{judged, source_image}
 use Rattle.sbx_asm.specs.Stages.Drafts.{draft_item, empty_draft, closed}
 use Rattle.sbx_asm.specs.Stages.Whole.{labels_in, draft_in, parts_in, image_made}
 use Rattle.sbx_asm.proofs.Labelling.{labels_are, labels_told, fold_append}
@@ -68,9 +68,11 @@ module _ (items : List Item) where
       (ap (λ (vs : Values). fold (draft_item vs) (empty_draft (labels_in items).fault) items) (labels_are items)
       ∙ ap (λ (o : Option AsmFault). fold (draft_item (values_of items)) (empty_draft o) items) (labels_told items))
 
-  pub stages_agree : image_made items ≡ meaning_of items
-  unfolding image_made
-  stages_agree =
-      ap (λ (d : Draft). judged (length items + 1) d.fault (parts_in d)) is_made
-      ∙ ap (λ (o : Option AsmFault). judged (length items + 1) o (parts_in made)) fault_is
-      ∙ judged_same (length items + 1) (least_of (faults_of items)) refl
+pub stages_agree : (source : List ℕ) → image_made (items_of source) ≡ source_image source
+unfolding image_made source_image
+stages_agree source =
+    let items : List Item = items_of source in
+    let n : ℕ = length items + 1 in
+    ap (λ (d : Draft). judged n d.fault (parts_in d)) (is_made items)
+    ∙ ap (λ (o : Option AsmFault). judged n o (parts_in (made items))) (fault_is items)
+    ∙ judged_same items n (least_of (faults_of items)) refl

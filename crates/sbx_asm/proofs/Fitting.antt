@@ -45,15 +45,16 @@ use Rattle.sbx_asm.specs.declared.opening.Head.{Head}
 use Rattle.sbx_asm.specs.declared.opening.OpenBlock.{OpenBlock}
 use Rattle.sbx_asm.specs.declared.draft.Draft.{Draft}
 use Rattle.sbx_asm.specs.Stages.Places.{code_end, has_room, moved_on, directed, place_after}
-use Rattle.sbx_asm.specs.Rules.{Values, is_code}
+use Rattle.sbx_asm.specs.Rules.{Values}
 use Rattle.sbx_asm.specs.Stages.Labels.{Labels}
 use Rattle.sbx_asm.specs.Stages.Drafts.{block_of, function_of, noted_where, told_empty, with_block, close_block, with_function, close_headed, close_function, counted, fresh_block, open_block, headed, begin_function, begin_block_of, begin_block, malformed, takes_ranges, takes_annotations, param_if, add_param, result_if, add_result, depth_by, add_depth, cell_if, add_cell, term_if, add_term, fuel_if, fuel_by, add_fuel, services_by, add_services, stack_by, add_stack, leave_region, close_region, choose_data, begin_region, with_bytes, closed, data_checked, with_data, with_zeros, add_values, add_zeros, instruction_checked, with_words, directive_does, instruction_does, statement_does, line_does, said_does, numbered_line, draft_item, empty_draft}
 use Rattle.sbx_asm.specs.Items.{Item, Said, read_line, item_of, all_lines, items_of}
 use Rattle.sbx_asm.specs.Images.{filled, region_with, version_with}
-use Rattle.sbx_asm.specs.Addresses.{padding_of, section_room}
-use Rattle.sbx_asm.specs.Meaning.{kept, judged, source_image}
+use Rattle.sbx_asm.specs.Addresses.{padding_of, section_room, is_code}
+use Rattle.sbx_asm.specs.Meaning.{judged}
 use Rattle.sbx_asm.specs.Stages.Whole.{labels_in, draft_in, parts_in, image_made}
 use Rattle.sbx_asm.specs.Laws.{MeantImagesFitTheirFields}
+use Rattle.sbx_asm.proofs.Views.{kept}
 use Rattle.sbx_asm.proofs.Wholes.{append_all, copies_all, map_all, fold_all}
 use Rattle.sbx_asm.proofs.StatementWords.{AreSpelled, source_spelled}
 use Rattle.sbx_asm.proofs.Agreement.{stages_agree}
@@ -462,8 +463,8 @@ judged_fits after (Some f) p parts h e = absurd (cc)
 judged_fits after None p parts h e = kept_fits after p parts (parts_keep p) h e
 
 pub meant_images_fit : MeantImagesFitTheirFields
-unfolding source_image image_made
+unfolding image_made
 meant_images_fit source parts told =
     let items : List Item = items_of source in
     let d : Draft = closed (draft_in (labels_in items) items) in
-    judged_fits (length items + 1) d.fault (parts_in d) parts (parts_fit d (closed_fits (draft_in (labels_in items) items) (draft_fits (labels_in items) source))) (stages_agree items ∙ told)
+    judged_fits (length items + 1) d.fault (parts_in d) parts (parts_fit d (closed_fits (draft_in (labels_in items) items) (draft_fits (labels_in items) source))) (stages_agree source ∙ told)

@@ -11,11 +11,12 @@ use Rattle.sbx_asm.specs.declared.fault.Cause.TheVariants as causes
 use Rattle.sbx_asm.specs.declared.place.Place.{Place}
 use Rattle.sbx_asm.specs.Faults.{told, at}
 use Rattle.sbx_asm.specs.Items.{Item, each}
-use Rattle.sbx_asm.specs.Addresses.{Label, code_address, address_in_section, section_after, names_said, labelled, labels_at, all_labels, worth_in, values_of}
-use Rattle.sbx_asm.specs.Rules.{Values, is_called, told_again, duplicates, least_of}
+use Rattle.sbx_asm.specs.Addresses.{Label, code_address, section_after, names_said, labelled, labels_at, all_labels, worth_in, values_of, is_called}
+use Rattle.sbx_asm.specs.Rules.{Values, duplicates, least_of}
 use Rattle.sbx_asm.specs.Stages.Places.{address, place_after}
 use Rattle.sbx_asm.specs.Stages.Labels.{Labels, with_label, added_to, add, add_at, survey_item}
 use Rattle.sbx_asm.specs.Stages.Whole.{labels_in}
+use Rattle.sbx_asm.proofs.Views.{address_in_section, told_again}
 use Rattle.sbx_asm.proofs.Tables.{same_values}
 use Rattle.sbx_asm.proofs.Standing.{place_of, stands, in_section}
 

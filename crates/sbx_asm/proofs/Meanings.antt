@@ -23,15 +23,16 @@ use Rattle.sbx_asm.specs.declared.place.Place.{Place}
 use Rattle.sbx_asm.specs.declared.draft.Draft.{Draft}
 use Rattle.sbx_asm.specs.Faults.{at, told, is_earlier}
 use Rattle.sbx_asm.specs.Items.{Item, Said, label_names, read_line, items_of, each, behind}
-use Rattle.sbx_asm.specs.Addresses.{Label, labels_at, all_labels, worth_in, values_of, code_address, address_in_section, section_after, labelled, names_said}
-use Rattle.sbx_asm.specs.Rules.{Values, when, is_called, told_again, duplicates, faults_of, least_of}
+use Rattle.sbx_asm.specs.Addresses.{Label, labels_at, all_labels, worth_in, values_of, code_address, section_after, labelled, names_said, is_called}
+use Rattle.sbx_asm.specs.Rules.{Values, when, duplicates, faults_of, least_of}
 use Rattle.sbx_asm.specs.Images.{words_at, image_of}
-use Rattle.sbx_asm.specs.Meaning.{whole_cause, kept, judged, source_image}
+use Rattle.sbx_asm.specs.Meaning.{whole_cause, judged, source_image}
 use Rattle.sbx_asm.specs.Laws.{CodeIsItsStatements, WordsLookAheadByLabelsAlone, BlankLinesSayNothing, BlankLinesChangeNothing, renamed, LabelsMayBeRenamed, IsLeastOf, TheLeastFaultIsTold}
 use Rattle.sbx_asm.specs.declared.place.Section.{Section}
 use Rattle.sbx_asm.specs.Stages.Places.{place_after, address_in}
 use Rattle.sbx_asm.specs.Stages.Drafts.{close_block, close_headed, close_function, close_region, leave_region, closed, numbered_line, statement_does, said_does, draft_item, empty_draft}
 use Rattle.sbx_asm.specs.Stages.Whole.{parts_in}
+use Rattle.sbx_asm.proofs.Views.{address_in_section, told_again, kept}
 use Rattle.sbx_asm.proofs.Labelling.{fold_append}
 use Rattle.sbx_asm.proofs.Standing.{place_of, stands, in_section}
 use Rattle.sbx_asm.proofs.Orders.{key, earlier_by_key}

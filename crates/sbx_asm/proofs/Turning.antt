@@ -22,16 +22,18 @@ use Rattle.sbx_directives.specs.declared.fault.DataFault.{DataFault}
 use Rattle.sbx_directives.specs.declared.fault.DataFault.TheVariants as data_faults
 use Rattle.sbx_directives.specs.Data.{data_of, bytes_of_width}
 use Rattle.sbx_asm.specs.declared.fault.AsmFault.{AsmFault}
+use Rattle.sbx_asm.specs.declared.fault.Cause.{Cause}
 use Rattle.sbx_asm.specs.declared.fault.Cause.TheVariants as causes
 use Rattle.sbx_asm.specs.declared.opening.Head.{Head}
 use Rattle.sbx_asm.specs.declared.draft.Draft.{Draft}
 use Rattle.sbx_asm.specs.Faults.{told, at}
-use Rattle.sbx_asm.specs.Items.{Item, Said, each, up_to, leaves_region, has_bytes, ends_block, in_function}
-use Rattle.sbx_asm.specs.Rules.{Values, when, acts, is_unknown, line_rules, empty_block, empty_region, faults_at}
+use Rattle.sbx_asm.specs.Items.{Item, Said, each, up_to, has_bytes, ends_block, in_function, is_region, begins_block}
+use Rattle.sbx_asm.specs.Rules.{Values, when, acts, line_rules, faults_at}
 use Rattle.sbx_asm.specs.Addresses.{padding_of, section_room}
 use Rattle.sbx_asm.specs.Stages.Places.{has_room, place_after}
 use Rattle.sbx_asm.specs.Stages.Drafts as stages
 use Rattle.sbx_asm.specs.Stages.Drafts.{close_block, close_headed, close_function, headed, open_block, begin_function, begin_block_of, begin_block, param_if, add_param, result_if, add_result, depth_by, add_depth, cell_if, add_cell, term_if, add_term, fuel_if, fuel_by, add_fuel, services_by, add_services, stack_by, add_stack, noted, noted_where, begun, leave_region, close_region, choose_data, begin_region, with_bytes, closed, data_checked, with_data, with_zeros, add_values, add_zeros, instruction_checked, with_words, instruction_does, statement_does, said_does, numbered_line, draft_item}
+use Rattle.sbx_asm.proofs.Views.{leaves_region, is_unknown, empty_block, empty_region}
 use Rattle.sbx_asm.proofs.Labelling.{fold_append}
 use Rattle.sbx_asm.proofs.Standing.{item, place_of, stands}
 use Rattle.sbx_asm.proofs.Following.{Follows, follows, and_true}
@@ -217,6 +219,19 @@ module _ (o : Option AsmFault) (B L R : List AsmFault) (n : ℕ) (s t : Bool) wh
       ∙ sym (fold_append told o p (((B ++ L) ++ []) ++ R))
       ∙ ap (λ (x : List AsmFault). fold told o (p ++ (((B ++ L) ++ x) ++ R))) (sym b)
 
+-- what a line is told: its own causes, its region, its block
+split : (values : Values) (before : List Item) (i : Item) (after : List Item)
+    → faults_at values before i after ≡ (map (at i.number) (when (nat_lt 1000000 i.number) causes.Limit ++ line_rules values before i i.said) ++ empty_region i after) ++ empty_block values before i after
+split values before i after =
+    let many : List Cause = when (nat_lt 1000000 i.number) causes.Limit in
+    let own : List Cause = line_rules values before i i.said in
+    let region : List Cause = when (is_region i && not (list_any has_bytes (up_to leaves_region after))) causes.Directive in
+    let block : List Cause = when (begins_block before i && not (list_any (acts values) (up_to ends_block after))) causes.Directive in
+    ap (map (at i.number)) (sym (append_assoc many own (region ++ block)))
+    ∙ map-append (at i.number) (many ++ own) (region ++ block)
+    ∙ ap (λ (fs : List AsmFault). map (at i.number) (many ++ own) ++ fs) (map-append (at i.number) region block)
+    ∙ sym (append_assoc (map (at i.number) (many ++ own)) (map (at i.number) region) (map (at i.number) block))
+
 module _ (values : Values) where
   at_end : (d : Draft) (o : Option Head) → (close_headed o d).fault ≡ fold told d.fault (map (at d.block.line) (when (is_some o && (not d.block.begun && true)) causes.Directive) ++ [])
   unfolding close_block
@@ -269,3 +284,4 @@ module _ (values : Values) where
       ∙ sym (fold_append told d.fault w (pending values d (i ∷ after) ++ (((B ++ (L ++ E)) ++ F) ++ R)))
       ∙ ap (λ (x : List AsmFault). fold told d.fault (w ++ (pending values d (i ∷ after) ++ ((x ++ F) ++ R)))) (sym (append_assoc B L E))
       ∙ ap (λ (x : List AsmFault). fold told d.fault (w ++ (pending values d (i ∷ after) ++ (((x ++ E) ++ F) ++ R)))) (sym (map-append (at i.number) (when (nat_lt 1000000 i.number) causes.Limit) (line_rules values before i i.said)))
+      ∙ ap (λ (x : List AsmFault). fold told d.fault (w ++ (pending values d (i ∷ after) ++ (x ++ R)))) (sym (split values before i after))

@@ -25,7 +25,7 @@ use Rattle.sbx_directives.specs.Directives.{is_alignment, is_expression, service
 use Rattle.sbx_directives.specs.Data.{bytes_of_width, fits_some, spelled, spelled_some, value_of, is_known, is_fit, bytes_of, listed, data_of}
 use Rattle.sbx_asm.specs.Items.{Item, Said, read_line, item_of, items_of, all_lines}
 use Rattle.sbx_asm.specs.Rules.{Values, value_rules}
-use Rattle.sbx_asm.specs.Images.{bytes_meant}
+use Rattle.sbx_asm.proofs.Views.{bytes_meant}
 use Rattle.sbx_asm.proofs.Wholes.{map_all}
 use Rattle.sbx_asm.proofs.Numbers.{then_all, then_any}
 use Rattle.sbx_asm.proofs.Making.{cons_nil}

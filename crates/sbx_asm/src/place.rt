@@ -2,13 +2,12 @@
 ghost use Rattle.std.specs.Prelude.{◌≡◌, ◌+◌, ◌*◌, ◌≤◌};
 ghost use Rattle.sbx_directives.specs.Data.{bytes_of_width};
 ghost use Rattle.sbx_image.specs.Regions.{pages_for};
-ghost use Rattle.sbx_asm.specs.Addresses.{last_start, padding_of, section_room, start_behind, up_to_last};
+ghost use Rattle.sbx_asm.specs.Addresses.{last_start, padding_of, section_room, start_behind};
 ghost use Rattle.sbx_asm.specs.Stages.Places.{start, code_end, has_room, moved_on, with_code, with_data, address, directed, place_after};
 
 use crate::reading::Line;
 use sbx_directives::{Directive, Statement, Width, byte_len};
 use v8_map::{CODE_END, CODE_START, DATA_START};
-use v8_syntax::length_of;
 
 /// What an ordinary line adds to.
 #[derive(Clone, Copy)]

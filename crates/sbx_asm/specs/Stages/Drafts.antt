@@ -34,10 +34,10 @@ use Rattle.sbx_asm.specs.declared.regions.OpenRegion.{OpenRegion}
 use Rattle.sbx_asm.specs.declared.draft.Draft.{Draft}
 use Rattle.sbx_asm.specs.Faults.{told, at}
 use Rattle.sbx_asm.specs.Items.{Item, Said}
-use Rattle.sbx_asm.specs.Addresses.{padding_of, section_room}
+use Rattle.sbx_asm.specs.Addresses.{padding_of, section_room, is_code}
 use Rattle.sbx_asm.specs.Images.{filled, region_with}
 use Rattle.sbx_asm.specs.Stages.Places.{start, code_end, has_room, place_after}
-use Rattle.sbx_asm.specs.Rules.{Values, when, is_code}
+use Rattle.sbx_asm.specs.Rules.{Values, when}
 
 -- ---- faults
 
