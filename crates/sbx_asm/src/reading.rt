@@ -22,17 +22,22 @@ pub struct Line<'a> {
     pub tokens: Vec<Token>,
     /// How many labels its tokens begin with.
     pub label_count: usize,
+    /// How many words what stands behind them takes, if it is an instruction.
+    words: usize,
     /// What stands behind the labels, or why there are no tokens.
     pub said: Result<Statement, TextFault>,
 }
 
 impl<'a> Model for Line<'a> {
-    ghost use Rattle.std.specs.Prelude.{◌*◌, drop};
+    ghost use Rattle.std.specs.Prelude.{◌≡◌, ◌*◌, drop};
+    ghost use Rattle.v8_syntax.specs.Statements.{statement_length};
     ghost use Rattle.sbx_asm.specs.Items.{Item, label_names};
 
     ghost Value = { Item };
 
     ghost view = { λ l. record { number = l.number; labels = label_names l.bytes.now l.label_count l.tokens.items; bytes = l.bytes.now; tokens = drop (2 * l.label_count) l.tokens.items; said = l.said } };
+
+    ghost invariant = { λ l. l.words ≡ statement_length l.bytes.now (drop (2 * l.label_count) l.tokens.items) };
 }
 
 /// The tokens of a line, or why it has none.
@@ -71,12 +76,14 @@ impl<'a> Line<'a> {
             Ok(tokens) => {
                 let label_count = label_count(bytes, tokens.as_slice());
                 let behind = behind_labels(tokens.as_slice(), label_count);
+                let words = length_of(bytes, behind);
                 let said = Ok(read_statement(bytes, behind));
                 Ok(Line {
                     number,
                     bytes,
                     tokens,
                     label_count,
+                    words,
                     said,
                 })
             }
@@ -85,6 +92,7 @@ impl<'a> Line<'a> {
                 bytes,
                 tokens: Vec::new(alloc),
                 label_count: 0,
+                words: 1,
                 said: Err(fault),
             }),
         }
@@ -101,7 +109,7 @@ impl<'a> Line<'a> {
     pub fn code_len(&self) -> u128
         ensures { result ≡ 4 * statement_length self.now.bytes self.now.tokens }
     {
-        4 * length_of(self.bytes, self.behind_labels()) as u128
+        4 * self.words as u128
     }
 }
 
