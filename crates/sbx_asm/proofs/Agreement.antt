@@ -1,47 +1,22 @@
 -- The stages give what a source means.
-use Rattle.std.proofs.Common.{◌≡◌, ℕ, ◌+◌, Bool, true, false, cond, List, [], ◌∷◌, length, map, Option, None, Some, Result, Ok, Err, refl, sym, ap, ◌∙◌, arith}
+use Rattle.std.proofs.Common.{◌≡◌, ℕ, ◌+◌, Bool, true, false, cond, List, [], ◌∷◌, length, Option, None, Some, refl, sym, ap, ◌∙◌}
 use Rattle.std.specs.Option.{is_some}
 use Rattle.std.specs.List.{fold}
 use Rattle.std.proofs.lemmas.Bool.{true≢false}
-use Rattle.std.proofs.lemmas.List.{length-map}
-use Rattle.sbx_text.specs.declared.Token.{Token}
-use Rattle.sbx_text.specs.declared.fault.TextFault.{TextFault}
-use Rattle.sbx_text.specs.Tokens.{tokens_of}
 use Rattle.sbx_asm.specs.declared.fault.AsmFault.{AsmFault}
 use Rattle.sbx_asm.specs.declared.draft.Draft.{Draft}
 use Rattle.sbx_asm.specs.Faults.{is_earlier, told}
-use Rattle.sbx_asm.specs.Lines.{lines_of}
-use Rattle.sbx_asm.specs.Items.{Item, read_line, item_of, numbered, each, all_lines, items_of}
+use Rattle.sbx_asm.specs.Items.{Item, items_of, each}
 use Rattle.sbx_asm.specs.Addresses.{all_labels, values_of}
 use Rattle.sbx_asm.specs.Rules.{Values, duplicates, faults_at, faults_of, least_of}
 use Rattle.sbx_asm.specs.Images.{version_with, image_of}
 use Rattle.sbx_asm.specs.Meaning.{judged, source_image}
-use Rattle.sbx_asm.specs.Stages.Drafts.{draft_line, draft_tokens, behind_labels, numbered_line, empty_draft, closed}
+use Rattle.sbx_asm.specs.Stages.Drafts.{draft_item, empty_draft, closed}
 use Rattle.sbx_asm.specs.Stages.Whole.{labels_in, draft_in, parts_in, image_made}
 use Rattle.sbx_asm.proofs.Labelling.{labels_are, labels_told, fold_append}
 use Rattle.sbx_asm.proofs.Following.{Follows}
-use Rattle.sbx_asm.proofs.Turning.{item_does, all_told}
+use Rattle.sbx_asm.proofs.Turning.{all_told}
 use Rattle.sbx_asm.proofs.Making.{nil_right, all_made}
-
--- ---- lines as items
-
-read_does : (values : Values) (number : ℕ) (line : List ℕ) (d : Draft) (r : Result (List Token) TextFault) → draft_tokens values line (numbered_line number d) r ≡ item_does values d (read_line number line r)
-unfolding behind_labels numbered_line
-read_does values number line d (Ok ts) = refl
-read_does values number line d (Err f) = refl
-
-line_does : (values : Values) (d : Draft) (x : ℕ × List ℕ) → draft_line values d x ≡ item_does values d (item_of x)
-unfolding draft_line
-line_does values d x = read_does values x.0 x.1 d (tokens_of x.1)
-
-lines_do : (values : Values) (xs : List (ℕ × List ℕ)) (d : Draft) → fold (draft_line values) d xs ≡ fold (item_does values) d (map item_of xs)
-lines_do values [] d = refl
-lines_do values (x ∷ xs) d = ap (λ (a : Draft). fold (draft_line values) a xs) (line_does values d x) ∙ lines_do values xs (item_does values d (item_of x))
-
-as_many : (before : ℕ) (ls : List (List ℕ)) → length (numbered before ls) ≡ length ls
-unfolding numbered
-as_many before [] = refl
-as_many before (l ∷ ls) = let e : length (numbered (before + 1) ls) ≡ length ls = as_many (before + 1) ls in omega arith
 
 -- ---- no fault
 
@@ -64,7 +39,7 @@ module _ (items : List Item) where
   start_draft = empty_draft (least_of (duplicates [] (all_labels items)))
 
   unfoldable pub made : Draft
-  made = closed (fold (item_does (values_of items)) start_draft items)
+  made = closed (fold (draft_item (values_of items)) start_draft items)
 
   at_start : Follows (values_of items) [] start_draft
   at_start = (refl, refl, refl, λ _. refl, λ _. refl, λ _. (refl, refl, refl, refl, refl, refl), λ _. (refl, refl), λ _. (refl, refl, refl, refl), refl, refl, refl, refl, refl, refl, refl)
@@ -86,23 +61,18 @@ module _ (items : List Item) where
   judged_same n (Some f) h = refl
   judged_same n None h = ap (judged n None) (parts_are h)
 
-module _ (source : List ℕ) where
-  abbrev items : List Item
-  items = items_of source
-
-  is_made : closed (draft_in (labels_in source) source) ≡ made items
+  is_made : closed (draft_in (labels_in items) items) ≡ made
   unfolding draft_in made
   is_made =
       ap closed
-      (ap (λ (vs : Values). fold (draft_line vs) (empty_draft (labels_in source).fault) (all_lines source)) (labels_are source)
-      ∙ ap (λ (o : Option AsmFault). fold (draft_line (values_of items)) (empty_draft o) (all_lines source)) (labels_told source)
-      ∙ lines_do (values_of items) (all_lines source) (start_draft items))
+      (ap (λ (vs : Values). fold (draft_item vs) (empty_draft (labels_in items).fault) items) (labels_are items)
+      ∙ ap (λ (o : Option AsmFault). fold (draft_item (values_of items)) (empty_draft o) items) (labels_told items))
 
-  pub stages_agree : image_made source ≡ source_image source
-  unfolding image_made source_image
-  stages_agree =
-      let n : length (lines_of source) + 1 ≡ length items + 1 = (let e = length-map (all_lines source) item_of in let f = as_many 0 (lines_of source) in omega arith) in
-      ap (λ (d : Draft). judged (length (lines_of source) + 1) d.fault (parts_in d)) is_made
-      ∙ ap (λ (k : ℕ). judged k (made items).fault (parts_in (made items))) n
-      ∙ ap (λ (o : Option AsmFault). judged (length items + 1) o (parts_in (made items))) (fault_is items)
-      ∙ judged_same items (length items + 1) (least_of (faults_of items)) refl
+pub stages_agree : (source : List ℕ) → image_made (items_of source) ≡ source_image source
+unfolding image_made source_image
+stages_agree source =
+    let items : List Item = items_of source in
+    let n : ℕ = length items + 1 in
+    ap (λ (d : Draft). judged n d.fault (parts_in d)) (is_made items)
+    ∙ ap (λ (o : Option AsmFault). judged n o (parts_in (made items))) (fault_is items)
+    ∙ judged_same items n (least_of (faults_of items)) refl

@@ -1,6 +1,6 @@
 -- Where the regions of an image begin: where a label behind their `.region` points.
 use Rattle.std.proofs.Common.{◌≡◌, ℕ, suc, ◌+◌, ◌*◌, ◌<◌, ◌≤◌, Bool, true, false, List, [], ◌∷◌, ◌++◌, length, drop, None, Some, Ok, Err, refl, sym, ap, subst, ◌∙◌, append_assoc, arith}
-use Rattle.std.specs.Prelude.{not, ◌&&◌, ◌||◌, nat_le, slice_get, if◌then◌else◌}
+use Rattle.std.specs.Prelude.{not, ◌&&◌, ◌||◌, nat_le, slice_get, if◌then◌else◌, nat_lt}
 use Rattle.std.specs.List.{AllByRecursion, list_any, list_all}
 use Rattle.std.proofs.lemmas.Bool.{ltb-true}
 use Rattle.std.proofs.lemmas.List.{append-nil, length-append}
@@ -19,15 +19,16 @@ use Rattle.sbx_asm.specs.declared.place.Section.{Section}
 use Rattle.sbx_asm.specs.declared.place.Section.TheVariants.{Code, Data}
 use Rattle.sbx_asm.specs.declared.fault.Cause.TheVariants as causes
 use Rattle.sbx_asm.specs.Faults.{at}
-use Rattle.sbx_asm.specs.Items.{Item, Said, each, behind, up_to, count, is_region, is_data, starts_region, chooses_data, leaves, leaves_region, has_bytes, gives_bytes}
-use Rattle.sbx_asm.specs.Addresses.{data_length, section_room, up_to_room, data_size, data_offset, region_start, section_after, chosen, address_in_section, label_address}
-use Rattle.sbx_asm.specs.Rules.{Values, when, is_code, data_rules, value_rules, another_region, line_rules, own_faults, empty_region, empty_block, faults_at}
-use Rattle.sbx_asm.specs.Images.{filled, region_with, bytes_said, bytes_at, region_at}
+use Rattle.sbx_asm.specs.Items.{Item, Said, each, behind, up_to, count, is_region, is_data, has_bytes, is_text}
+use Rattle.sbx_asm.specs.Addresses.{data_length, section_room, data_offset, region_start, section_after, label_address, is_code}
+use Rattle.sbx_asm.specs.Rules.{Values, when, data_rules, value_rules, line_rules, faults_at}
+use Rattle.sbx_asm.specs.Images.{filled, region_with, bytes_at, region_at}
 use Rattle.sbx_asm.specs.Laws.{RegionsBeginWhereLabelsSay}
+use Rattle.sbx_asm.proofs.Views.{leaves_region, address_in_section, another_region}
 use Rattle.sbx_asm.proofs.Standing.{item}
 use Rattle.sbx_asm.proofs.Making.{cons_nil, nil_left, nil_right, nil_map}
 use Rattle.sbx_asm.proofs.ValueCounts.{SaysCount, ItemCounts}
-use Rattle.sbx_asm.proofs.Lying.{which_region, no_size, filled_length, filled_pages, begins_behind, newest, newest_more, offset, length_is, line_clean, size_more, room_more, start_same, regions_here, clean_here, counts_here, worth}
+use Rattle.sbx_asm.proofs.Lying.{which_region, no_size, filled_length, filled_pages, begins_behind, newest, newest_more, length_is, line_clean, size_more, room_more, start_same, regions_here, clean_here, counts_here, worth}
 
 -- ---- bytes
 
@@ -45,12 +46,12 @@ wide widths.Byte n h = omega (arith, h)
 wide widths.Half n h = omega (arith, h)
 wide widths.Word n h = omega (arith, h)
 
-long : (line : List ℕ) (ts : List Token) (size : ℕ) (s : Said) → SaysCount line ts s → gives_bytes s ≡ true → 0 < data_length size s
-long line ts size (Ok (statements.Directive (directives.Values w n))) says h = wide w n (any_value (operands_of line (drop 1 ts)) n says)
-long line ts size (Ok (statements.Directive (directives.Skip n))) says h = ltb-true 0 n h
-long line ts size (Ok (statements.Directive _)) says h = absurd (cc)
-long line ts size (Ok _) says h = absurd (cc)
-long line ts size (Err f) says h = absurd (cc)
+long : (i : Item) (size : ℕ) (s : Said) → SaysCount i.bytes i.tokens s → has_bytes (record i { said = s }) ≡ true → 0 < data_length size s
+long i size (Ok (statements.Directive (directives.Values w n))) says h = wide w n (any_value (operands_of i.bytes (drop 1 i.tokens)) n says)
+long i size (Ok (statements.Directive (directives.Skip n))) says h = ltb-true 0 n h
+long i size (Ok (statements.Directive _)) says h = absurd (cc)
+long i size (Ok _) says h = absurd (cc)
+long i size (Err f) says h = absurd (cc)
 
 some_filled : (bs : List ℕ) → 0 < length bs → 0 < length (filled bs)
 some_filled bs h = let e = filled_length bs in omega (arith, e, h)
@@ -69,25 +70,15 @@ its_start writable (x ∷ xs) rs start h = refl
 
 -- ---- lines that leave the code alone
 
-stays_out : (s : Said) (x : Section) → starts_region s ≡ false → chooses_data s ≡ false → x ≡ Code → chosen s x ≡ Code
-stays_out (Ok (statements.Directive (directives.Region writable))) x h k e = absurd (cc)
-stays_out (Ok (statements.Directive directives.Data)) x h k e = absurd (cc)
-stays_out (Ok (statements.Directive directives.Text)) x h k e = refl
-stays_out (Ok (statements.Directive _)) x h k e = e
-stays_out (Ok _) x h k e = e
-stays_out (Err f) x h k e = e
+stays_out : (text data_line region : Bool) (x : Section) → region ≡ false → data_line ≡ false → x ≡ Code → (if text then Code else (if data_line || region then Data else x)) ≡ Code
+stays_out true data_line region x h k e = refl
+stays_out false data_line region x h k e = (λ j. if k j || h j then Data else x) ∙ e
 
-in_data : (s : Said) (x : Section) → starts_region s ≡ true → chosen s x ≡ Data
-in_data (Ok (statements.Directive (directives.Region writable))) x h = refl
-in_data (Ok (statements.Directive _)) x h = absurd (cc)
-in_data (Ok _) x h = absurd (cc)
-in_data (Err f) x h = absurd (cc)
-
-leaves_with : (s : Said) → leaves s ≡ false → starts_region s ≡ false
-leaves_with (Ok (statements.Directive (directives.Region writable))) h = absurd (cc)
-leaves_with (Ok (statements.Directive _)) h = refl
-leaves_with (Ok _) h = refl
-leaves_with (Err f) h = refl
+in_data : (before : List Item) (i : Item) (s : Said) → is_region (record i { said = s }) ≡ true → section_after (record i { said = s } ∷ before) ≡ Data
+in_data before i (Ok (statements.Directive (directives.Region writable))) h = refl
+in_data before i (Ok (statements.Directive _)) h = absurd (cc)
+in_data before i (Ok _) h = absurd (cc)
+in_data before i (Err f) h = absurd (cc)
 
 or_left : (a b : Bool) → (a || b) ≡ false → a ≡ false
 or_left true b h = h
@@ -109,7 +100,7 @@ no_cause false h = refl
 module _ (values : Values) where
   -- data in the code have a fault, so what stands there has no bytes
   none_in_code : (before : List Item) (number : ℕ) (labels : List (List ℕ)) (bytes : List ℕ) (tokens : List Token) (s : Said)
-      → section_after before ≡ Code → line_rules values before (item before number labels bytes tokens s) s ≡ [] → bytes_said values before (item before number labels bytes tokens s) s ≡ []
+      → section_after before ≡ Code → line_rules values before (item before number labels bytes tokens s) s ≡ [] → bytes_at values before (item before number labels bytes tokens s) [] ≡ []
   none_in_code before number labels bytes tokens (Ok (statements.Directive (directives.Values w n))) e clean = cons_nil (sym (ap (λ (x : Section). when (is_code x) causes.Directive) e) ∙ nil_left (when (is_code (section_after before)) causes.Directive) _ (nil_left (data_rules before (bytes_of_width w * n)) (value_rules (data_of values bytes w tokens)) clean))
   none_in_code before number labels bytes tokens (Ok (statements.Directive (directives.Skip n))) e clean = cons_nil (sym (ap (λ (x : Section). when (is_code x) causes.Directive) e) ∙ nil_left (when (is_code (section_after before)) causes.Directive) _ clean)
   none_in_code before number labels bytes tokens (Ok (statements.Directive (directives.Align n))) e clean = cons_nil (sym (ap (λ (x : Section). when (is_code x) causes.Directive) e) ∙ nil_left (when (is_code (section_after before)) causes.Directive) _ clean)
@@ -135,18 +126,18 @@ module _ (values : Values) where
       by false true e f k more =
           let mine = line_clean values before i after (nil_left (faults_at values before i after) (each (faults_at values) (i ∷ before) after) clean) in
           let count = length_is values before i.number i.labels i.bytes i.tokens i.said says.0 mine in
-          let some = long i.bytes i.tokens (data_offset before) i.said says.0 f in
-          let all = ap length (ahead_more before i after (leaves_with i.said e)) ∙ length-append (bytes_at values before i []) (ahead (i ∷ before) after) in
+          let some = long i (data_offset before) i.said says.0 f in
+          let all = ap length (ahead_more before i after (or_right (is_text i) (is_region i) e)) ∙ length-append (bytes_at values before i []) (ahead (i ∷ before) after) in
           omega (arith, count, some, all)
       by false false e f k more =
           let later = more (sym (ap (λ (t : Bool). t || list_any has_bytes (up_to leaves_region after)) f) ∙ k) in
-          let all = ap length (ahead_more before i after (leaves_with i.said e)) ∙ length-append (bytes_at values before i []) (ahead (i ∷ before) after) in
+          let all = ap length (ahead_more before i after (or_right (is_text i) (is_region i) e)) ∙ length-append (bytes_at values before i []) (ahead (i ∷ before) after) in
           omega (arith, later, all)
 
   region_has : (before : List Item) (i : Item) (after : List Item) → AllByRecursion ItemCounts after → each (faults_at values) before (i ∷ after) ≡ [] → is_region i ≡ true → 0 < length (ahead (i ∷ before) after)
   region_has before i after says clean e =
       let mine = nil_left (faults_at values before i after) (each (faults_at values) (i ∷ before) after) clean in
-      let told = nil_map (at i.number) _ (nil_right (own_faults values before i) (empty_region i after) (nil_left (own_faults values before i ++ empty_region i after) (empty_block values before i after) mine)) in
+      let told = nil_left (when (is_region i && not (list_any has_bytes (up_to leaves_region after))) causes.Directive) _ (nil_right (line_rules values before i i.said) _ (nil_right (when (nat_lt 1000000 i.number) causes.Limit) _ (nil_map (at i.number) _ mine))) in
       some_ahead after (i ∷ before) says (nil_right (faults_at values before i after) (each (faults_at values) (i ∷ before) after) clean) (wanted (is_region i) (list_any has_bytes (up_to leaves_region after)) e told)
 
   -- ---- the start of a region, by those before it
@@ -155,13 +146,13 @@ module _ (values : Values) where
   starts_at writable bs before after n there = start_in (slice_get (placed_from (region_start before) (newest values writable bs before after)) n) ≡ Some (region_start there)
 
   -- the newest region, behind which the lines begin another one
-  module _ (before : List Item) (bs : List ℕ) (size : data_size before ≡ length bs) (room : length bs ≤ section_room) (number : ℕ) (labels : List (List ℕ)) (bytes : List ℕ) (tokens : List Token) (right : Bool) (clean : another_region before ≡ []) where
+  module _ (before : List Item) (bs : List ℕ) (size : data_offset before ≡ length bs) (room : length bs ≤ section_room) (number : ℕ) (labels : List (List ℕ)) (bytes : List ℕ) (tokens : List Token) (right : Bool) (clean : another_region before ≡ []) where
     abbrev new : Item
     new = item before number labels bytes tokens (Ok (statements.Directive (directives.Region right)))
 
     next : region_start before + 4096 * pages_for (length (filled (bs ++ []))) ≡ region_start (new ∷ before)
     next =
-        ap (λ (n : ℕ). region_start before + 4096 * n) (ap (λ (ys : List ℕ). pages_for (length (filled ys))) (append-nil bs) ∙ filled_pages bs ∙ ap pages_for (sym (offset values before bs size room)))
+        ap (λ (n : ℕ). region_start before + 4096 * n) (ap (λ (ys : List ℕ). pages_for (length (filled ys))) (append-nil bs) ∙ filled_pages bs ∙ ap pages_for (sym size))
         ∙ sym (begins_behind before clean)
 
     -- where it has bytes
@@ -179,26 +170,26 @@ module _ (values : Values) where
         ∙ ap (λ (s : ℕ). start_in (slice_get (placed_from s rs) n)) start ∙ h
 
   -- what a `.region` asks
-  asks : (before : List Item) (i : Item) (s : Said) → starts_region s ≡ true → line_rules values before i s ≡ another_region before
+  asks : (before : List Item) (i : Item) (s : Said) → is_region (record i { said = s }) ≡ true → line_rules values before i s ≡ another_region before
   asks before i (Ok (statements.Directive (directives.Region writable))) h = refl
   asks before i (Ok (statements.Directive _)) h = absurd (cc)
   asks before i (Ok _) h = absurd (cc)
   asks before i (Err f) h = absurd (cc)
 
-  module _ (before : List Item) (bs : List ℕ) (size : data_size before ≡ length bs) (room : length bs ≤ section_room) (j : Item) (rest : List Item) (mine : line_rules values before j j.said ≡ []) where
+  module _ (before : List Item) (bs : List ℕ) (size : data_offset before ≡ length bs) (room : length bs ≤ section_room) (j : Item) (rest : List Item) (mine : line_rules values before j j.said ≡ []) where
     abbrev it : Said → Item
     it s = item before j.number j.labels j.bytes j.tokens s
 
     over_region : is_region j ≡ true → (writable : Bool) (n : ℕ) (there : List Item) → 0 < length (bs ++ ahead before (j ∷ rest)) → ((right : Bool) → starts_at right [] (j ∷ before) rest n there) → starts_at writable bs before (j ∷ rest) (n + 1) there
     over_region e writable n there some h =
-        let region = which_region j.said e in
+        let region = which_region j j.said e in
         let clean = sym (asks before j j.said e) ∙ mine in
         subst (λ (s : Said). 0 < length (bs ++ ahead before (it s ∷ rest)) → starts_at region.0 [] (it s ∷ before) rest n there → starts_at writable bs before (it s ∷ rest) (n + 1) there) (sym region.1)
         (behind_bytes before bs size room j.number j.labels j.bytes j.tokens region.0 clean writable rest n there) some (h region.0)
 
     over_nothing : is_region j ≡ true → (writable : Bool) (n : ℕ) (there : List Item) → bs ≡ [] → ((right : Bool) → starts_at right [] (j ∷ before) rest n there) → starts_at writable bs before (j ∷ rest) n there
     over_nothing e writable n there none h =
-        let region = which_region j.said e in
+        let region = which_region j j.said e in
         let clean = sym (asks before j j.said e) ∙ mine in
         subst (λ (s : Said). starts_at region.0 [] (it s ∷ before) rest n there → starts_at writable bs before (it s ∷ rest) n there) (sym region.1)
         (behind_nothing before bs size room j.number j.labels j.bytes j.tokens region.0 clean writable rest n there none) (h region.0)
@@ -215,7 +206,7 @@ module _ (values : Values) where
     none_yet e before_it h =
         let so_far = before_it (or_right (is_data j) (list_any is_data before) h) in
         let own = none_in_code before j.number j.labels j.bytes j.tokens j.said so_far.0 mine in (
-          stays_out j.said (section_after before) e (or_left (is_data j) (list_any is_data before) h) so_far.0,
+          stays_out (is_text j) (is_data j) (is_region j) (section_after before) e (or_left (is_data j) (list_any is_data before) h) so_far.0,
           (λ k. so_far.1 k ++ own k),
         )
 
@@ -231,7 +222,7 @@ module _ (values : Values) where
   module _ (i : Item) (after : List Item) (begins : is_region i ≡ true) where
     -- from within a region that has bytes
     AfterOne : List Item → List Item → Type 0
-    AfterOne front before = (bs : List ℕ) (writable : Bool) → data_size before ≡ length bs → length bs ≤ section_room → AllByRecursion ItemCounts (front ++ i ∷ after) → each (faults_at values) before (front ++ i ∷ after) ≡ []
+    AfterOne front before = (bs : List ℕ) (writable : Bool) → data_offset before ≡ length bs → length bs ≤ section_room → AllByRecursion ItemCounts (front ++ i ∷ after) → each (faults_at values) before (front ++ i ∷ after) ≡ []
         → 0 < length (bs ++ ahead before (front ++ i ∷ after)) → starts_at writable bs before (front ++ i ∷ after) (count is_region front + 1) (i ∷ behind before front)
 
     after_one : (front before : List Item) → AfterOne front before
@@ -251,7 +242,7 @@ module _ (values : Values) where
         by more true e =
             subst (λ (n : ℕ). starts_at writable bs before (j ∷ (front ++ i ∷ after)) (n + 1) (i ∷ behind (j ∷ before) front)) (sym (one_more j front e))
             (over_region before bs size room j (front ++ i ∷ after) mine e writable (count is_region front + 1) (i ∷ behind (j ∷ before) front) some
-            (λ right. more [] right (no_size (data_size before) j.said e) (omega arith) says.1 later (region_has before j (front ++ i ∷ after) says.1 clean e)))
+            (λ right. more [] right (no_size before j e) (omega arith) says.1 later (region_has before j (front ++ i ∷ after) says.1 clean e)))
         by more false e =
             let own = bytes_at values before j [] in
             let same : bs ++ ahead before (j ∷ (front ++ i ∷ after)) ≡ (bs ++ own) ++ ahead (j ∷ before) (front ++ i ∷ after) = ap (λ (ys : List ℕ). bs ++ ys) (ahead_more before j (front ++ i ∷ after) e) ∙ sym (append_assoc bs own (ahead (j ∷ before) (front ++ i ∷ after))) in
@@ -261,7 +252,7 @@ module _ (values : Values) where
 
     -- from before the first one
     AfterNone : List Item → List Item → Type 0
-    AfterNone front before = (bs : List ℕ) (writable : Bool) → data_size before ≡ length bs → length bs ≤ section_room → AllByRecursion ItemCounts (front ++ i ∷ after) → each (faults_at values) before (front ++ i ∷ after) ≡ []
+    AfterNone front before = (bs : List ℕ) (writable : Bool) → data_offset before ≡ length bs → length bs ≤ section_room → AllByRecursion ItemCounts (front ++ i ∷ after) → each (faults_at values) before (front ++ i ∷ after) ≡ []
         → (list_any is_data before ≡ false → (section_after before ≡ Code) × (bs ≡ [])) → starts_at writable bs before (front ++ i ∷ after) (count is_region front) (i ∷ behind before front)
 
     no_data : (before : List Item) (j : Item) → is_region j ≡ true → line_rules values before j j.said ≡ [] → list_any is_data before ≡ false
@@ -284,7 +275,7 @@ module _ (values : Values) where
         by more true e =
             subst (λ (n : ℕ). starts_at writable bs before (j ∷ (front ++ i ∷ after)) n (i ∷ behind (j ∷ before) front)) (sym (one_more j front e))
             (over_nothing before bs size room j (front ++ i ∷ after) mine e writable (count is_region front + 1) (i ∷ behind (j ∷ before) front) (none (no_data before j e mine)).1
-            (λ right. after_one front (j ∷ before) [] right (no_size (data_size before) j.said e) (omega arith) says.1 later (region_has before j (front ++ i ∷ after) says.1 clean e)))
+            (λ right. after_one front (j ∷ before) [] right (no_size before j e) (omega arith) says.1 later (region_has before j (front ++ i ∷ after) says.1 clean e)))
         by more false e =
             subst (λ (n : ℕ). starts_at writable bs before (j ∷ (front ++ i ∷ after)) n (i ∷ behind (j ∷ before) front)) (sym (no_more j front e))
             (over_other before bs size room j (front ++ i ∷ after) mine says.0 e writable (count is_region front) (i ∷ behind (j ∷ before) front)
@@ -295,8 +286,8 @@ module _ (values : Values) where
 -- a label right behind a `.region` points to the region's first byte
 label_of_start : (before : List Item) (i : Item) → is_region i ≡ true → label_address (i ∷ before) ≡ region_start (i ∷ before)
 label_of_start before i e =
-    ap (address_in_section (i ∷ before)) (in_data i.said (section_after before) e)
-    ∙ (let none = ap up_to_room (no_size (data_size before) i.said e) in omega (arith, none))
+    ap (address_in_section (i ∷ before)) (in_data before i i.said e)
+    ∙ (let none = no_size before i e in omega (arith, none))
 
 pub regions_begin : RegionsBeginWhereLabelsSay
 unfolding AfterNone

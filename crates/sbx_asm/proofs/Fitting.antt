@@ -36,7 +36,6 @@ use Rattle.sbx_directives.specs.declared.directive.Statement.TheVariants as stat
 use Rattle.sbx_directives.specs.declared.fault.DataFault.{DataFault}
 use Rattle.sbx_directives.specs.declared.fault.DataFault.TheVariants as data_faults
 use Rattle.sbx_directives.specs.Lines.{label_count}
-use Rattle.sbx_directives.specs.Directives.{statement_of}
 use Rattle.sbx_directives.specs.Data.{data_of, bytes_of_width}
 use Rattle.sbx_asm.specs.declared.fault.AsmFault.{AsmFault}
 use Rattle.sbx_asm.specs.declared.fault.Cause.{Cause}
@@ -46,20 +45,20 @@ use Rattle.sbx_asm.specs.declared.opening.Head.{Head}
 use Rattle.sbx_asm.specs.declared.opening.OpenBlock.{OpenBlock}
 use Rattle.sbx_asm.specs.declared.draft.Draft.{Draft}
 use Rattle.sbx_asm.specs.Stages.Places.{code_end, has_room, moved_on, directed, place_after}
-use Rattle.sbx_asm.specs.Rules.{Values, is_code}
+use Rattle.sbx_asm.specs.Rules.{Values}
 use Rattle.sbx_asm.specs.Stages.Labels.{Labels}
-use Rattle.sbx_asm.specs.Stages.Drafts.{block_of, function_of, noted_where, told_empty, with_block, close_block, with_function, close_headed, close_function, counted, fresh_block, open_block, headed, begin_function, begin_block_of, begin_block, malformed, takes_ranges, takes_annotations, param_if, add_param, result_if, add_result, depth_by, add_depth, cell_if, add_cell, term_if, add_term, fuel_if, fuel_by, add_fuel, services_by, add_services, stack_by, add_stack, leave_region, close_region, choose_data, begin_region, with_bytes, closed, data_checked, with_data, with_zeros, add_values, add_zeros, instruction_checked, with_words, directive_does, instruction_does, statement_does, behind_labels, draft_tokens, numbered_line, draft_line, empty_draft}
-use Rattle.sbx_asm.specs.Lines.{lines_of}
-use Rattle.sbx_asm.specs.Items.{all_lines}
+use Rattle.sbx_asm.specs.Stages.Drafts.{block_of, function_of, noted_where, told_empty, with_block, close_block, with_function, close_headed, close_function, counted, fresh_block, open_block, headed, begin_function, begin_block_of, begin_block, malformed, takes_ranges, takes_annotations, param_if, add_param, result_if, add_result, depth_by, add_depth, cell_if, add_cell, term_if, add_term, fuel_if, fuel_by, add_fuel, services_by, add_services, stack_by, add_stack, leave_region, close_region, choose_data, begin_region, with_bytes, closed, data_checked, with_data, with_zeros, add_values, add_zeros, instruction_checked, with_words, directive_does, instruction_does, statement_does, line_does, said_does, numbered_line, draft_item, empty_draft}
+use Rattle.sbx_asm.specs.Items.{Item, Said, read_line, item_of, all_lines, items_of}
 use Rattle.sbx_asm.specs.Images.{filled, region_with, version_with}
-use Rattle.sbx_asm.specs.Addresses.{padding_of, section_room}
-use Rattle.sbx_asm.specs.Meaning.{kept, judged}
+use Rattle.sbx_asm.specs.Addresses.{padding_of, section_room, is_code}
+use Rattle.sbx_asm.specs.Meaning.{judged}
 use Rattle.sbx_asm.specs.Stages.Whole.{labels_in, draft_in, parts_in, image_made}
 use Rattle.sbx_asm.specs.Laws.{MeantImagesFitTheirFields}
-use Rattle.sbx_asm.proofs.Wholes.{append_all, copies_all, fold_all}
+use Rattle.sbx_asm.proofs.Views.{kept}
+use Rattle.sbx_asm.proofs.Wholes.{append_all, copies_all, map_all, fold_all}
 use Rattle.sbx_asm.proofs.StatementWords.{AreSpelled, source_spelled}
 use Rattle.sbx_asm.proofs.Agreement.{stages_agree}
-use Rattle.sbx_asm.proofs.Numbers.{Fits, StatementFits, statement_fits}
+use Rattle.sbx_asm.proofs.Numbers.{Fits, StatementFits, SaidFits, statement_fits}
 use Rattle.sbx_asm.proofs.DataBytes.{Bytes, numbered_bytes, data_bytes}
 
 -- ---- what a draft keeps
@@ -113,12 +112,12 @@ directed_within : (x : Directive) (p : Place) → p.next_word ≤ code_end → (
 directed_within directives.Text p h = h
 directed_within _ p h = h
 
-place_within : (line : List ℕ) (ts : List Token) (s : Statement) (p : Place) → p.next_word ≤ code_end → (place_after line ts s p).next_word ≤ code_end
+place_within : (i : Item) (s : Said) (p : Place) → p.next_word ≤ code_end → (place_after i s p).next_word ≤ code_end
 unfolding place_after
-place_within line ts statements.Nothing p h = h
-place_within line ts (statements.Directive x) p h = directed_within x p h
-place_within line ts (statements.Malformed k name) p h = h
-place_within line ts statements.Instruction p h = moved_within code_end p.next_word _ h
+place_within i (Ok (statements.Directive x)) p h = directed_within x p h
+place_within i (Ok statements.Instruction) p h = moved_within code_end p.next_word _ h
+place_within i (Ok _) p h = h
+place_within i (Err f) p h = moved_within code_end p.next_word 4 h
 
 -- ---- functions and blocks
 
@@ -356,13 +355,13 @@ with_words_fits (Ok is) d fits h =
     (record { next = h.0.next; words = append_all (λ w. w < 2 ^ 32) d.words (map spelling is) h.0.words fits; bytes = h.0.bytes; regions = h.0.regions; services = h.0.services; functions = h.0.functions }, h.1, h.2)
 with_words_fits (Err f) d fits h = h
 
-instruction_checked_fits : (line : List ℕ) (ts : List Token) (d : Draft) → DraftFits d → DraftFits (instruction_checked line ts d)
-instruction_checked_fits line ts d h =
-    where_fits (not (has_room code_end d.place.next_word (4 * statement_length line ts))) causes.Limit (noted_where (not (is_code d.place.section && is_some d.function.head)) causes.Directive d)
+instruction_checked_fits : (i : Item) (d : Draft) → DraftFits d → DraftFits (instruction_checked i d)
+instruction_checked_fits i d h =
+    where_fits (not (has_room code_end d.place.next_word (4 * statement_length i.bytes i.tokens))) causes.Limit (noted_where (not (is_code d.place.section && is_some d.function.head)) causes.Directive d)
     (where_fits (not (is_code d.place.section && is_some d.function.head)) causes.Directive d h)
 
-module _ (values : Values) (line : List ℕ) (ts : List Token) where
-  directive_fits : (x : Directive) (d : Draft) → Fits x → DraftFits d → DraftFits (directive_does values line ts x d)
+module _ (values : Values) (i : Item) where
+  directive_fits : (x : Directive) (d : Draft) → Fits x → DraftFits d → DraftFits (directive_does values i x d)
   directive_fits directives.Text d fits h = leave_region_fits d h
   directive_fits directives.Data d fits h = choose_data_fits d h
   directive_fits (directives.Region writable) d fits h = begin_region_fits writable d h
@@ -376,16 +375,16 @@ module _ (values : Values) (line : List ℕ) (ts : List Token) where
   directive_fits (directives.Cell c) d fits h = add_cell_fits c d fits h
   directive_fits (directives.Fuel z) d fits h = add_fuel_fits z d fits h
   directive_fits (directives.Term t) d fits h = add_term_fits t d fits h
-  directive_fits (directives.Values w n) d fits h = with_bytes_fits true (add_values w n (data_of values line w ts) d) (add_values_fits w n (data_of values line w ts) d (data_bytes values line w ts) h)
+  directive_fits (directives.Values w n) d fits h = with_bytes_fits true (add_values w n (data_of values i.bytes w i.tokens) d) (add_values_fits w n (data_of values i.bytes w i.tokens) d (data_bytes values i.bytes w i.tokens) h)
   directive_fits (directives.Skip n) d fits h = with_bytes_fits (ltb 0 n) (add_zeros n d) (add_zeros_fits n d h)
   directive_fits (directives.Align n) d fits h = add_zeros_fits (padding_of n d.place.region_bytes) d h
 
-  instruction_fits : (d : Draft) → DraftFits d → DraftFits (instruction_does values line ts d)
+  instruction_fits : (d : Draft) → DraftFits d → DraftFits (instruction_does values i d)
   unfolding instruction_does
   instruction_fits d h =
-      with_words_fits (source_meaning values d.place.next_word line ts) (instruction_checked line ts d) (source_spelled values d.place.next_word line ts) (instruction_checked_fits line ts d h)
+      with_words_fits (source_meaning values d.place.next_word i.bytes i.tokens) (instruction_checked i d) (source_spelled values d.place.next_word i.bytes i.tokens) (instruction_checked_fits i d h)
 
-  does_fit : (s : Statement) (d : Draft) → StatementFits s → DraftFits d → DraftFits (statement_does values line ts s d)
+  does_fit : (s : Statement) (d : Draft) → StatementFits s → DraftFits d → DraftFits (statement_does values i s d)
   unfolding statement_does
   does_fit statements.Nothing d fits h = h
   does_fit (statements.Directive x) d fits h = directive_fits x d fits h
@@ -394,24 +393,22 @@ module _ (values : Values) (line : List ℕ) (ts : List Token) where
 
   -- ---- lines
 
-  behind_fits : (d : Draft) → DraftFits d → DraftFits (behind_labels values line ts d)
-  unfolding behind_labels
-  behind_fits d h =
-      let made = does_fit (statement_of line ts) d (statement_fits line ts) h in
-      (record { next = place_within line ts (statement_of line ts) d.place h.0.next; words = made.0.words; bytes = made.0.bytes; regions = made.0.regions; services = made.0.services; functions = made.0.functions }, made.1, made.2)
+  line_fits : (s : Said) (d : Draft) → SaidFits s → DraftFits d → DraftFits (line_does values i s d)
+  line_fits (Ok s) d fits h = does_fit s d fits h
+  line_fits (Err f) d fits h = h
 
-tokens_fit : (values : Values) (line : List ℕ) (d : Draft) (r : Result (List Token) TextFault) → DraftFits d → DraftFits (draft_tokens values line d r)
-tokens_fit values line d (Err f) h =
-    (record { next = moved_within code_end d.place.next_word 4 h.0.next; words = h.0.words; bytes = h.0.bytes; regions = h.0.regions; services = h.0.services; functions = h.0.functions }, h.1, h.2)
-tokens_fit values line d (Ok ts) h = behind_fits values line (drop (2 * label_count line ts) ts) d h
+  said_fits : (s : Said) (d : Draft) → SaidFits s → DraftFits d → DraftFits (said_does values i s d)
+  said_fits s d fits h =
+      let made = line_fits s d fits h in
+      (record { next = place_within i s d.place h.0.next; words = made.0.words; bytes = made.0.bytes; regions = made.0.regions; services = made.0.services; functions = made.0.functions }, made.1, made.2)
 
 numbered_fits : (number : ℕ) (d : Draft) → DraftFits d → DraftFits (numbered_line number d)
 unfolding numbered_line
 numbered_fits number d h = where_fits (ltb 1000000 number) causes.Limit (record d { line = number }) h
 
-line_fits : (values : Values) (d : Draft) (x : ℕ × List ℕ) → DraftFits d → DraftFits (draft_line values d x)
-unfolding draft_line
-line_fits values d x h = tokens_fit values x.1 (numbered_line x.0 d) (tokens_of x.1) (numbered_fits x.0 d h)
+item_fits : (values : Values) (d : Draft) (i : Item) → SaidFits i.said → DraftFits d → DraftFits (draft_item values d i)
+unfolding draft_item
+item_fits values d i fits h = said_fits values i i.said (numbered_line i.number d) fits (numbered_fits i.number d h)
 
 empty_fits : (fault : Option AsmFault) → DraftFits (empty_draft fault)
 empty_fits fault = (
@@ -420,9 +417,18 @@ empty_fits fault = (
   record { address = omega arith; fuel = no_fuel; cells = tt; terms = tt },
 )
 
-draft_fits : (labels : Labels) (source : List ℕ) → DraftFits (draft_in labels source)
+abbrev ItemFits : Item → Type 0
+ItemFits i = SaidFits i.said
+
+read_fits : (number : ℕ) (line : List ℕ) (r : Result (List Token) TextFault) → ItemFits (read_line number line r)
+read_fits number line (Ok ts) = statement_fits line (drop (2 * label_count line ts) ts)
+read_fits number line (Err f) = tt
+
+draft_fits : (labels : Labels) (source : List ℕ) → DraftFits (draft_in labels (items_of source))
 unfolding draft_in
-draft_fits labels source = fold_all DraftFits (draft_line labels.values) (λ d x h. line_fits labels.values d x h) (all_lines source) (empty_draft labels.fault) (empty_fits labels.fault)
+draft_fits labels source =
+    fold_all DraftFits ItemFits (draft_item labels.values) (λ d i fits h. item_fits labels.values d i fits h) (items_of source)
+    (map_all ItemFits item_of (λ x. read_fits x.0 x.1 (tokens_of x.1)) (all_lines source)) (empty_draft labels.fault) (empty_fits labels.fault)
 
 -- ---- the image
 
@@ -456,11 +462,9 @@ judged_fits : (after : ℕ) (o : Option AsmFault) (p parts : Parts) → PartsFit
 judged_fits after (Some f) p parts h e = absurd (cc)
 judged_fits after None p parts h e = kept_fits after p parts (parts_keep p) h e
 
-made_images_fit : (source : List ℕ) (parts : Parts) → image_made source ≡ Ok parts → PartsFit parts
-unfolding image_made
-made_images_fit source parts told =
-    let d : Draft = closed (draft_in (labels_in source) source) in
-    judged_fits (length (lines_of source) + 1) d.fault (parts_in d) parts (parts_fit d (closed_fits (draft_in (labels_in source) source) (draft_fits (labels_in source) source))) told
-
 pub meant_images_fit : MeantImagesFitTheirFields
-meant_images_fit source parts told = made_images_fit source parts (stages_agree source ∙ told)
+unfolding image_made
+meant_images_fit source parts told =
+    let items : List Item = items_of source in
+    let d : Draft = closed (draft_in (labels_in items) items) in
+    judged_fits (length items + 1) d.fault (parts_in d) parts (parts_fit d (closed_fits (draft_in (labels_in items) items) (draft_fits (labels_in items) source))) (stages_agree source ∙ told)

@@ -25,20 +25,14 @@ use Rattle.sbx_directives.specs.Data.{data_of, bytes_of_width}
 use Rattle.sbx_asm.specs.declared.fault.Cause.TheVariants as causes
 use Rattle.sbx_asm.specs.declared.opening.Head.{Head}
 use Rattle.sbx_asm.specs.declared.draft.Draft.{Draft}
-use Rattle.sbx_asm.specs.Faults.{told, at}
-use Rattle.sbx_asm.specs.Items.{Item, Said, up_to, count, starts_function, ends_function, is_data, is_region, is_block, ends_block, in_function, block_count, params, results, cells, terms}
-use Rattle.sbx_asm.specs.Rules.{Values, acts, is_unknown, takes_annotations, takes_ranges, has_fuel, has_depth, last_cell, last_term, is_services, is_stack}
+use Rattle.sbx_asm.specs.Items.{Item, Said, up_to, count, starts_function, ends_function, is_data, is_region, is_block, ends_block, in_function, block_count, params, results, services, stacks, has, first_or}
+use Rattle.sbx_asm.specs.Rules.{Values, acts, takes_annotations, takes_ranges, has_fuel, has_depth}
 use Rattle.sbx_asm.specs.Addresses.{padding_of, section_room}
 use Rattle.sbx_asm.specs.Stages.Places.{has_room}
 use Rattle.sbx_asm.specs.Stages.Drafts as stages
-use Rattle.sbx_asm.specs.Stages.Drafts.{close_block, close_headed, close_function, headed, open_block, begin_function, begin_block_of, begin_block, param_if, add_param, result_if, add_result, depth_by, add_depth, cell_if, add_cell, term_if, add_term, fuel_if, fuel_by, add_fuel, services_by, add_services, stack_by, add_stack, noted, noted_where, begun, leave_region, close_region, choose_data, begin_region, with_bytes, data_checked, with_data, with_zeros, add_values, add_zeros, instruction_checked, with_words, instruction_does, statement_does, numbered_line}
-use Rattle.sbx_asm.proofs.Standing.{item, passed}
-
--- ---- a line as an item
-
-abbrev pub said_does : Values → Item → Said → Draft → Draft
-said_does values i (Ok s) d = record (statement_does values i.bytes i.tokens s d) { place = passed i (Ok s) d.place }
-said_does values i (Err f) d = record d { fault = told d.fault (at d.line (causes.Text f)); block = record d.block { begun = true }; place = passed i (Err f) d.place }
+use Rattle.sbx_asm.specs.Stages.Drafts.{close_block, close_headed, close_function, headed, open_block, begin_function, begin_block_of, begin_block, param_if, add_param, result_if, add_result, depth_by, add_depth, cell_if, add_cell, term_if, add_term, fuel_if, fuel_by, add_fuel, services_by, add_services, stack_by, add_stack, noted, noted_where, begun, leave_region, close_region, choose_data, begin_region, with_bytes, data_checked, with_data, with_zeros, add_values, add_zeros, instruction_checked, with_words, instruction_does, statement_does, said_does}
+use Rattle.sbx_asm.proofs.Views.{is_unknown, cell_places, term_places}
+use Rattle.sbx_asm.proofs.Standing.{item}
 
 -- ---- what a draft and the lines before have in common
 
@@ -65,11 +59,11 @@ Behind values before u d =
     × (((in_function before && not (u || list_any (acts values) (up_to ends_block before))) && not (list_any is_block (up_to ends_function before))) ≡ true
     → (length d.function.params ≡ length (flat_map params (up_to ends_function before))) × (length d.function.results ≡ length (flat_map results (up_to ends_function before))))
     × ((in_function before && not (u || list_any (acts values) (up_to ends_block before))) ≡ true
-    → (length d.block.cells ≡ length (flat_map cells (up_to ends_block before))) × (d.block.last_cell ≡ last_cell (flat_map cells (up_to ends_block before)))
-    × (length d.block.terms ≡ length (flat_map terms (up_to ends_block before))) × (d.block.last_term ≡ last_term (flat_map terms (up_to ends_block before))))
+    → (length d.block.cells ≡ length (cell_places before)) × (d.block.last_cell ≡ first_or 0 (cell_places before))
+    × (length d.block.terms ≡ length (term_places before)) × (d.block.last_term ≡ first_or 0 (term_places before)))
     × (is_some d.block.fuel ≡ has_fuel values before)
-    × (is_some d.services ≡ list_any is_services before)
-    × (is_some d.stack ≡ list_any is_stack before)
+    × (is_some d.services ≡ list_any (has services) before)
+    × (is_some d.stack ≡ list_any (has stacks) before)
     × (d.region.count ≡ capped 8 (count is_region before))
     × (d.region.has_data ≡ list_any is_data before)
     × (d.region.has_region ≡ list_any is_region before)
@@ -104,17 +98,17 @@ pub and_false : (b : Bool) → (b && false) ≡ false
 and_false true = refl
 and_false false = refl
 
-or_known : (b c : Bool) → true ≡ b → b ≡ (b || c)
-or_known true c h = refl
-or_known false c h = absurd (true≢false h)
+or_known : (b c : Bool) → true ≡ b → b ≡ (c || b)
+or_known b true h = sym h
+or_known b false h = refl
 
-or_second : (b c : Bool) → false ≡ b → c ≡ true → true ≡ (b || c)
-or_second true c h k = refl
-or_second false c h k = sym k
+or_first : (b c : Bool) → c ≡ true → true ≡ (c || b)
+or_first b true h = refl
+or_first b false h = absurd (false≢true h)
 
-or_neither : (b c : Bool) → c ≡ false → b ≡ (b || c)
-or_neither true c h = refl
-or_neither false c h = sym h
+or_neither : (b c : Bool) → c ≡ false → b ≡ (c || b)
+or_neither b true h = absurd (true≢false h)
+or_neither b false h = refl
 
 where_open : (b x y : Bool) → (b ≡ true → x ≡ y) → (b && not x) ≡ (b && not y)
 where_open true x y h = ap not (h refl)
@@ -126,7 +120,7 @@ where_both false x y h = refl
 
 -- ---- numbers
 
-pushed : {A : Type 0} (xs ys : List A) (x y : A) → length xs ≡ length ys → length (xs ++ x ∷ []) ≡ length (y ∷ ys)
+pushed : {A B : Type 0} (xs : List A) (ys : List B) (x : A) (y : B) → length xs ≡ length ys → length (xs ++ x ∷ []) ≡ length (y ∷ ys)
 pushed xs ys x y h = let e = length-append xs (x ∷ []) in omega arith
 
 pub one_longer : {A : Type 0} (xs : List A) (x : A) (n : ℕ) → length xs + 1 ≡ n → length (xs ++ x ∷ []) ≡ n
@@ -284,9 +278,9 @@ module _ (values : Values) (before : List Item) (number : ℕ) (labels : List (L
       × (((in_function before && true) && false) ≡ true
       → (length d.function.params ≡ length (flat_map params (up_to ends_function before))) × (length d.function.results ≡ length (flat_map results (up_to ends_function before))))
       × ((in_function before && true) ≡ true → (length d.block.cells ≡ 0) × (d.block.last_cell ≡ 0) × (length d.block.terms ≡ 0) × (d.block.last_term ≡ 0))
-      × (is_some d.block.fuel ≡ (has_fuel values before && not (in_function before)))
-      × (is_some d.services ≡ list_any is_services before)
-      × (is_some d.stack ≡ list_any is_stack before)
+      × (is_some d.block.fuel ≡ (not (in_function before) && has_fuel values before))
+      × (is_some d.services ≡ list_any (has services) before)
+      × (is_some d.stack ≡ list_any (has stacks) before)
       × (d.region.count ≡ capped 8 (count is_region before))
       × (d.region.has_data ≡ list_any is_data before)
       × (d.region.has_region ≡ list_any is_region before)
@@ -303,7 +297,7 @@ module _ (values : Values) (before : List Item) (number : ℕ) (labels : List (L
     λ t. absurd (true≢false (p ∙ t)),
     λ t. absurd (no_both (in_function before) t),
     λ _. (refl, refl, refl, refl),
-    sym (ap (λ (b : Bool). has_fuel values before && not b) (sym p) ∙ and_false (has_fuel values before)),
+    ap (λ (b : Bool). not b && has_fuel values before) p,
     h.9,
     h.10,
     h.11,
@@ -320,7 +314,7 @@ module _ (values : Values) (before : List Item) (number : ℕ) (labels : List (L
     h.5,
     λ t. absurd (no_both (in_function before) t),
     λ t. absurd (false≢true (p ∙ and_left (in_function before) true t)),
-    h.8 ∙ sym (ap (λ (b : Bool). has_fuel values before && not b) (sym p) ∙ and_true (has_fuel values before)),
+    h.8 ∙ ap (λ (b : Bool). not b && has_fuel values before) p,
     h.9,
     h.10,
     h.11,
@@ -379,7 +373,7 @@ module _ (values : Values) (before : List Item) (number : ℕ) (labels : List (L
     h.4,
     λ out. absurd (false≢true (sym out ∙ is_open values before d h e)),
     h.6,
-    λ t. (pushed d.block.cells _ c c (h.7 t).0, refl, (h.7 t).2, (h.7 t).3),
+    λ t. (pushed d.block.cells (cell_places before) c c.location (h.7 t).0, refl, (h.7 t).2, (h.7 t).3),
     h.8,
     h.9,
     h.10,
@@ -399,7 +393,7 @@ module _ (values : Values) (before : List Item) (number : ℕ) (labels : List (L
     h.4,
     λ out. absurd (false≢true (sym out ∙ is_open values before d h e)),
     h.6,
-    λ t. ((h.7 t).0, (h.7 t).1, pushed d.block.terms _ x x (h.7 t).2, refl),
+    λ t. ((h.7 t).0, (h.7 t).1, pushed d.block.terms (term_places before) x x.location (h.7 t).2, refl),
     h.8,
     h.9,
     h.10,
@@ -416,7 +410,7 @@ module _ (values : Values) (before : List Item) (number : ℕ) (labels : List (L
   fuel_follows z d h None p = by (stages.takes_annotations d.function d.block) refl
     where
       by : (t : Bool) → stages.takes_annotations d.function d.block ≡ t → Follows values (it (Ok (statements.Directive (directives.Fuel z))) ∷ before) (fuel_if t z d)
-      by true e = (h.0, h.1, h.2, h.3, h.4, h.5, h.6, h.7, or_second (has_fuel values before) (takes_annotations values before) p (sym (same_annotations values before d h) ∙ e), h.9, h.10, h.11, h.12, h.13, h.14)
+      by true e = (h.0, h.1, h.2, h.3, h.4, h.5, h.6, h.7, or_first (has_fuel values before) (takes_annotations values before) (sym (same_annotations values before d h) ∙ e), h.9, h.10, h.11, h.12, h.13, h.14)
       by false e = (h.0, h.1, h.2, h.3, h.4, h.5, h.6, h.7, h.8 ∙ or_neither (has_fuel values before) (takes_annotations values before) (sym (same_annotations values before d h) ∙ e), h.9, h.10, h.11, h.12, h.13, h.14)
 
   depth_follows : (n : ℕ) (d : Draft) → Follows values before d → (o : Option Head) → is_some o ≡ in_function before → (m : Option ℕ) → is_some d.function.depth ≡ is_some m
@@ -453,7 +447,7 @@ module _ (values : Values) (before : List Item) (number : ℕ) (labels : List (L
   unfolding leave_region close_region begin_region
   region_follows writable d h = (h.0, h.1, h.2, h.3, h.4, h.5, h.6, h.7, h.8, h.9, h.10, another 8 d.region.count (count is_region before) h.11, h.12, refl, h.14)
 
-  words_follow : (d : Draft) → Follows values before d → (r : Result (List Instr) SyntaxFault) → Behind values before true (begun (with_words r (instruction_checked bytes tokens d)))
+  words_follow : (d : Draft) → Follows values before d → (r : Result (List Instr) SyntaxFault) → Behind values before true (begun (with_words r (instruction_checked (it (Ok statements.Instruction)) d)))
   words_follow d h (Ok is) = acted d h
   words_follow d h (Err f) = acted d h
 

@@ -7,6 +7,7 @@ mod Wholes
 mod StatementWords
 mod Numbers
 mod DataBytes
+mod Views
 mod Standing
 mod Labelling
 mod Following
@@ -21,5 +22,4 @@ mod Numbering
 mod ValueCounts
 mod Lying
 mod Beginning
-mod Worked
 pub mod Fitting

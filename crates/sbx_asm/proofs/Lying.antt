@@ -18,13 +18,14 @@ use Rattle.sbx_asm.specs.declared.place.Section.TheVariants.{Code, Data}
 use Rattle.sbx_asm.specs.declared.fault.Cause.{Cause}
 use Rattle.sbx_asm.specs.declared.fault.Cause.TheVariants as causes
 use Rattle.sbx_asm.specs.Faults.{at}
-use Rattle.sbx_asm.specs.Items.{Item, items_of, Said, each, behind, up_to, count, is_region, starts_region}
-use Rattle.sbx_asm.specs.Addresses.{data_length, padding_of, section_room, up_to_room, fits_behind, size_with, data_size, data_offset, last_start, up_to_last, start_with, region_start, data_address, section_after, address_in_section, label_address, all_labels, values_of}
-use Rattle.sbx_asm.specs.Rules.{Values, duplicates, faults_of, least_of, when, is_code, data_rules, value_rules, another_region, line_rules, own_faults, empty_block, empty_region, faults_at}
-use Rattle.sbx_asm.specs.Images.{filled, region_with, bytes_said, bytes_at, region_begun, region_at, image_of}
+use Rattle.sbx_asm.specs.Items.{Item, items_of, Said, each, behind, up_to, count, is_region}
+use Rattle.sbx_asm.specs.Addresses.{data_length, padding_of, section_room, up_to_room, fits_behind, data_offset, last_start, start_behind, region_start, data_address, section_after, label_address, all_labels, values_of, is_code}
+use Rattle.sbx_asm.specs.Rules.{Values, duplicates, faults_of, least_of, when, data_rules, value_rules, line_rules, faults_at}
+use Rattle.sbx_asm.specs.Images.{filled, region_with, bytes_at, region_at, image_of}
 use Rattle.sbx_asm.specs.Meaning.{source_image}
 use Rattle.sbx_asm.specs.Laws.{DataLieWhereLabelsSay}
-use Rattle.sbx_asm.proofs.Standing.{item, low}
+use Rattle.sbx_asm.proofs.Views.{address_in_section, another_region}
+use Rattle.sbx_asm.proofs.Standing.{item, in_room, data_within, low}
 use Rattle.sbx_asm.proofs.Making.{cons_nil, nil_left, nil_right, nil_map}
 use Rattle.sbx_asm.proofs.Agreement.{none_told}
 use Rattle.sbx_asm.proofs.Meanings.{judged_parts}
@@ -90,51 +91,33 @@ first_region writable (x ∷ xs) rs start a = refl
 
 -- ---- a line that begins no region
 
-start_stays : (start size : ℕ) (s : Said) → starts_region s ≡ false → start_with start size s ≡ start
-start_stays start size (Ok (statements.Directive (directives.Region writable))) h = absurd (cc)
-start_stays start size (Ok (statements.Directive _)) h = refl
-start_stays start size (Ok _) h = refl
-start_stays start size (Err f) h = refl
-
-size_grows : (size : ℕ) (s : Said) → starts_region s ≡ false → size_with size s ≡ size + data_length (up_to_room size) s
-size_grows size (Ok (statements.Directive (directives.Region writable))) h = absurd (cc)
-size_grows size (Ok (statements.Directive _)) h = refl
-size_grows size (Ok _) h = refl
-size_grows size (Err f) h = refl
-
-begins_none : (values : Values) (behind_it after : List Item) (s : Said) → starts_region s ≡ false → region_begun values behind_it s after ≡ []
-begins_none values behind_it after (Ok (statements.Directive (directives.Region writable))) h = absurd (cc)
-begins_none values behind_it after (Ok (statements.Directive _)) h = refl
-begins_none values behind_it after (Ok _) h = refl
-begins_none values behind_it after (Err f) h = refl
+begins_none : (values : Values) (before : List Item) (i : Item) (after : List Item) (s : Said) → is_region (record i { said = s }) ≡ false → region_at values before (record i { said = s }) after ≡ []
+begins_none values before i after (Ok (statements.Directive (directives.Region writable))) h = absurd (cc)
+begins_none values before i after (Ok (statements.Directive _)) h = refl
+begins_none values before i after (Ok _) h = refl
+begins_none values before i after (Err f) h = refl
 
 -- ---- one that begins one
 
-pub which_region : (s : Said) → starts_region s ≡ true → (writable : Bool) × (s ≡ Ok (statements.Directive (directives.Region writable)))
-which_region (Ok (statements.Directive (directives.Region writable))) h = (writable, refl)
-which_region (Ok (statements.Directive _)) h = absurd (cc)
-which_region (Ok _) h = absurd (cc)
-which_region (Err f) h = absurd (cc)
+pub which_region : (i : Item) (s : Said) → is_region (record i { said = s }) ≡ true → (writable : Bool) × (s ≡ Ok (statements.Directive (directives.Region writable)))
+which_region i (Ok (statements.Directive (directives.Region writable))) h = (writable, refl)
+which_region i (Ok (statements.Directive _)) h = absurd (cc)
+which_region i (Ok _) h = absurd (cc)
+which_region i (Err f) h = absurd (cc)
 
-no_bytes : (values : Values) (before : List Item) (i : Item) (s : Said) → starts_region s ≡ true → bytes_said values before i s ≡ []
+no_bytes : (values : Values) (before : List Item) (i : Item) (s : Said) → is_region (record i { said = s }) ≡ true → bytes_at values before (record i { said = s }) [] ≡ []
 no_bytes values before i (Ok (statements.Directive (directives.Region writable))) h = refl
 no_bytes values before i (Ok (statements.Directive _)) h = absurd (cc)
 no_bytes values before i (Ok _) h = absurd (cc)
 no_bytes values before i (Err f) h = absurd (cc)
 
-pub no_size : (size : ℕ) (s : Said) → starts_region s ≡ true → size_with size s ≡ 0
-no_size size (Ok (statements.Directive (directives.Region writable))) h = refl
-no_size size (Ok (statements.Directive _)) h = absurd (cc)
-no_size size (Ok _) h = absurd (cc)
-no_size size (Err f) h = absurd (cc)
+pub no_size : (before : List Item) (i : Item) → is_region i ≡ true → data_offset (i ∷ before) ≡ 0
+no_size before i h = ap (λ (t : Bool). if t then 0 else up_to_room (data_offset before + data_length (data_offset before) i.said)) h
 
 -- ---- where regions begin
 
-pub in_room : (size : ℕ) → size ≤ section_room → up_to_room size ≡ size
-in_room size h = ap (λ (t : Bool). cond t size section_room) (le-leb size section_room h)
-
-small_offset : (size : ℕ) → up_to_room size ≤ section_room
-small_offset size = cond_both (leb size section_room) size section_room (λ m. m ≤ section_room) (λ h. leb-true size section_room h) (λ _. omega arith)
+abbrev up_to_last : ℕ → ℕ
+up_to_last address = if nat_le address last_start then address else last_start
 
 capped : (address : ℕ) → up_to_last address ≤ address
 capped address = cond_both (leb address last_start) address last_start (λ m. m ≤ address) (λ _. omega arith) (λ h. let k = leb-false address last_start h in omega (arith, k))
@@ -142,30 +125,24 @@ capped address = cond_both (leb address last_start) address last_start (λ m. m 
 not_below : (start address : ℕ) → start ≤ last_start → start ≤ address → start ≤ up_to_last address
 not_below start address h k = cond_both (leb address last_start) address last_start (λ m. start ≤ m) (λ _. k) (λ _. h)
 
-rises_with : (start size : ℕ) (s : Said) → start ≤ last_start → start ≤ start_with start size s
-rises_with start size (Ok (statements.Directive (directives.Region writable))) h = not_below start (start + 4096 * pages_for size) h (omega arith)
-rises_with start size (Ok (statements.Directive _)) h = omega arith
-rises_with start size (Ok _) h = omega arith
-rises_with start size (Err f) h = omega arith
+rises_with : (start size : ℕ) (begins : Bool) → start ≤ last_start → start ≤ (if begins then start_behind start size else start)
+rises_with start size true h = not_below start (start + 4096 * pages_for size) h (omega arith)
+rises_with start size false h = omega arith
 
 -- each begins no earlier than the one before
 pub rises : (front before : List Item) → region_start before ≤ region_start (behind before front)
 rises [] before = omega arith
-rises (i ∷ front) before = let h = rises_with (region_start before) (data_offset before) i.said (low before) in let k = rises front (i ∷ before) in omega (arith, h, k)
+rises (i ∷ front) before = let h = rises_with (region_start before) (data_offset before) (is_region i) (low before) in let k = rises front (i ∷ before) in omega (arith, h, k)
 
-abbrev counted : ℕ → Said → ℕ
-counted n s = if starts_region s then n + 1 else n
-
-within_with : (start size n : ℕ) (s : Said) → size ≤ section_room → start ≤ DATA_START + section_room * n → start_with start size s ≤ DATA_START + section_room * counted n s
-within_with start size n (Ok (statements.Directive (directives.Region writable))) small h = let k = capped (start + 4096 * pages_for size) in omega (arith, k)
-within_with start size n (Ok (statements.Directive _)) small h = h
-within_with start size n (Ok _) small h = h
-within_with start size n (Err f) small h = h
+within_with : (start size n : ℕ) (begins : Bool) → size ≤ section_room → start ≤ DATA_START + section_room * n
+    → (if begins then start_behind start size else start) ≤ DATA_START + section_room * (if begins then n + 1 else n)
+within_with start size n true small h = let k = capped (start + 4096 * pages_for size) in omega (arith, k)
+within_with start size n false small h = h
 
 -- and each takes no more than its room
 within : (before : List Item) → region_start before ≤ DATA_START + section_room * count is_region before
 within [] = omega arith
-within (i ∷ before) = within_with (region_start before) (data_offset before) (count is_region before) i.said (small_offset (data_size before)) (within before)
+within (i ∷ before) = within_with (region_start before) (data_offset before) (count is_region before) (is_region i) (data_within before) (within before)
 
 -- one of the first eight begins right behind the pages of the one before
 pub begins_behind : (before : List Item) → another_region before ≡ [] → up_to_last (region_start before + 4096 * pages_for (data_offset before)) ≡ region_start before + 4096 * pages_for (data_offset before)
@@ -173,7 +150,7 @@ begins_behind before clean =
     let few : nat_le 8 (count is_region before) ≡ false = no_limit (nat_le 8 (count is_region before)) (nil_right (when _ causes.Directive) (when (nat_le 8 (count is_region before)) causes.Limit) clean) in
     let less = leb-false 8 (count is_region before) few in
     let start = within before in
-    let size = small_offset (data_size before) in
+    let size = data_within before in
     ap (λ (t : Bool). cond t (region_start before + 4096 * pages_for (data_offset before)) last_start) (le-leb (region_start before + 4096 * pages_for (data_offset before)) last_start (omega (arith, less, start, size)))
   where
     no_limit : (t : Bool) → when t causes.Limit ≡ [] → t ≡ false
@@ -191,7 +168,7 @@ module _ (values : Values) (before : List Item) (number : ℕ) (labels : List (L
   it s = item before number labels bytes tokens s
 
   -- the bytes of a line are as many as its length
-  pub length_is : (s : Said) → SaysCount bytes tokens s → line_rules values before (it s) s ≡ [] → length (bytes_said values before (it s) s) ≡ data_length (data_offset before) s
+  pub length_is : (s : Said) → SaysCount bytes tokens s → line_rules values before (it s) s ≡ [] → length (bytes_at values before (it s) []) ≡ data_length (data_offset before) s
   length_is (Ok (statements.Directive (directives.Values w n))) says clean = values_length values bytes w tokens n says (nil_right (data_rules before (bytes_of_width w * n)) (value_rules (data_of values bytes w tokens)) clean)
   length_is (Ok (statements.Directive (directives.Skip n))) says clean = length-replicate n 0
   length_is (Ok (statements.Directive (directives.Align n))) says clean = length-replicate (padding_of n (data_offset before)) 0
@@ -203,11 +180,11 @@ module _ (values : Values) (before : List Item) (number : ℕ) (labels : List (L
   room_left n clean =
       let fits : fits_behind (data_offset before) n ≡ true = has_room (fits_behind (data_offset before) n) (nil_right (when (is_code (section_after before)) causes.Directive) (when (not (fits_behind (data_offset before) n)) causes.Limit) clean) in
       let k = leb-true n (section_room - data_offset before) fits in
-      let size = small_offset (data_size before) in
+      let size = data_within before in
       omega (arith, k, size)
 
   no_more : data_offset before + 0 ≤ section_room
-  no_more = let size = small_offset (data_size before) in omega (arith, size)
+  no_more = let size = data_within before in omega (arith, size)
 
   -- and its region holds them
   room_is : (s : Said) → line_rules values before (it s) s ≡ [] → data_offset before + data_length (data_offset before) s ≤ section_room
@@ -223,7 +200,7 @@ module _ (values : Values) (before : List Item) (number : ℕ) (labels : List (L
   no_code Code cs h = cons_nil h
   no_code Data cs h = refl
 
-  in_data : (s : Said) (k b : ℕ) → line_rules values before (it s) s ≡ [] → slice_get (bytes_said values before (it s) s) k ≡ Some b → section_after before ≡ Data
+  in_data : (s : Said) (k b : ℕ) → line_rules values before (it s) s ≡ [] → slice_get (bytes_at values before (it s) []) k ≡ Some b → section_after before ≡ Data
   in_data (Ok (statements.Directive (directives.Values w n))) k b clean h = no_code (section_after before) _ (nil_left (data_rules before (bytes_of_width w * n)) (value_rules (data_of values bytes w tokens)) clean)
   in_data (Ok (statements.Directive (directives.Skip n))) k b clean h = no_code (section_after before) _ clean
   in_data (Ok (statements.Directive (directives.Align n))) k b clean h = no_code (section_after before) _ clean
@@ -240,18 +217,15 @@ module _ (values : Values) where
   -- with a line that begins no region
   pub newest_more : (writable : Bool) (bs : List ℕ) (before : List Item) (i : Item) (after : List Item) → is_region i ≡ false → newest writable bs before (i ∷ after) ≡ newest writable (bs ++ bytes_at values before i []) (i ∷ before) after
   newest_more writable bs before i after h =
-      (λ j. region_with writable (filled (bs ++ each (bytes_at values) before (cond (h j) [] (i ∷ up_to is_region after)))) ++ (region_begun values (i ∷ before) i.said after ++ each (region_at values) (i ∷ before) after))
-      ∙ ap (λ (rs : List Region). region_with writable (filled (bs ++ (bytes_at values before i [] ++ each (bytes_at values) (i ∷ before) (up_to is_region after)))) ++ (rs ++ each (region_at values) (i ∷ before) after)) (begins_none values (i ∷ before) after i.said h)
+      (λ j. region_with writable (filled (bs ++ each (bytes_at values) before (cond (h j) [] (i ∷ up_to is_region after)))) ++ (region_at values before i after ++ each (region_at values) (i ∷ before) after))
+      ∙ ap (λ (rs : List Region). region_with writable (filled (bs ++ (bytes_at values before i [] ++ each (bytes_at values) (i ∷ before) (up_to is_region after)))) ++ (rs ++ each (region_at values) (i ∷ before) after)) (begins_none values before i after i.said h)
       ∙ ap (λ (xs : List ℕ). region_with writable (filled xs) ++ each (region_at values) (i ∷ before) after) (sym (append_assoc bs (bytes_at values before i []) (each (bytes_at values) (i ∷ before) (up_to is_region after))))
 
   -- the byte at an address
   abbrev Gives : ℕ → Bool → List ℕ → List Item → List Item → ℕ → Type 0
   Gives a writable bs before after b = byte_in (placed_from (region_start before) (newest writable bs before after)) a ≡ Some b
 
-  module _ (before : List Item) (bs : List ℕ) (size : data_size before ≡ length bs) (room : length bs ≤ section_room) where
-    pub offset : data_offset before ≡ length bs
-    offset = ap up_to_room size ∙ in_room (length bs) room
-
+  module _ (before : List Item) (bs : List ℕ) (size : data_offset before ≡ length bs) (room : length bs ≤ section_room) where
     -- a line that begins none leaves the newest one, with its bytes
     module _ (i : Item) (says : ItemCounts i) (clean : line_rules values before i i.said ≡ []) (quiet : is_region i ≡ false) where
       abbrev own : List ℕ
@@ -260,14 +234,17 @@ module _ (values : Values) where
       own_length : length own ≡ data_length (data_offset before) i.said
       own_length = length_is values before i.number i.labels i.bytes i.tokens i.said says clean
 
-      pub size_more : data_size (i ∷ before) ≡ length (bs ++ own)
-      size_more = size_grows (data_size before) i.said quiet ∙ ap (λ (n : ℕ). n + data_length (data_offset before) i.said) size ∙ ap (λ (n : ℕ). length bs + n) (sym own_length) ∙ sym (length-append bs own)
-
       pub room_more : length (bs ++ own) ≤ section_room
-      room_more = let r = room_is values before i.number i.labels i.bytes i.tokens i.said clean in let o = offset in let l = own_length in let e = length-append bs own in omega (arith, r, o, l, e)
+      room_more = let r = room_is values before i.number i.labels i.bytes i.tokens i.said clean in let l = own_length in let e = length-append bs own in omega (arith, r, size, l, e)
+
+      pub size_more : data_offset (i ∷ before) ≡ length (bs ++ own)
+      size_more =
+          ap (λ (t : Bool). if t then 0 else up_to_room (data_offset before + data_length (data_offset before) i.said)) quiet
+          ∙ in_room (data_offset before + data_length (data_offset before) i.said) (room_is values before i.number i.labels i.bytes i.tokens i.said clean)
+          ∙ (let l = own_length in let e = length-append bs own in omega (arith, size, l, e))
 
       pub start_same : region_start (i ∷ before) ≡ region_start before
-      start_same = start_stays (region_start before) (data_offset before) i.said quiet
+      start_same = ap (λ (t : Bool). if t then start_behind (region_start before) (data_offset before) else region_start before) quiet
 
       goes_on : (a : ℕ) (writable : Bool) (after : List Item) (b : ℕ) → Gives a writable (bs ++ own) (i ∷ before) after b → Gives a writable bs before (i ∷ after) b
       goes_on a writable after b h =
@@ -284,7 +261,7 @@ module _ (values : Values) where
           let start = region_start before in
           let inside : slice_get (filled all) (length bs + k) ≡ Some b =
           (let f = between bs own rest k b h in in_front all _ (length bs + k) (slice_get_within all (length bs + k) b f) ∙ f) in
-          let place : data_address before + k ≡ start + (length bs + k) = (let o = offset in omega (arith, o)) in
+          let place : data_address before + k ≡ start + (length bs + k) = omega (arith, size) in
           ap (λ (rs : List Region). byte_in (placed_from start rs) (data_address before + k)) (newest_more writable bs before i after quiet)
           ∙ first_region writable (filled all) behind_it start (data_address before + k)
           ∙ ap (λ (o : Option ℕ). or_else o (byte_in (placed_from (start + 4096 * pages_for (length (filled all))) behind_it) (data_address before + k)))
@@ -301,7 +278,7 @@ module _ (values : Values) where
           let rs = newest right [] (new ∷ before) after in
           let start = region_start before in
           let pages : pages_for (length xs) ≡ pages_for (data_offset before) =
-          ap (λ (ys : List ℕ). pages_for (length (filled ys))) (append-nil bs) ∙ filled_pages bs ∙ ap pages_for (sym offset) in
+          ap (λ (ys : List ℕ). pages_for (length (filled ys))) (append-nil bs) ∙ filled_pages bs ∙ ap pages_for (sym size) in
           let next : start + 4096 * pages_for (length xs) ≡ region_start (new ∷ before) = ap (λ (n : ℕ). start + 4096 * n) pages ∙ sym (begins_behind before clean) in
           let fits = filled_fits (bs ++ []) in
           let kept = filled_pages (bs ++ []) in
@@ -314,10 +291,9 @@ module _ (values : Values) where
 
   pub line_clean : (before : List Item) (i : Item) (after : List Item) → faults_at values before i after ≡ [] → line_rules values before i i.said ≡ []
   line_clean before i after mine =
-      nil_right (when (nat_lt 1000000 i.number) causes.Limit) (line_rules values before i i.said)
-      (nil_map (at i.number) _ (nil_left (own_faults values before i) (empty_region i after) (nil_left (own_faults values before i ++ empty_region i after) (empty_block values before i after) mine)))
+      nil_left (line_rules values before i i.said) _ (nil_right (when (nat_lt 1000000 i.number) causes.Limit) _ (nil_map (at i.number) _ mine))
 
-  lies : (front before : List Item) (bs : List ℕ) (writable : Bool) (i : Item) (after : List Item) (k b : ℕ) → data_size before ≡ length bs → length bs ≤ section_room
+  lies : (front before : List Item) (bs : List ℕ) (writable : Bool) (i : Item) (after : List Item) (k b : ℕ) → data_offset before ≡ length bs → length bs ≤ section_room
       → AllByRecursion ItemCounts (front ++ i ∷ after) → each (faults_at values) before (front ++ i ∷ after) ≡ [] → slice_get (bytes_at values (behind before front) i []) k ≡ Some b
       → Gives (data_address (behind before front) + k) writable bs before (front ++ i ∷ after) b
   lies [] before bs writable i after k b size room says clean h = by (is_region i) refl
@@ -336,13 +312,13 @@ module _ (values : Values) where
       past : region_start (j ∷ before) ≤ (data_address (behind (j ∷ before) front) + k)
       past = let r = rises front (j ∷ before) in omega (arith, r)
 
-      by : ((cs : List ℕ) (right : Bool) (i : Item) (after : List Item) (k b : ℕ) → data_size (j ∷ before) ≡ length cs → length cs ≤ section_room → AllByRecursion ItemCounts (front ++ i ∷ after)
+      by : ((cs : List ℕ) (right : Bool) (i : Item) (after : List Item) (k b : ℕ) → data_offset (j ∷ before) ≡ length cs → length cs ≤ section_room → AllByRecursion ItemCounts (front ++ i ∷ after)
           → each (faults_at values) (j ∷ before) (front ++ i ∷ after) ≡ [] → slice_get (bytes_at values (behind (j ∷ before) front) i []) k ≡ Some b
           → Gives (data_address (behind (j ∷ before) front) + k) right cs (j ∷ before) (front ++ i ∷ after) b)
           → (t : Bool) → is_region j ≡ t → Gives (data_address (behind (j ∷ before) front) + k) writable bs before (j ∷ (front ++ i ∷ after)) b
       by more true e =
-          let region = which_region j.said e in
-          let lain : Gives (data_address (behind (j ∷ before) front) + k) region.0 [] (j ∷ before) (front ++ i ∷ after) b = more [] region.0 i after k b (no_size (data_size before) j.said e) (omega arith) says.1 later h in
+          let region = which_region j j.said e in
+          let lain : Gives (data_address (behind (j ∷ before) front) + k) region.0 [] (j ∷ before) (front ++ i ∷ after) b = more [] region.0 i after k b (no_size before j e) (omega arith) says.1 later h in
           let it = λ (s : Said). item before j.number j.labels j.bytes j.tokens s in
           subst (λ (s : Said). line_rules values before (it s) s ≡ [] → region_start (it s ∷ before) ≤ (data_address (behind (j ∷ before) front) + k) → Gives (data_address (behind (j ∷ before) front) + k) region.0 [] (it s ∷ before) (front ++ i ∷ after) b → Gives (data_address (behind (j ∷ before) front) + k) writable bs before (it s ∷ (front ++ i ∷ after)) b) (sym region.1)
           (begins before bs size room j.number j.labels j.bytes j.tokens region.0 (data_address (behind (j ∷ before) front) + k) writable (front ++ i ∷ after) b) mine past lain

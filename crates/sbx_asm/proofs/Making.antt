@@ -30,17 +30,18 @@ use Rattle.sbx_asm.specs.declared.fault.Cause.TheVariants as causes
 use Rattle.sbx_asm.specs.declared.opening.Head.{Head}
 use Rattle.sbx_asm.specs.declared.draft.Draft.{Draft}
 use Rattle.sbx_asm.specs.Faults.{at}
-use Rattle.sbx_asm.specs.Items.{Item, Said, each, up_to, ends_function, is_region, is_block, ends_block, is_depth, in_function, params, results, depths, cells, terms}
-use Rattle.sbx_asm.specs.Addresses.{code_address, data_offset, padding_of, fits_behind, section_after, section_room}
-use Rattle.sbx_asm.specs.Rules.{Values, when, acts, is_code, in_place, data_rules, block_rules, takes_annotations, takes_ranges, has_fuel, has_depth, line_rules, own_faults, empty_block, empty_region, faults_at}
-use Rattle.sbx_asm.specs.Images.{first_or, fuels, block_with, block_at, function_at, words_meant, bytes_meant, filled, region_with, words_at, bytes_at, region_at, services, stacks}
+use Rattle.sbx_asm.specs.Items.{Item, Said, each, up_to, ends_function, is_region, is_block, ends_block, in_function, params, results, depths, cells, terms, first_or, services, stacks, has, fuels}
+use Rattle.sbx_asm.specs.Addresses.{code_address, data_offset, padding_of, fits_behind, section_after, section_room, is_code}
+use Rattle.sbx_asm.specs.Rules.{Values, when, acts, in_place, data_rules, block_rules, takes_annotations, takes_ranges, has_fuel, has_depth, line_rules, faults_at}
+use Rattle.sbx_asm.specs.Images.{block_with, block_at, function_at, filled, region_with, words_at, bytes_at, region_at}
 use Rattle.sbx_asm.specs.Stages.Places.{has_room}
 use Rattle.sbx_asm.specs.Stages.Drafts as stages
-use Rattle.sbx_asm.specs.Stages.Drafts.{close_block, close_headed, close_function, headed, open_block, begin_function, begin_block_of, begin_block, param_if, add_param, result_if, add_result, depth_by, add_depth, cell_if, add_cell, term_if, add_term, fuel_if, fuel_by, add_fuel, services_by, add_services, stack_by, add_stack, noted, noted_where, begun, leave_region, close_region, choose_data, begin_region, with_bytes, closed, data_checked, with_data, with_zeros, add_values, add_zeros, instruction_checked, with_words, instruction_does, statement_does, numbered_line}
+use Rattle.sbx_asm.specs.Stages.Drafts.{close_block, close_headed, close_function, headed, open_block, begin_function, begin_block_of, begin_block, param_if, add_param, result_if, add_result, depth_by, add_depth, cell_if, add_cell, term_if, add_term, fuel_if, fuel_by, add_fuel, services_by, add_services, stack_by, add_stack, noted, noted_where, begun, leave_region, close_region, choose_data, begin_region, with_bytes, closed, data_checked, with_data, with_zeros, add_values, add_zeros, instruction_checked, with_words, instruction_does, statement_does, said_does, numbered_line, draft_item}
+use Rattle.sbx_asm.proofs.Views.{words_meant, bytes_meant}
 use Rattle.sbx_asm.proofs.Standing.{item, place_of}
-use Rattle.sbx_asm.proofs.Following.{said_does, Follows, IsClosed, same_annotations, same_ranges}
+use Rattle.sbx_asm.proofs.Following.{Follows, IsClosed, same_annotations, same_ranges}
 use Rattle.sbx_asm.proofs.Telling.{data_room}
-use Rattle.sbx_asm.proofs.Turning.{item_does, item_stands, item_follows}
+use Rattle.sbx_asm.proofs.Turning.{item_stands, item_follows}
 
 -- ---- lists
 
@@ -115,7 +116,7 @@ MadeBy values e d before after o =
     × (unwrap_or e.stack 1 ≡ unwrap_or d.stack (first_or 1 (flat_map stacks after)))
     × (e.functions ≡ d.functions ++ (ahead before after d o ++ each function_at before after))
     × (e.region.has_region ≡ (d.region.has_region || list_any is_region after))
-    × (e.has_depth ≡ (d.has_depth || list_any is_depth after))
+    × (e.has_depth ≡ (d.has_depth || list_any (has depths) after))
 
 abbrev pub Made : Values → Draft → Draft → List Item → List Item → Type 0
 Made values e d before after = MadeBy values e d before after d.function.head
@@ -140,7 +141,7 @@ module _ (values : Values) (before : List Item) (number : ℕ) (labels : List (L
   abbrev N : ℕ
   N = unwrap_or d.function.depth (first_or 0 (flat_map depths own))
 
-  words_go : (r : Result (List Instr) SyntaxFault) → r ≡ source_meaning values (code_address before) bytes tokens → Goes (Ok statements.Instruction) (begun (with_words r (instruction_checked bytes tokens d)))
+  words_go : (r : Result (List Instr) SyntaxFault) → r ≡ source_meaning values (code_address before) bytes tokens → Goes (Ok statements.Instruction) (begun (with_words r (instruction_checked (it (Ok statements.Instruction)) d)))
   words_go (Ok is) q m =
       let i : Item = it (Ok statements.Instruction) in
       let rest : List ℕ = each (words_at values) (i ∷ before) after in
@@ -288,7 +289,7 @@ module _ (values : Values) (before : List Item) (number : ℕ) (labels : List (L
       let bs : List Block = d.function.blocks ++ going_on d own ∷ each block_at (it s ∷ before) own in
       (m.0, m.1, m.2, m.3, m.4 ∙ ap (λ (a : ℕ). d.functions ++ (opened d.function.head (d.function.params ++ P) (d.function.results ++ Q) a bs ++ each function_at (it s ∷ before) after)) (none_default d.function.depth n k), m.5, m.6 ∙ or_true d.has_depth)
   depth_goes n None p x q k c m =
-      absurd (nowhere (in_function before) (list_any is_depth (up_to ends_function before)) (not (list_any (acts values) (up_to ends_block before))) (not (list_any is_block (up_to ends_function before))) p c)
+      absurd (nowhere (in_function before) (list_any (has depths) (up_to ends_function before)) (not (list_any (acts values) (up_to ends_block before))) (not (list_any is_block (up_to ends_function before))) p c)
 
   -- ---- functions and blocks
 
@@ -430,12 +431,11 @@ module _ (values : Values) where
   )
 
   pub all_made : (before after : List Item) (d : Draft) → d.place ≡ place_of before → Follows values before d → each (faults_at values) before after ≡ []
-      → Made values (closed (fold (item_does values) d after)) d before after
-  unfolding numbered_line close_function close_region leave_region
+      → Made values (closed (fold (draft_item values) d after)) d before after
+  unfolding numbered_line draft_item close_function close_region leave_region
   all_made before [] d p h c = at_end before d d.function.head
   all_made before (i ∷ after) d p h c =
       let mine : faults_at values before i after ≡ [] = nil_left (faults_at values before i after) (each (faults_at values) (i ∷ before) after) c in
-      let noted : when (nat_lt 1000000 i.number) causes.Limit ++ line_rules values before i i.said ≡ [] = nil_map (at i.number) _ (nil_left (own_faults values before i) (empty_region i after) (nil_left (own_faults values before i ++ empty_region i after) (empty_block values before i after) mine)) in
-      line_goes values before i.number i.labels i.bytes i.tokens (numbered_line i.number d) p h after (closed (fold (item_does values) (item_does values d i) after)) i.said
-      (nil_right (when (nat_lt 1000000 i.number) causes.Limit) (line_rules values before i i.said) noted)
-      (all_made (i ∷ before) after (item_does values d i) (item_stands values before i d p) (item_follows values before i d h) (nil_right (faults_at values before i after) (each (faults_at values) (i ∷ before) after) c))
+      line_goes values before i.number i.labels i.bytes i.tokens (numbered_line i.number d) p h after (closed (fold (draft_item values) (draft_item values d i) after)) i.said
+      (nil_left (line_rules values before i i.said) _ (nil_right (when (nat_lt 1000000 i.number) causes.Limit) _ (nil_map (at i.number) _ mine)))
+      (all_made (i ∷ before) after (draft_item values d i) (item_stands values before i d p) (item_follows values before i d h) (nil_right (faults_at values before i after) (each (faults_at values) (i ∷ before) after) c))

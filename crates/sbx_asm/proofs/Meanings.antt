@@ -23,20 +23,19 @@ use Rattle.sbx_asm.specs.declared.place.Place.{Place}
 use Rattle.sbx_asm.specs.declared.draft.Draft.{Draft}
 use Rattle.sbx_asm.specs.Faults.{at, told, is_earlier}
 use Rattle.sbx_asm.specs.Items.{Item, Said, label_names, read_line, items_of, each, behind}
-use Rattle.sbx_asm.specs.Addresses.{Label, labels_at, all_labels, worth_in, values_of, code_address, address_in_section, section_after, labelled, names_said}
-use Rattle.sbx_asm.specs.Rules.{Values, when, is_called, told_again, duplicates, faults_of, least_of}
+use Rattle.sbx_asm.specs.Addresses.{Label, labels_at, all_labels, worth_in, values_of, code_address, section_after, labelled, names_said, is_called}
+use Rattle.sbx_asm.specs.Rules.{Values, when, duplicates, faults_of, least_of}
 use Rattle.sbx_asm.specs.Images.{words_at, image_of}
-use Rattle.sbx_asm.specs.Meaning.{whole_cause, kept, judged, source_image}
+use Rattle.sbx_asm.specs.Meaning.{whole_cause, judged, source_image}
 use Rattle.sbx_asm.specs.Laws.{CodeIsItsStatements, WordsLookAheadByLabelsAlone, BlankLinesSayNothing, BlankLinesChangeNothing, renamed, LabelsMayBeRenamed, IsLeastOf, TheLeastFaultIsTold}
 use Rattle.sbx_asm.specs.declared.place.Section.{Section}
 use Rattle.sbx_asm.specs.Stages.Places.{place_after, address_in}
-use Rattle.sbx_asm.specs.Stages.Drafts.{close_block, close_headed, close_function, close_region, leave_region, closed, numbered_line, statement_does, empty_draft}
+use Rattle.sbx_asm.specs.Stages.Drafts.{close_block, close_headed, close_function, close_region, leave_region, closed, numbered_line, statement_does, said_does, draft_item, empty_draft}
 use Rattle.sbx_asm.specs.Stages.Whole.{parts_in}
+use Rattle.sbx_asm.proofs.Views.{address_in_section, told_again, kept}
 use Rattle.sbx_asm.proofs.Labelling.{fold_append}
-use Rattle.sbx_asm.proofs.Standing.{passed, place_of, stands, in_section}
-use Rattle.sbx_asm.proofs.Following.{said_does}
+use Rattle.sbx_asm.proofs.Standing.{place_of, stands, in_section}
 use Rattle.sbx_asm.proofs.Orders.{key, earlier_by_key}
-use Rattle.sbx_asm.proofs.Turning.{item_does}
 use Rattle.sbx_asm.proofs.Agreement.{none_told, start_draft, made, fault_is, parts_are}
 
 -- ---- the code is the words of the statements
@@ -91,20 +90,20 @@ labels_same xs ys j p =
     = at_place xs (section_after xs) ∙ ap (λ (x : Place). address_in x.section x) p ∙ sym (at_place ys (section_after ys)) in
     λ k. map (labelled j.number (here k)) j.labels ++ map (labelled j.number (p k).next_word) (names_said j.bytes j.said)
 
-one_more : (xs : List Item) (j : Item) → passed j j.said (place_of xs) ≡ place_of (j ∷ xs)
+one_more : (xs : List Item) (j : Item) → place_after j j.said (place_of xs) ≡ place_of (j ∷ xs)
 one_more xs j = stands xs j.number j.labels j.bytes j.tokens j.said
 
 each_same : (js xs ys : List Item) → place_of xs ≡ place_of ys → each labels_at xs js ≡ each labels_at ys js
 each_same [] xs ys p = refl
 each_same (j ∷ js) xs ys p =
     let own = labels_same xs ys j p in
-    let more = each_same js (j ∷ xs) (j ∷ ys) (sym (one_more xs j) ∙ ap (passed j j.said) p ∙ one_more ys j) in
+    let more = each_same js (j ∷ xs) (j ∷ ys) (sym (one_more xs j) ∙ ap (place_after j j.said) p ∙ one_more ys j) in
     λ k. own k ++ more k
 
 module _ (i : Item) (after : List Item) (bare : i.labels ≡ []) (silent : i.said ≡ Ok statements.Nothing) where
   stays : (before : List Item) → place_of (i ∷ before) ≡ place_of before
   unfolding place_after
-  stays before = sym (one_more before i) ∙ ap (λ (s : Said). passed i s (place_of before)) silent
+  stays before = sym (one_more before i) ∙ ap (λ (s : Said). place_after i s (place_of before)) silent
 
   skipped : (front before : List Item) → each labels_at before (front ++ i ∷ after) ≡ each labels_at before (front ++ after)
   skipped [] before =
@@ -114,8 +113,8 @@ module _ (i : Item) (after : List Item) (bare : i.labels ≡ []) (silent : i.sai
   skipped (j ∷ front) before = ap (λ (ls : List Label). labels_at before j [] ++ ls) (skipped front (j ∷ before))
 
   -- a draft keeps all but the number of its line
-  step : (values : Values) (d : Draft) → i.number ≤ 1000000 → item_does values d i ≡ record d { line = i.number }
-  unfolding numbered_line statement_does place_after
+  step : (values : Values) (d : Draft) → i.number ≤ 1000000 → draft_item values d i ≡ record d { line = i.number }
+  unfolding draft_item numbered_line statement_does place_after
   step values d few =
       ap (λ (s : Said). said_does values i s (numbered_line i.number d)) silent
       ∙ (let small : nat_lt 1000000 i.number ≡ false = le-ltb 1000000 i.number few in λ k. record d { line = i.number; fault = fold told d.fault (map (at i.number) (when (small k) causes.Limit)) })
@@ -131,9 +130,9 @@ module _ (values : Values) (d : Draft) (n : ℕ) where
   all_closed None = (refl, refl)
 
   line_free : (js : List Item)
-      → ((closed (fold (item_does values) moved js)).fault ≡ (closed (fold (item_does values) d js)).fault)
-      × (parts_in (closed (fold (item_does values) moved js)) ≡ parts_in (closed (fold (item_does values) d js)))
-  unfolding close_function close_region leave_region numbered_line
+      → ((closed (fold (draft_item values) moved js)).fault ≡ (closed (fold (draft_item values) d js)).fault)
+      × (parts_in (closed (fold (draft_item values) moved js)) ≡ parts_in (closed (fold (draft_item values) d js)))
+  unfolding close_function close_region leave_region draft_item numbered_line
   line_free [] = all_closed d.function.head
   line_free (j ∷ js) = (refl, refl)
 
@@ -143,13 +142,13 @@ blank_changes front after i bare silent few =
     let xs : List Item = front ++ i ∷ after in
     let ys : List Item = front ++ after in
     let labels : all_labels xs ≡ all_labels ys = skipped i after bare silent front [] in
-    let whole = λ (ls : List Label) (zs : List Item). closed (fold (item_does (worth_in ls)) (empty_draft (least_of (duplicates [] ls))) zs) in
+    let whole = λ (ls : List Label) (zs : List Item). closed (fold (draft_item (worth_in ls)) (empty_draft (least_of (duplicates [] ls))) zs) in
     let values : Values = values_of ys in
-    let d : Draft = fold (item_does values) (start_draft ys) front in
-    let same : made xs ≡ closed (fold (item_does values) (record d { line = i.number }) after)
+    let d : Draft = fold (draft_item values) (start_draft ys) front in
+    let same : made xs ≡ closed (fold (draft_item values) (record d { line = i.number }) after)
     = ap (λ (ls : List Label). whole ls xs) labels
-    ∙ ap closed (fold_append (item_does values) (start_draft ys) front (i ∷ after) ∙ ap (λ (e : Draft). fold (item_does values) e after) (step i after bare silent values d few)) in
-    let other : made ys ≡ closed (fold (item_does values) d after) = ap closed (fold_append (item_does values) (start_draft ys) front after) in
+    ∙ ap closed (fold_append (draft_item values) (start_draft ys) front (i ∷ after) ∙ ap (λ (e : Draft). fold (draft_item values) e after) (step i after bare silent values d few)) in
+    let other : made ys ≡ closed (fold (draft_item values) d after) = ap closed (fold_append (draft_item values) (start_draft ys) front after) in
     let free = line_free values d i.number after in
     let told_same : least_of (faults_of xs) ≡ least_of (faults_of ys)
     = sym (fault_is xs) ∙ ap (λ (e : Draft). e.fault) same ∙ free.0 ∙ sym (ap (λ (e : Draft). e.fault) other) ∙ fault_is ys in

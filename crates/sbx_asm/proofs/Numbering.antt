@@ -1,6 +1,6 @@
 -- Numbers of lines show in faults alone.
 use Rattle.std.proofs.Common.{◌≡◌, ℕ, ◌+◌, ◌*◌, ◌≤◌, Bool, true, false, cond, leb, pos, List, [], ◌∷◌, ◌++◌, length, map, Some, Ok, Err, refl, sym, ap, ◌∙◌}
-use Rattle.std.specs.Prelude.{not, ◌&&◌, ◌||◌, nat_lt, replicate}
+use Rattle.std.specs.Prelude.{not, ◌&&◌, ◌||◌, nat_lt, replicate, if◌then◌else◌}
 use Rattle.std.specs.List.{AllByRecursion, flat_map, list_any}
 use Rattle.std.specs.Str.{bytes_eq}
 use Rattle.std.proofs.lemmas.Bool.{le-ltb}
@@ -8,6 +8,8 @@ use Rattle.std.proofs.lemmas.List.{map-append}
 use Rattle.v8_map.specs.declared.TheConstants.{CODE_START}
 use Rattle.v8_syntax.specs.Statements.{source_meaning, statement_length}
 use Rattle.sbx_image.specs.Block.{Block}
+use Rattle.sbx_image.specs.Cell.{Cell}
+use Rattle.sbx_image.specs.Term.{Term}
 use Rattle.sbx_directives.specs.declared.directive.Keyword.TheVariants as keywords
 use Rattle.sbx_directives.specs.declared.directive.Directive.TheVariants as directives
 use Rattle.sbx_directives.specs.declared.directive.Statement.TheVariants as statements
@@ -18,12 +20,13 @@ use Rattle.sbx_asm.specs.declared.fault.Cause.TheVariants as causes
 use Rattle.sbx_asm.specs.declared.place.Section.{Section}
 use Rattle.sbx_asm.specs.declared.place.Section.TheVariants.{Code, Data}
 use Rattle.sbx_asm.specs.Faults.{at}
-use Rattle.sbx_asm.specs.Items.{Item, Said, each, up_to, count, starts, divides, starts_function, ends_function, is_data, is_region, leaves_region, has_bytes, is_block, ends_block, is_depth, leaves_open, in_function, begins_block, block_count, params, results, depths, cells, terms}
-use Rattle.sbx_asm.specs.Addresses.{Label, code_length, data_length, code_size, data_size, size_with, region_start, start_with, up_to_room, code_offset, data_offset, code_address, fits_behind, chosen, section_after, address_in_section, labelled, names_said, labels_at, all_labels, worth_in, values_of}
-use Rattle.sbx_asm.specs.Rules.{Values, when, is_called, told_again, duplicates, is_code, data_rules, another_block, block_rules, in_place, range_rules, cell_rules, term_rules, is_services, is_stack, value_rules, statement_rules, acts_as, acts, takes_annotations, takes_ranges, fuels, has_fuel, has_depth, line_rules, own_faults, empty_region, empty_block, faults_at, faults_of}
+use Rattle.sbx_asm.specs.Items.{Item, Said, each, up_to, count, starts_function, ends_function, is_data, is_region, has_bytes, is_block, ends_block, in_function, begins_block, block_count, services, stacks, params, results, depths, fuels, cells, terms, has, first_or, is_text}
+use Rattle.sbx_asm.specs.Addresses.{Label, code_length, data_length, region_start, up_to_room, start_behind, code_offset, data_offset, code_address, fits_behind, section_after, labelled, names_said, labels_at, all_labels, worth_in, values_of, is_called, is_code}
+use Rattle.sbx_asm.specs.Rules.{Values, when, ascending, duplicates, data_rules, another_block, block_rules, in_place, value_rules, acts, takes_annotations, takes_ranges, has_fuel, has_depth, line_rules, faults_at, faults_of}
 use Rattle.sbx_asm.specs.Images as images
-use Rattle.sbx_asm.specs.Images.{block_with, block_begun, block_at, blocks_of, function_at, words_meant, words_said, words_at, bytes_said, bytes_at, filled, region_with, version_with, region_at, first_or, services, image_of}
+use Rattle.sbx_asm.specs.Images.{block_with, block_at, function_at, words_at, bytes_at, filled, region_with, version_with, region_at, image_of}
 use Rattle.sbx_asm.specs.Laws.{renumbered, retold, NumbersShowInFaultsAlone}
+use Rattle.sbx_asm.proofs.Views.{saying, leaves_region, address_in_section, told_again, range_rules, statement_rules, words_meant}
 use Rattle.sbx_asm.proofs.Tables.{same_values}
 
 module _ (f : ℕ → ℕ) where
@@ -70,35 +73,24 @@ module _ (f : ℕ → ℕ) where
 
   -- ---- places
 
-  code_length_u : (i : Item) (s : Said) → code_length (u i) s ≡ code_length i s
-  code_length_u i (Ok statements.Instruction) = refl
-  code_length_u i (Err e) = refl
-  code_length_u i (Ok _) = refl
-
-  code_size_u : (is : List Item) → code_size (us is) ≡ code_size is
-  code_size_u [] = refl
-  code_size_u (i ∷ is) = let more = code_size_u is in let e = code_length_u i i.said in λ k. more k + e k
-
-  data_size_u : (is : List Item) → data_size (us is) ≡ data_size is
-  data_size_u [] = refl
-  data_size_u (i ∷ is) = ap (λ (n : ℕ). size_with n i.said) (data_size_u is)
-
   code_offset_u : (is : List Item) → code_offset (us is) ≡ code_offset is
-  code_offset_u is = ap up_to_room (code_size_u is)
+  code_offset_u [] = refl
+  code_offset_u (i ∷ is) = ap (λ (n : ℕ). up_to_room (n + code_length i)) (code_offset_u is)
 
   data_offset_u : (is : List Item) → data_offset (us is) ≡ data_offset is
-  data_offset_u is = ap up_to_room (data_size_u is)
+  data_offset_u [] = refl
+  data_offset_u (i ∷ is) = ap (λ (n : ℕ). if is_region i then 0 else up_to_room (n + data_length n i.said)) (data_offset_u is)
 
   code_address_u : (is : List Item) → code_address (us is) ≡ code_address is
   code_address_u is = ap (λ (n : ℕ). CODE_START + n) (code_offset_u is)
 
   start_u : (is : List Item) → region_start (us is) ≡ region_start is
   start_u [] = refl
-  start_u (i ∷ is) = let a = start_u is in let b = data_offset_u is in λ k. start_with (a k) (b k) i.said
+  start_u (i ∷ is) = let a = start_u is in let b = data_offset_u is in λ k. if is_region i then start_behind (a k) (b k) else a k
 
   section_u : (is : List Item) → section_after (us is) ≡ section_after is
   section_u [] = refl
-  section_u (i ∷ is) = ap (chosen i.said) (section_u is)
+  section_u (i ∷ is) = ap (λ (x : Section). if is_text i then Code else (if is_data i || is_region i then Data else x)) (section_u is)
 
   address_u : (is : List Item) (x : Section) → address_in_section (us is) x ≡ address_in_section is x
   address_u is Code = code_address_u is
@@ -155,10 +147,10 @@ module _ (f : ℕ → ℕ) where
 
   in_function_u : (is : List Item) → in_function (us is) ≡ in_function is
   in_function_u [] = refl
-  in_function_u (i ∷ is) = ap (leaves_open i.said) (in_function_u is)
+  in_function_u (i ∷ is) = ap (λ (b : Bool). if ends_function i then starts_function i else b) (in_function_u is)
 
   begins_u : (before : List Item) (i : Item) → begins_block (us before) (u i) ≡ begins_block before i
-  begins_u before i = ap (λ (b : Bool). starts i.said || (divides i.said && b)) (in_function_u before)
+  begins_u before i = ap (λ (b : Bool). starts_function i || (is_block i && b)) (in_function_u before)
 
   block_count_u : (is : List Item) → block_count (us is) ≡ block_count is
   block_count_u [] = refl
@@ -166,7 +158,7 @@ module _ (f : ℕ → ℕ) where
 
   block_with_u : (a : ℕ) (own : List Item) → block_with a (us own) ≡ block_with a own
   block_with_u a own =
-      let zs = flat_u images.fuels (λ _. refl) own in let cs = flat_u cells (λ _. refl) own in let ts = flat_u terms (λ _. refl) own in
+      let zs = flat_u fuels (λ _. refl) own in let cs = flat_u cells (λ _. refl) own in let ts = flat_u terms (λ _. refl) own in
       λ k. record { address = a; fuel = first_or (pos 0) (zs k); cells = cs k; terms = ts k }
 
   -- a block up to its end, at its place
@@ -174,35 +166,40 @@ module _ (f : ℕ → ℕ) where
   block_there before after =
       (let a = code_address_u before in let b = up_to_u ends_block (λ _. refl) after in λ k. block_with (a k) (b k)) ∙ block_with_u (code_address before) (up_to ends_block after)
 
-  block_begun_u : (before after : List Item) (s : Said) → block_begun (us before) s (us after) ≡ block_begun before s after
-  block_begun_u before after (Ok (statements.Directive (directives.Block name))) = ap (λ (b : Block). b ∷ []) (block_there before after)
-  block_begun_u before after (Ok (statements.Directive _)) = refl
-  block_begun_u before after (Ok _) = refl
-  block_begun_u before after (Err e) = refl
+  block_u : (before after : List Item) (s : Said) → block_at (us before) (saying s) (us after) ≡ block_at before (saying s) after
+  block_u before after (Ok (statements.Directive (directives.Block name))) = ap (λ (b : Block). b ∷ []) (block_there before after)
+  block_u before after (Ok (statements.Directive _)) = refl
+  block_u before after (Ok _) = refl
+  block_u before after (Err e) = refl
 
   blocks_u : (before own : List Item) → each block_at (us before) (us own) ≡ each block_at before own
   blocks_u before [] = refl
-  blocks_u before (i ∷ own) = let a = block_begun_u before own i.said in let b = blocks_u (i ∷ before) own in λ k. a k ++ b k
+  blocks_u before (i ∷ own) = let a = block_u before own i.said in let b = blocks_u (i ∷ before) own in λ k. a k ++ b k
 
-  function_begun_u : (before : List Item) (i : Item) (own : List Item) (s : Said) → images.function_begun (us before) (u i) s (us own) ≡ images.function_begun before i s own
-  function_begun_u before i own (Ok (statements.Directive (directives.Function name kind frame room budget))) =
-      let a = code_address_u before in let ps = flat_u params (λ _. refl) own in let rs = flat_u results (λ _. refl) own in let ns = flat_u depths (λ _. refl) own in
-      let b = block_there before own in let bs = blocks_u (i ∷ before) own in
+  function_u : (before : List Item) (i : Item) (after : List Item) (s : Said) → function_at (us before) (u (record i { said = s })) (us after) ≡ function_at before (record i { said = s }) after
+  function_u before i after (Ok (statements.Directive (directives.Function name kind frame room budget))) =
+      let it : Item = record i { said = Ok (statements.Directive (directives.Function name kind frame room budget)) } in
+      let own : List Item = up_to ends_function after in
+      let e : up_to ends_function (us after) ≡ us own = up_to_u ends_function (λ _. refl) after in
+      let a = code_address_u before in let ps = flat_up_to params ends_function (λ _. refl) (λ _. refl) after in let rs = flat_up_to results ends_function (λ _. refl) (λ _. refl) after in
+      let ns = flat_up_to depths ends_function (λ _. refl) (λ _. refl) after in
+      let b = ap (λ (is : List Item). block_with (code_address (us before)) (up_to ends_block is)) e ∙ block_there before own in
+      let bs = ap (λ (is : List Item). each block_at (us (it ∷ before)) is) e ∙ blocks_u (it ∷ before) own in
       λ k. record { kind = kind; params = ps k; results = rs k; entry = a k; frame = frame; stack_room = room; budget = budget; depth = first_or 0 (ns k); blocks = b k ∷ bs k } ∷ []
-  function_begun_u before i own (Ok (statements.Directive _)) = refl
-  function_begun_u before i own (Ok _) = refl
-  function_begun_u before i own (Err e) = refl
+  function_u before i after (Ok (statements.Directive _)) = refl
+  function_u before i after (Ok _) = refl
+  function_u before i after (Err e) = refl
 
   functions_u : (before is : List Item) → each function_at (us before) (us is) ≡ each function_at before is
   functions_u before [] = refl
   functions_u before (i ∷ is) =
-      let a = ap (images.function_begun (us before) (u i) i.said) (up_to_u ends_function (λ _. refl) is) ∙ function_begun_u before i (up_to ends_function is) i.said in
+      let a = function_u before i is i.said in
       let b = functions_u (i ∷ before) is in λ k. a k ++ b k
 
   -- ---- what the labels are worth
 
   module _ (values : Values) where
-    words_said_u : (before : List Item) (i : Item) (s : Said) → words_said values (us before) (u i) s ≡ words_said values before i s
+    words_said_u : (before : List Item) (i : Item) (s : Said) → words_at values (us before) (u (record i { said = s })) [] ≡ words_at values before (record i { said = s }) []
     words_said_u before i (Ok statements.Instruction) = ap (λ (a : ℕ). words_meant (source_meaning values a i.bytes i.tokens)) (code_address_u before)
     words_said_u before i (Ok _) = refl
     words_said_u before i (Err e) = refl
@@ -211,7 +208,7 @@ module _ (f : ℕ → ℕ) where
     words_u before [] = refl
     words_u before (i ∷ is) = let a = words_said_u before i i.said in let b = words_u (i ∷ before) is in λ k. a k ++ b k
 
-    bytes_said_u : (before : List Item) (i : Item) (s : Said) → bytes_said values (us before) (u i) s ≡ bytes_said values before i s
+    bytes_said_u : (before : List Item) (i : Item) (s : Said) → bytes_at values (us before) (u (record i { said = s })) [] ≡ bytes_at values before (record i { said = s }) []
     bytes_said_u before i (Ok (statements.Directive (directives.Align n))) = ap (λ (o : ℕ). replicate (data_length o (Ok (statements.Directive (directives.Align n)))) 0) (data_offset_u before)
     bytes_said_u before i (Ok (statements.Directive (directives.Values w n))) = refl
     bytes_said_u before i (Ok (statements.Directive (directives.Skip n))) = refl
@@ -224,54 +221,35 @@ module _ (f : ℕ → ℕ) where
     bytes_u before (i ∷ is) = let a = bytes_said_u before i i.said in let b = bytes_u (i ∷ before) is in λ k. a k ++ b k
 
     -- a region up to its end, at its place
-    region_begun_u : (behind after : List Item) (s : Said) → images.region_begun values (us behind) s (us after) ≡ images.region_begun values behind s after
-    region_begun_u behind after (Ok (statements.Directive (directives.Region writable))) =
-        ap (λ (bs : List ℕ). region_with writable (filled bs)) (ap (λ (is : List Item). each (bytes_at values) (us behind) is) (up_to_u is_region (λ _. refl) after) ∙ bytes_u behind (up_to is_region after))
-    region_begun_u behind after (Ok (statements.Directive _)) = refl
-    region_begun_u behind after (Ok _) = refl
-    region_begun_u behind after (Err e) = refl
+    region_u : (before : List Item) (i : Item) (after : List Item) (s : Said) → region_at values (us before) (u (record i { said = s })) (us after) ≡ region_at values before (record i { said = s }) after
+    region_u before i after (Ok (statements.Directive (directives.Region writable))) =
+        let behind_it : List Item = record i { said = Ok (statements.Directive (directives.Region writable)) } ∷ before in
+        ap (λ (bs : List ℕ). region_with writable (filled bs)) (ap (λ (is : List Item). each (bytes_at values) (us behind_it) is) (up_to_u is_region (λ _. refl) after) ∙ bytes_u behind_it (up_to is_region after))
+    region_u before i after (Ok (statements.Directive _)) = refl
+    region_u before i after (Ok _) = refl
+    region_u before i after (Err e) = refl
 
     regions_at_u : (before is : List Item) → each (region_at values) (us before) (us is) ≡ each (region_at values) before is
     regions_at_u before [] = refl
-    regions_at_u before (i ∷ is) = let a = region_begun_u (i ∷ before) is i.said in let b = regions_at_u (i ∷ before) is in λ k. a k ++ b k
+    regions_at_u before (i ∷ is) = let a = region_u before i is i.said in let b = regions_at_u (i ∷ before) is in λ k. a k ++ b k
 
     regions_u : (is : List Item) → images.regions_of values (us is) ≡ images.regions_of values is
     regions_u is =
         let first = ap (each (bytes_at values) []) (up_to_u is_region (λ _. refl) is) ∙ bytes_u [] (up_to is_region is) in let others = regions_at_u [] is in
         λ k. region_with true (filled (first k)) ++ others k
 
-    acts_as_u : (i : Item) (s : Said) → acts_as values (u i) s ≡ acts_as values i s
-    acts_as_u i (Ok statements.Instruction) = refl
-    acts_as_u i (Err e) = refl
-    acts_as_u i (Ok (statements.Directive (directives.Values w n))) = refl
-    acts_as_u i (Ok (statements.Directive _)) = refl
-    acts_as_u i (Ok _) = refl
-
-    acts_u : (i : Item) → acts values (u i) ≡ acts values i
-    acts_u i = acts_as_u i i.said
-
     annotations_u : (is : List Item) → takes_annotations values (us is) ≡ takes_annotations values is
-    annotations_u is = let a = in_function_u is in let b = any_up_to (acts values) ends_block acts_u (λ _. refl) is in λ k. a k && not (b k)
+    annotations_u is = let a = in_function_u is in let b = any_up_to (acts values) ends_block (λ _. refl) (λ _. refl) is in λ k. a k && not (b k)
 
     ranges_u : (is : List Item) → takes_ranges values (us is) ≡ takes_ranges values is
     ranges_u is = let a = annotations_u is in let b = any_up_to is_block ends_function (λ _. refl) (λ _. refl) is in λ k. a k && not (b k)
 
-    fuels_u : (is : List Item) (i : Item) (s : Said) (x y : Bool) → x ≡ y → fuels values (us is) (u i) s x ≡ fuels values is i s y
-    fuels_u is i (Ok (statements.Directive (directives.Fuel z))) x y p = let a = annotations_u is in λ k. p k || a k
-    fuels_u is i (Ok (statements.Directive (directives.Function name kind frame room budget))) x y p = refl
-    fuels_u is i (Ok (statements.Directive (directives.Block name))) x y p = let a = in_function_u is in λ k. p k && not (a k)
-    fuels_u is i (Ok (statements.Malformed keywords.Block name)) x y p = let a = in_function_u is in λ k. p k && not (a k)
-    fuels_u is i (Ok (statements.Malformed _ name)) x y p = p
-    fuels_u is i (Ok (statements.Directive _)) x y p = p
-    fuels_u is i (Ok _) x y p = p
-    fuels_u is i (Err e) x y p = p
-
     has_fuel_u : (is : List Item) → has_fuel values (us is) ≡ has_fuel values is
     has_fuel_u [] = refl
-    has_fuel_u (i ∷ is) = fuels_u is i i.said (has_fuel values (us is)) (has_fuel values is) (has_fuel_u is)
+    has_fuel_u (i ∷ is) = let a = begins_u is i in let b = annotations_u is in let more = has_fuel_u is in λ k. not (a k) && ((has fuels i && b k) || more k)
 
     has_depth_u : (is : List Item) → has_depth (us is) ≡ has_depth is
-    has_depth_u is = let a = in_function_u is in let b = any_up_to is_depth ends_function (λ _. refl) (λ _. refl) is in λ k. a k && b k
+    has_depth_u is = let a = in_function_u is in let b = any_up_to (has depths) ends_function (λ _. refl) (λ _. refl) is in λ k. a k && b k
 
     data_rules_u : (is : List Item) (m n : ℕ) → m ≡ n → data_rules (us is) m ≡ data_rules is n
     data_rules_u is m n p = let a = section_u is in let b = data_offset_u is in λ k. when (is_code (a k)) causes.Directive ++ when (not (fits_behind (b k) (p k))) causes.Limit
@@ -294,17 +272,17 @@ module _ (f : ℕ → ℕ) where
     line_rules_u is i (Ok (statements.Directive directives.Data)) = ap (λ (b : Bool). when b causes.Directive) (any_u is_region (λ _. refl) is)
     line_rules_u is i (Ok (statements.Directive (directives.Region writable))) =
         let a = any_u is_data (λ _. refl) is in let b = count_u is_region (λ _. refl) is in λ k. when (a k) causes.Directive ++ when (leb 8 (b k)) causes.Limit
-    line_rules_u is i (Ok (statements.Directive (directives.Services x))) = ap (λ (b : Bool). when b causes.Directive) (any_u is_services (λ _. refl) is)
-    line_rules_u is i (Ok (statements.Directive (directives.Stack n))) = ap (λ (b : Bool). when b causes.Directive) (any_u is_stack (λ _. refl) is)
+    line_rules_u is i (Ok (statements.Directive (directives.Services x))) = ap (λ (b : Bool). when b causes.Directive) (any_u (has services) (λ _. refl) is)
+    line_rules_u is i (Ok (statements.Directive (directives.Stack n))) = ap (λ (b : Bool). when b causes.Directive) (any_u (has stacks) (λ _. refl) is)
     line_rules_u is i (Ok (statements.Directive (directives.Function name kind frame room budget))) =
         let a = count_u starts_function (λ _. refl) is in let b = another_block_u is in λ k. when (leb 256 (a k)) causes.Limit ++ b k
     line_rules_u is i (Ok (statements.Directive (directives.Param x))) = let a = ranges_u is in let b = flat_up_to params ends_function (λ _. refl) (λ _. refl) is in λ k. in_place (a k) (range_rules (length (b k)))
     line_rules_u is i (Ok (statements.Directive (directives.Result x))) = let a = ranges_u is in let b = flat_up_to results ends_function (λ _. refl) (λ _. refl) is in λ k. in_place (a k) (range_rules (length (b k)))
     line_rules_u is i (Ok (statements.Directive (directives.Depth n))) = let a = has_depth_u is in let b = ranges_u is in λ k. cond (a k) (causes.Directive ∷ []) (in_place (b k) [])
     line_rules_u is i (Ok (statements.Directive (directives.Block name))) = block_rules_u is
-    line_rules_u is i (Ok (statements.Directive (directives.Cell x))) = let a = annotations_u is in let b = flat_up_to cells ends_block (λ _. refl) (λ _. refl) is in λ k. in_place (a k) (cell_rules (b k) x)
+    line_rules_u is i (Ok (statements.Directive (directives.Cell x))) = let a = annotations_u is in let b = flat_up_to cells ends_block (λ _. refl) (λ _. refl) is in λ k. in_place (a k) (ascending 64 (map (λ (c : Cell). c.location) (b k)) x.location)
     line_rules_u is i (Ok (statements.Directive (directives.Fuel z))) = let a = has_fuel_u is in let b = annotations_u is in λ k. cond (a k) (causes.Directive ∷ []) (in_place (b k) [])
-    line_rules_u is i (Ok (statements.Directive (directives.Term x))) = let a = annotations_u is in let b = flat_up_to terms ends_block (λ _. refl) (λ _. refl) is in λ k. in_place (a k) (term_rules (b k) x)
+    line_rules_u is i (Ok (statements.Directive (directives.Term x))) = let a = annotations_u is in let b = flat_up_to terms ends_block (λ _. refl) (λ _. refl) is in λ k. in_place (a k) (ascending 8 (map (λ (t : Term). t.location) (b k)) x.location)
     line_rules_u is i (Ok (statements.Directive (directives.Values w n))) = ap (λ (cs : List Cause). cs ++ value_rules (data_of values i.bytes w i.tokens)) (data_rules_u is (bytes_of_width w * n) (bytes_of_width w * n) refl)
     line_rules_u is i (Ok (statements.Directive (directives.Skip n))) = data_rules_u is n n refl
     line_rules_u is i (Ok (statements.Directive (directives.Align n))) = data_rules_u is _ _ (ap (λ (o : ℕ). data_length o (Ok (statements.Directive (directives.Align n)))) (data_offset_u is))
@@ -315,31 +293,20 @@ module _ (f : ℕ → ℕ) where
     map_at n [] = refl
     map_at n (c ∷ cs) = ap (λ (fs : List AsmFault). at (f n) c ∷ fs) (map_at n cs)
 
-    own_u : (before : List Item) (i : Item) → (i.number ≤ 1000000) × (f i.number ≤ 1000000) → own_faults values (us before) (u i) ≡ map r (own_faults values before i)
-    own_u before i h =
-        let new : nat_lt 1000000 (f i.number) ≡ false = le-ltb 1000000 (f i.number) h.1 in
-        let old : nat_lt 1000000 i.number ≡ false = le-ltb 1000000 i.number h.0 in
+    faults_at_u : (before : List Item) (i : Item) (after : List Item) → (i.number ≤ 1000000) × (f i.number ≤ 1000000) → faults_at values (us before) (u i) (us after) ≡ map r (faults_at values before i after)
+    faults_at_u before i after h =
+        let many : nat_lt 1000000 (f i.number) ≡ nat_lt 1000000 i.number = le-ltb 1000000 (f i.number) h.1 ∙ sym (le-ltb 1000000 i.number h.0) in
         let cs = line_rules_u before i i.said in
-        (λ k. map (at (f i.number)) (when (new k) causes.Limit ++ cs k)) ∙ map_at i.number (line_rules values before i i.said)
-        ∙ sym (ap (λ (b : Bool). map r (map (at i.number) (when b causes.Limit ++ line_rules values before i i.said))) old)
-
-    empty_u : (before : List Item) (i : Item) (after : List Item) → empty_block values (us before) (u i) (us after) ≡ map r (empty_block values before i after)
-    empty_u before i after =
-        let a = begins_u before i in let b = any_up_to (acts values) ends_block acts_u (λ _. refl) after in
-        (λ k. map (at (f i.number)) (when (a k && not (b k)) causes.Directive)) ∙ map_at i.number (when (begins_block before i && not (list_any (acts values) (up_to ends_block after))) causes.Directive)
-
-    lacking_u : (i : Item) (after : List Item) → empty_region (u i) (us after) ≡ map r (empty_region i after)
-    lacking_u i after =
-        let b = any_up_to has_bytes leaves_region (λ _. refl) (λ _. refl) after in
-        (λ k. map (at (f i.number)) (when (is_region i && not (b k)) causes.Directive)) ∙ map_at i.number (when (is_region i && not (list_any has_bytes (up_to leaves_region after))) causes.Directive)
+        let filled_up = any_up_to has_bytes leaves_region (λ _. refl) (λ _. refl) after in
+        let begins = begins_u before i in
+        let acting = any_up_to (acts values) ends_block (λ _. refl) (λ _. refl) after in
+        (λ k. map (at (f i.number)) (when (many k) causes.Limit ++ (cs k ++ (when (is_region i && not (filled_up k)) causes.Directive ++ when (begins k && not (acting k)) causes.Directive))))
+        ∙ map_at i.number _
 
     faults_u : (before is : List Item) → AllByRecursion (λ i. (i.number ≤ 1000000) × (f i.number ≤ 1000000)) is → each (faults_at values) (us before) (us is) ≡ map r (each (faults_at values) before is)
     faults_u before [] h = refl
     faults_u before (i ∷ is) h =
-        let own = own_u before i h.0 in let lacking = lacking_u i is in let empty = empty_u before i is in let more = faults_u (i ∷ before) is h.1 in
-        (λ k. ((own k ++ lacking k) ++ empty k) ++ more k)
-        ∙ ap (λ (fs : List AsmFault). (fs ++ map r (empty_block values before i is)) ++ map r (each (faults_at values) (i ∷ before) is)) (sym (map-append r (own_faults values before i) (empty_region i is)))
-        ∙ ap (λ (fs : List AsmFault). fs ++ map r (each (faults_at values) (i ∷ before) is)) (sym (map-append r (own_faults values before i ++ empty_region i is) (empty_block values before i is)))
+        (let one = faults_at_u before i is h.0 in let more = faults_u (i ∷ before) is h.1 in λ k. one k ++ more k)
         ∙ sym (map-append r (faults_at values before i is) (each (faults_at values) (i ∷ before) is))
 
   image_u : (is : List Item) → image_of (us is) ≡ image_of is
@@ -348,10 +315,10 @@ module _ (f : ℕ → ℕ) where
       let vs = values_u is in
       let ws = ap (λ (v : Values). each (words_at v) [] (us is)) vs ∙ words_u (values_of is) [] is in
       let rs = ap (λ (v : Values). images.regions_of v (us is)) vs ∙ regions_u (values_of is) is in
-      let deep = any_u is_depth (λ _. refl) is in
+      let deep = any_u (has depths) (λ _. refl) is in
       let regional = any_u is_region (λ _. refl) is in
       let ss = flat_u services (λ _. refl) is in
-      let ks = flat_u images.stacks (λ _. refl) is in
+      let ks = flat_u stacks (λ _. refl) is in
       let fs = functions_u [] is in
       λ k. record { version = version_with (deep k) (regional k); services = first_or (record { 0 = 0 }) (ss k); words = ws k; regions = rs k; stack_pages = first_or 1 (ks k); functions = fs k }
 

@@ -1,5 +1,5 @@
 -- The numbers of a directive are such that their fields can hold them.
-use Rattle.std.proofs.Common.{◌≡◌, ℕ, ◌+◌, ◌^◌, ◌<◌, ◌≤◌, Bool, true, false, cond, ℤ, pos, negsuc, List, [], ◌∷◌, Option, None, Some, IfSome, arith}
+use Rattle.std.proofs.Common.{◌≡◌, ℕ, ◌+◌, ◌^◌, ◌<◌, ◌≤◌, Bool, true, false, cond, ℤ, pos, negsuc, List, [], ◌∷◌, Option, None, Some, Ok, Err, IfSome, arith}
 use Rattle.std.specs.Prelude.{◌&&◌, ◌||◌, ◌==◌, int_le, nat_le, codes, FitsSigned}
 use Rattle.std.specs.Int.{w32, w64}
 use Rattle.std.specs.List.{list_all, list_any}
@@ -23,6 +23,7 @@ use Rattle.sbx_directives.specs.declared.operand.Operand.{Operand}
 use Rattle.sbx_directives.specs.declared.operand.Operand.TheVariants as operands
 use Rattle.sbx_directives.specs.Operands.{◌>>=◌, operands_of, is_between, integer_in, natural_in, range_of, coefficient, plain_name, location}
 use Rattle.sbx_directives.specs.Directives.{names, named_services, is_service, services_of, frames_of, right_of, value_count, directive_of, called, told, keyword_named, begun, statement_of}
+use Rattle.sbx_asm.specs.Items.{Said}
 use Rattle.sbx_asm.proofs.Wholes.{whatever}
 
 -- each number that a directive has for the image
@@ -133,6 +134,10 @@ directive_fits line _ _ = tt
 abbrev pub StatementFits : Statement → Type 0
 StatementFits (statements.Directive d) = Fits d
 StatementFits _ = Unit {0}
+
+abbrev pub SaidFits : Said → Type 0
+SaidFits (Ok s) = StatementFits s
+SaidFits (Err f) = Unit {0}
 
 told_fits : (k : Keyword) (os : List Operand) (o : Option Directive) → FitSome o → StatementFits (option_map_or statements.Directive o (statements.Malformed k (called k os)))
 told_fits k os (Some d) h = h

@@ -1,7 +1,8 @@
 -- Where a line stands: the start of a section and the lengths before it, as the stages count them.
-use Rattle.std.proofs.Common.{◌≡◌, ℕ, ◌+◌, ◌-◌, ◌*◌, Bool, true, false, cond, leb, ◌≤◌, List, [], ◌∷◌, Ok, Err, refl, ap, arith}
+use Rattle.std.proofs.Common.{◌≡◌, ℕ, ◌+◌, ◌-◌, ◌*◌, Bool, true, false, cond, leb, ◌≤◌, List, [], ◌∷◌, Ok, Err, refl, sym, ap, ◌∙◌, arith}
+use Rattle.std.specs.Prelude.{if◌then◌else◌}
 use Rattle.std.proofs.Math.Nat.{min-eq_left}
-use Rattle.std.proofs.lemmas.Bool.{cond_both, leb-true, leb-false}
+use Rattle.std.proofs.lemmas.Bool.{cond_both, le-leb, leb-true, leb-false}
 use Rattle.v8_map.specs.declared.TheConstants.{CODE_START}
 use Rattle.sbx_text.specs.declared.Token.{Token}
 use Rattle.v8_syntax.specs.Statements.{statement_length}
@@ -12,77 +13,73 @@ use Rattle.sbx_image.specs.Regions.{pages_for}
 use Rattle.sbx_asm.specs.declared.place.Section.{Section}
 use Rattle.sbx_asm.specs.declared.place.Section.TheVariants.{Code, Data}
 use Rattle.sbx_asm.specs.declared.place.Place.{Place}
-use Rattle.sbx_asm.specs.Items.{Item, Said}
-use Rattle.sbx_asm.specs.Addresses.{padding_of, code_size, data_size, section_room, up_to_room, last_start, start_behind, start_with, region_start, code_address, data_offset, section_after, address_in_section}
+use Rattle.sbx_asm.specs.Items.{Item, Said, is_region}
+use Rattle.sbx_asm.specs.Addresses.{padding_of, code_length, data_length, code_offset, section_room, up_to_room, last_start, start_behind, region_start, code_address, data_offset, section_after}
 use Rattle.sbx_asm.specs.Stages.Places.{moved_on, with_code, with_data, address_in, place_after}
+use Rattle.sbx_asm.proofs.Views.{address_in_section}
 
 -- what some lines, the nearest first, make of the place
 abbrev pub place_of : List Item → Place
 place_of before = record { section = section_after before; next_word = code_address before; region_start = region_start before; region_bytes = data_offset before }
 
--- what the stages make of it
-abbrev pub passed : Item → Said → Place → Place
-passed i (Ok s) p = place_after i.bytes i.tokens s p
-passed i (Err f) p = with_code 4 p
+pub in_room : (size : ℕ) → size ≤ section_room → up_to_room size ≡ size
+in_room size h = ap (λ (t : Bool). cond t size section_room) (le-leb size section_room h)
 
-module _ (base size n : ℕ) where
-  by : (fits room both : Bool) → leb size section_room ≡ fits → leb n (base + section_room - (base + cond fits size section_room)) ≡ room → leb (size + n) section_room ≡ both
-      → cond room (base + cond fits size section_room + n) (base + section_room) ≡ base + cond both (size + n) section_room
-  by true true true p q r = omega arith
-  by true true false p q r = let k = leb-true size section_room p in let l = leb-true n _ q in let m = leb-false (size + n) section_room r in omega arith
-  by true false true p q r = let k = leb-true size section_room p in let l = leb-false n _ q in let m = leb-true (size + n) section_room r in omega arith
-  by true false false p q r = refl
-  by false true true p q r = let k = leb-false size section_room p in let m = leb-true (size + n) section_room r in omega arith
-  by false true false p q r = let l = leb-true n _ q in omega arith
-  by false false true p q r = let k = leb-false size section_room p in let m = leb-true (size + n) section_room r in omega arith
-  by false false false p q r = refl
+within_room : (size : ℕ) → up_to_room size ≤ section_room
+within_room size = cond_both (leb size section_room) size section_room (λ m. m ≤ section_room) (λ h. leb-true size section_room h) (λ _. omega arith)
 
-  moved : moved_on (base + section_room) (base + up_to_room size) n ≡ base + up_to_room (size + n)
-  moved = by (leb size section_room) (leb n (base + section_room - (base + up_to_room size))) (leb (size + n) section_room) refl refl refl
+pub code_within : (before : List Item) → code_offset before ≤ section_room
+code_within [] = omega arith
+code_within (i ∷ before) = within_room (code_offset before + code_length i)
 
-same_size : (base size : ℕ) → base + up_to_room size ≡ base + up_to_room (size + 0)
-same_size base size = let e : size ≡ size + 0 = omega arith in ap (λ (n : ℕ). base + up_to_room n) e
+pub data_within : (before : List Item) → data_offset before ≤ section_room
+data_within [] = omega arith
+data_within (i ∷ before) = by (is_region i)
+  where
+    by : (begins : Bool) → (if begins then 0 else up_to_room (data_offset before + data_length (data_offset before) i.said)) ≤ section_room
+    by true = omega arith
+    by false = within_room (data_offset before + data_length (data_offset before) i.said)
 
-same_bytes : (size : ℕ) → up_to_room size ≡ up_to_room (size + 0)
-same_bytes size = let e : size ≡ size + 0 = omega arith in ap up_to_room e
+-- where so much of a section is filled
+module _ (base offset n : ℕ) (small : offset ≤ section_room) where
+  by : (room both : Bool) → leb n (base + section_room - (base + offset)) ≡ room → leb (offset + n) section_room ≡ both → cond room (base + offset + n) (base + section_room) ≡ base + cond both (offset + n) section_room
+  by true true q r = omega arith
+  by true false q r = let l = leb-true n _ q in let m = leb-false (offset + n) section_room r in omega arith
+  by false true q r = let l = leb-false n _ q in let m = leb-true (offset + n) section_room r in omega arith
+  by false false q r = refl
 
--- so with the bytes of a region
-module _ (size n : ℕ) where
-  bytes_by : (fits room both : Bool) → leb size section_room ≡ fits → leb n (section_room - cond fits size section_room) ≡ room → leb (size + n) section_room ≡ both
-      → cond room (cond fits size section_room + n) section_room ≡ cond both (size + n) section_room
-  bytes_by true true true p q r = refl
-  bytes_by true true false p q r = let k = leb-true size section_room p in let l = leb-true n _ q in let m = leb-false (size + n) section_room r in omega arith
-  bytes_by true false true p q r = let k = leb-true size section_room p in let l = leb-false n _ q in let m = leb-true (size + n) section_room r in omega arith
-  bytes_by true false false p q r = refl
-  bytes_by false true true p q r = let k = leb-false size section_room p in let m = leb-true (size + n) section_room r in omega arith
-  bytes_by false true false p q r = let l = leb-true n _ q in omega arith
-  bytes_by false false true p q r = let k = leb-false size section_room p in let m = leb-true (size + n) section_room r in omega arith
-  bytes_by false false false p q r = refl
+  moved : moved_on (base + section_room) (base + offset) n ≡ base + up_to_room (offset + n)
+  moved = by (leb n (base + section_room - (base + offset))) (leb (offset + n) section_room) refl refl
 
-  moved_bytes : moved_on section_room (up_to_room size) n ≡ up_to_room (size + n)
-  moved_bytes = bytes_by (leb size section_room) (leb n (section_room - up_to_room size)) (leb (size + n) section_room) refl refl refl
+  bytes_by : (room both : Bool) → leb n (section_room - offset) ≡ room → leb (offset + n) section_room ≡ both → cond room (offset + n) section_room ≡ cond both (offset + n) section_room
+  bytes_by true true q r = refl
+  bytes_by true false q r = let l = leb-true n _ q in let m = leb-false (offset + n) section_room r in omega arith
+  bytes_by false true q r = let l = leb-false n _ q in let m = leb-true (offset + n) section_room r in omega arith
+  bytes_by false false q r = refl
+
+  moved_bytes : moved_on section_room offset n ≡ up_to_room (offset + n)
+  moved_bytes = bytes_by (leb n (section_room - offset)) (leb (offset + n) section_room) refl refl
+
+-- so where nothing is added
+unmoved : (offset : ℕ) → offset ≤ section_room → offset ≡ up_to_room (offset + 0)
+unmoved offset small = let e : offset ≡ offset + 0 = omega arith in e ∙ sym (in_room (offset + 0) (omega arith))
 
 -- a region begins below the end of the words' addresses, and so does what stands in it
 low_start : (start size : ℕ) → start_behind start size ≤ last_start
 low_start start size =
     cond_both (leb (start + 4096 * pages_for size) last_start) (start + 4096 * pages_for size) last_start (λ m. m ≤ last_start) (λ h. leb-true (start + 4096 * pages_for size) last_start h) (λ _. omega arith)
 
-low_with : (start size : ℕ) (s : Said) → start ≤ last_start → start_with start size s ≤ last_start
-low_with start size (Ok (statements.Directive (directives.Region writable))) h = low_start start size
-low_with start size (Ok (statements.Directive _)) h = h
-low_with start size (Ok _) h = h
-low_with start size (Err f) h = h
+low_with : (start size : ℕ) (begins : Bool) → start ≤ last_start → (if begins then start_behind start size else start) ≤ last_start
+low_with start size true h = low_start start size
+low_with start size false h = h
 
 pub low : (before : List Item) → region_start before ≤ last_start
 low [] = omega arith
-low (i ∷ before) = low_with (region_start before) (data_offset before) i.said (low before)
-
-within_room : (size : ℕ) → up_to_room size ≤ section_room
-within_room size = cond_both (leb size section_room) size section_room (λ m. m ≤ section_room) (λ h. leb-true size section_room h) (λ _. omega arith)
+low (i ∷ before) = low_with (region_start before) (data_offset before) (is_region i) (low before)
 
 pub in_section : (before : List Item) (x : Section) → address_in x (place_of before) ≡ address_in_section before x
 in_section before Code = refl
-in_section before Data = min-eq_left (let h = low before in let k = within_room (data_size before) in omega arith)
+in_section before Data = min-eq_left (let h = low before in let k = data_within before in omega arith)
 
 module _ (before : List Item) (number : ℕ) (labels : List (List ℕ)) (bytes : List ℕ) (tokens : List Token) where
   abbrev pub item : Said → Item
@@ -90,22 +87,22 @@ module _ (before : List Item) (number : ℕ) (labels : List (List ℕ)) (bytes :
 
   -- the place behind lines that add so much
   abbrev behind_by : Section → ℕ → ℕ → Place
-  behind_by x words more = record { section = x; next_word = CODE_START + up_to_room (code_size before + words); region_start = region_start before; region_bytes = up_to_room (data_size before + more) }
+  behind_by x words more = record { section = x; next_word = CODE_START + up_to_room (code_offset before + words); region_start = region_start before; region_bytes = up_to_room (data_offset before + more) }
 
   stays : (x : Section) → (let p : Place = record { section = x; next_word = code_address before; region_start = region_start before; region_bytes = data_offset before } in p) ≡ behind_by x 0 0
-  stays x = λ j. record { section = x; next_word = same_size CODE_START (code_size before) j; region_start = region_start before; region_bytes = same_bytes (data_size before) j }
+  stays x = λ j. record { section = x; next_word = CODE_START + unmoved (code_offset before) (code_within before) j; region_start = region_start before; region_bytes = unmoved (data_offset before) (data_within before) j }
 
   codes_more : (n : ℕ) → with_code n (place_of before) ≡ behind_by (section_after before) n 0
-  codes_more n = λ j. record { section = section_after before; next_word = moved CODE_START (code_size before) n j; region_start = region_start before; region_bytes = same_bytes (data_size before) j }
+  codes_more n = λ j. record { section = section_after before; next_word = moved CODE_START (code_offset before) n (code_within before) j; region_start = region_start before; region_bytes = unmoved (data_offset before) (data_within before) j }
 
   data_more : (n : ℕ) → with_data n (place_of before) ≡ behind_by (section_after before) 0 n
-  data_more n = λ j. record { section = section_after before; next_word = same_size CODE_START (code_size before) j; region_start = region_start before; region_bytes = moved_bytes (data_size before) n j }
+  data_more n = λ j. record { section = section_after before; next_word = CODE_START + unmoved (code_offset before) (code_within before) j; region_start = region_start before; region_bytes = moved_bytes 0 (data_offset before) n (data_within before) j }
 
   begins : (let p : Place = record { section = Data; next_word = code_address before; region_start = start_behind (region_start before) (data_offset before); region_bytes = 0 } in p)
-      ≡ record { section = Data; next_word = CODE_START + up_to_room (code_size before + 0); region_start = start_behind (region_start before) (data_offset before); region_bytes = 0 }
-  begins = λ j. record { section = Data; next_word = same_size CODE_START (code_size before) j; region_start = start_behind (region_start before) (data_offset before); region_bytes = 0 }
+      ≡ record { section = Data; next_word = CODE_START + up_to_room (code_offset before + 0); region_start = start_behind (region_start before) (data_offset before); region_bytes = 0 }
+  begins = λ j. record { section = Data; next_word = CODE_START + unmoved (code_offset before) (code_within before) j; region_start = start_behind (region_start before) (data_offset before); region_bytes = 0 }
 
-  pub stands : (s : Said) → passed (item s) s (place_of before) ≡ place_of (item s ∷ before)
+  pub stands : (s : Said) → place_after (item s) s (place_of before) ≡ place_of (item s ∷ before)
   unfolding place_after
   stands (Err f) = codes_more 4
   stands (Ok statements.Nothing) = stays (section_after before)

@@ -1,6 +1,6 @@
 -- The faults that the stages note line by line are those of the rules.
 use Rattle.std.proofs.Common.{◌≡◌, ℕ, ◌+◌, ◌-◌, ◌*◌, Bool, true, false, cond, ltb, leb, ℤ, List, [], ◌∷◌, ◌++◌, length, map, Option, None, Some, Result, Ok, Err, refl, sym, ap, ◌∙◌, arith}
-use Rattle.std.specs.Prelude.{not, ◌&&◌, ◌||◌, nat_lt, nat_le, if◌then◌else◌}
+use Rattle.std.specs.Prelude.{not, ◌&&◌, nat_lt, nat_le, if◌then◌else◌}
 use Rattle.std.specs.Option.{is_some}
 use Rattle.std.specs.List.{fold, list_any, flat_map}
 use Rattle.std.proofs.lemmas.List.{map-append}
@@ -26,26 +26,27 @@ use Rattle.sbx_asm.specs.declared.fault.Cause.TheVariants as causes
 use Rattle.sbx_asm.specs.declared.opening.Head.{Head}
 use Rattle.sbx_asm.specs.declared.draft.Draft.{Draft}
 use Rattle.sbx_asm.specs.Faults.{told, at}
-use Rattle.sbx_asm.specs.Items.{Item, Said, up_to, count, starts_function, ends_function, is_data, is_region, leaves, leaves_region, has_bytes, is_block, ends_block, is_depth, in_function, block_count, params, results, cells, terms, ends, divides}
-use Rattle.sbx_asm.specs.Addresses.{code_offset, data_offset, padding_of, fits_behind, section_after, section_room}
-use Rattle.sbx_asm.specs.Rules.{Values, when, acts, is_code, takes_annotations, takes_ranges, has_fuel, has_depth, is_services, is_stack, in_place, range_rules, cell_rules, term_rules, value_rules, statement_rules, data_rules, another_region, another_block, block_rules, line_rules}
+use Rattle.sbx_asm.specs.Items.{Item, Said, up_to, count, starts_function, ends_function, is_data, is_region, has_bytes, is_block, ends_block, in_function, block_count, params, results, depths, services, stacks, has}
+use Rattle.sbx_asm.specs.Addresses.{code_offset, data_offset, padding_of, fits_behind, section_after, section_room, is_code}
+use Rattle.sbx_asm.specs.Rules.{Values, when, ascending, acts, takes_annotations, takes_ranges, has_fuel, has_depth, in_place, value_rules, data_rules, another_block, block_rules, line_rules}
 use Rattle.sbx_asm.specs.Stages.Places.{has_room, code_end}
 use Rattle.sbx_asm.specs.Stages.Drafts as stages
-use Rattle.sbx_asm.specs.Stages.Drafts.{close_block, close_headed, close_function, headed, open_block, begin_function, begin_block_of, begin_block, param_if, add_param, result_if, add_result, depth_by, add_depth, cell_if, add_cell, term_if, add_term, fuel_if, fuel_by, add_fuel, services_by, add_services, stack_by, add_stack, noted, noted_where, begun, leave_region, close_region, choose_data, begin_region, with_bytes, data_checked, with_data, with_zeros, add_values, add_zeros, instruction_checked, with_words, instruction_does, statement_does}
+use Rattle.sbx_asm.specs.Stages.Drafts.{close_block, close_headed, close_function, headed, open_block, begin_function, begin_block_of, begin_block, param_if, add_param, result_if, add_result, depth_by, add_depth, cell_if, add_cell, term_if, add_term, fuel_if, fuel_by, add_fuel, services_by, add_services, stack_by, add_stack, noted, noted_where, begun, leave_region, close_region, choose_data, begin_region, with_bytes, data_checked, with_data, with_zeros, add_values, add_zeros, instruction_checked, with_words, instruction_does, statement_does, said_does}
+use Rattle.sbx_asm.proofs.Views.{saying, cell_places, term_places, leaves_region, range_rules, statement_rules, another_region}
 use Rattle.sbx_asm.proofs.Labelling.{fold_append}
 use Rattle.sbx_asm.proofs.Standing.{item, place_of}
-use Rattle.sbx_asm.proofs.Following.{said_does, Follows, bit, capped_room, capped_least, one_longer, same_annotations, same_ranges}
+use Rattle.sbx_asm.proofs.Following.{Follows, bit, capped_room, capped_least, one_longer, same_annotations, same_ranges}
 
 pub joined : (o : Option AsmFault) (n : ℕ) (cs ds : List Cause) → fold told o (map (at n) (cs ++ ds)) ≡ fold told (fold told o (map (at n) cs)) (map (at n) ds)
 joined o n cs ds = ap (fold told o) (map-append (at n) cs ds) ∙ fold_append told o (map (at n) cs) (map (at n) ds)
 
 -- the block that a line ends, where no line of it acts
 abbrev pub closing : Said → Draft → List AsmFault
-closing s d = map (at d.block.line) (when ((ends s || divides s) && (is_some d.function.head && not d.block.begun)) causes.Directive)
+closing s d = map (at d.block.line) (when (ends_block (saying s) && (is_some d.function.head && not d.block.begun)) causes.Directive)
 
 -- the region that a line leaves, where it has no bytes
 abbrev pub leaving : Said → Draft → List AsmFault
-leaving s d = map (at d.region.line) (when (leaves s && not d.region.begun) causes.Directive)
+leaving s d = map (at d.region.line) (when (leaves_region (saying s) && not d.region.begun) causes.Directive)
 
 -- the newest region, where it has no bytes up to its end
 abbrev pub wanting : Draft → List Item → List AsmFault
@@ -110,7 +111,7 @@ module _ (values : Values) (before : List Item) (number : ℕ) (labels : List (L
   abbrev full : List Cause
   full = when (not (fits_behind (code_offset before) (4 * statement_length bytes tokens))) causes.Limit
 
-  words_told : (r : Result (List Instr) SyntaxFault) → (begun (with_words r (instruction_checked bytes tokens d))).fault
+  words_told : (r : Result (List Instr) SyntaxFault) → (begun (with_words r (instruction_checked (it (Ok statements.Instruction)) d))).fault
       ≡ with_more (when (not (is_code (section_after before) && in_function before)) causes.Directive ++ (when (not (fits_behind (code_offset before) (4 * statement_length bytes tokens))) causes.Limit ++ statement_rules r))
   words_told r =
       by r
@@ -118,7 +119,7 @@ module _ (values : Values) (before : List Item) (number : ℕ) (labels : List (L
       ∙ sym (joined (with_more misplaced) d.line full (statement_rules r))
       ∙ sym (joined d.fault d.line misplaced (full ++ statement_rules r))
     where
-      by : (r : Result (List Instr) SyntaxFault) → (begun (with_words r (instruction_checked bytes tokens d))).fault ≡ fold told (instruction_checked bytes tokens d).fault (map (at d.line) (statement_rules r))
+      by : (r : Result (List Instr) SyntaxFault) → (begun (with_words r (instruction_checked (it (Ok statements.Instruction)) d))).fault ≡ fold told (instruction_checked (it (Ok statements.Instruction)) d).fault (map (at d.line) (statement_rules r))
       by (Ok is) = refl
       by (Err f) = refl
 
@@ -167,17 +168,17 @@ module _ (values : Values) (before : List Item) (number : ℕ) (labels : List (L
   result_told r true q = λ j. with_more (in_place (q j) (range_rules ((h.6 (sym q)).1 j)))
   result_told r false q = λ j. with_more (in_place (q j) (range_rules (length (flat_map results (up_to ends_function before)))))
 
-  cell_told : (c : Cell) (t : Bool) → t ≡ takes_annotations values before → (cell_if t c d).fault ≡ with_more (in_place (takes_annotations values before) (cell_rules (flat_map cells (up_to ends_block before)) c))
+  cell_told : (c : Cell) (t : Bool) → t ≡ takes_annotations values before → (cell_if t c d).fault ≡ with_more (in_place (takes_annotations values before) (ascending 64 (cell_places before) c.location))
   cell_told c true q =
       sym (joined d.fault d.line (when (leb 64 (length d.block.cells)) causes.Limit) (when (leb c.location d.block.last_cell) causes.Directive))
       ∙ (λ j. with_more (in_place (q j) (when (leb 64 ((h.7 (sym q)).0 j)) causes.Limit ++ when (leb c.location ((h.7 (sym q)).1 j)) causes.Directive)))
-  cell_told c false q = λ j. with_more (in_place (q j) (cell_rules (flat_map cells (up_to ends_block before)) c))
+  cell_told c false q = λ j. with_more (in_place (q j) (ascending 64 (cell_places before) c.location))
 
-  term_told : (x : Term) (t : Bool) → t ≡ takes_annotations values before → (term_if t x d).fault ≡ with_more (in_place (takes_annotations values before) (term_rules (flat_map terms (up_to ends_block before)) x))
+  term_told : (x : Term) (t : Bool) → t ≡ takes_annotations values before → (term_if t x d).fault ≡ with_more (in_place (takes_annotations values before) (ascending 8 (term_places before) x.location))
   term_told x true q =
       sym (joined d.fault d.line (when (leb 8 (length d.block.terms)) causes.Limit) (when (leb x.location d.block.last_term) causes.Directive))
       ∙ (λ j. with_more (in_place (q j) (when (leb 8 ((h.7 (sym q)).2 j)) causes.Limit ++ when (leb x.location ((h.7 (sym q)).3 j)) causes.Directive)))
-  term_told x false q = λ j. with_more (in_place (q j) (term_rules (flat_map terms (up_to ends_block before)) x))
+  term_told x false q = λ j. with_more (in_place (q j) (ascending 8 (term_places before) x.location))
 
   fuel_told : (z : ℤ) (o : Option ℤ) → is_some o ≡ has_fuel values before → (fuel_by o z d).fault ≡ with_more (if has_fuel values before then causes.Directive ∷ [] else in_place (takes_annotations values before) [])
   fuel_told z (Some y) q = λ j. with_more (cond (q j) (causes.Directive ∷ []) (in_place (takes_annotations values before) []))
@@ -199,13 +200,13 @@ module _ (values : Values) (before : List Item) (number : ℕ) (labels : List (L
       ∙ placed (takes_ranges values before)
       ∙ (λ j. with_more (cond (q j) (causes.Directive ∷ []) (in_place (takes_ranges values before) [])))
   depth_told n None p m q =
-      λ j. with_more (cond (p j && list_any is_depth (up_to ends_function before)) (causes.Directive ∷ []) (in_place ((p j && not (list_any (acts values) (up_to ends_block before))) && not (list_any is_block (up_to ends_function before))) []))
+      λ j. with_more (cond (p j && list_any (has depths) (up_to ends_function before)) (causes.Directive ∷ []) (in_place ((p j && not (list_any (acts values) (up_to ends_block before))) && not (list_any is_block (up_to ends_function before))) []))
 
-  services_told : (x : Services) (o : Option Services) → is_some o ≡ list_any is_services before → (services_by o x d).fault ≡ with_more (when (list_any is_services before) causes.Directive)
+  services_told : (x : Services) (o : Option Services) → is_some o ≡ list_any (has services) before → (services_by o x d).fault ≡ with_more (when (list_any (has services) before) causes.Directive)
   services_told x (Some y) q = λ j. with_more (when (q j) causes.Directive)
   services_told x None q = λ j. with_more (when (q j) causes.Directive)
 
-  stack_told : (n : ℕ) (o : Option ℕ) → is_some o ≡ list_any is_stack before → (stack_by o n d).fault ≡ with_more (when (list_any is_stack before) causes.Directive)
+  stack_told : (n : ℕ) (o : Option ℕ) → is_some o ≡ list_any (has stacks) before → (stack_by o n d).fault ≡ with_more (when (list_any (has stacks) before) causes.Directive)
   stack_told n (Some y) q = λ j. with_more (when (q j) causes.Directive)
   stack_told n None q = λ j. with_more (when (q j) causes.Directive)
 

@@ -22,19 +22,21 @@ use Rattle.sbx_directives.specs.declared.fault.DataFault.{DataFault}
 use Rattle.sbx_directives.specs.declared.fault.DataFault.TheVariants as data_faults
 use Rattle.sbx_directives.specs.Data.{data_of, bytes_of_width}
 use Rattle.sbx_asm.specs.declared.fault.AsmFault.{AsmFault}
+use Rattle.sbx_asm.specs.declared.fault.Cause.{Cause}
 use Rattle.sbx_asm.specs.declared.fault.Cause.TheVariants as causes
 use Rattle.sbx_asm.specs.declared.opening.Head.{Head}
 use Rattle.sbx_asm.specs.declared.draft.Draft.{Draft}
 use Rattle.sbx_asm.specs.Faults.{told, at}
-use Rattle.sbx_asm.specs.Items.{Item, Said, each, up_to, leaves_region, has_bytes, ends_block, in_function}
-use Rattle.sbx_asm.specs.Rules.{Values, when, acts, is_unknown, line_rules, empty_block, empty_region, faults_at}
+use Rattle.sbx_asm.specs.Items.{Item, Said, each, up_to, has_bytes, ends_block, in_function, is_region, begins_block}
+use Rattle.sbx_asm.specs.Rules.{Values, when, acts, line_rules, faults_at}
 use Rattle.sbx_asm.specs.Addresses.{padding_of, section_room}
-use Rattle.sbx_asm.specs.Stages.Places.{has_room}
+use Rattle.sbx_asm.specs.Stages.Places.{has_room, place_after}
 use Rattle.sbx_asm.specs.Stages.Drafts as stages
-use Rattle.sbx_asm.specs.Stages.Drafts.{close_block, close_headed, close_function, headed, open_block, begin_function, begin_block_of, begin_block, param_if, add_param, result_if, add_result, depth_by, add_depth, cell_if, add_cell, term_if, add_term, fuel_if, fuel_by, add_fuel, services_by, add_services, stack_by, add_stack, noted, noted_where, begun, leave_region, close_region, choose_data, begin_region, with_bytes, closed, data_checked, with_data, with_zeros, add_values, add_zeros, instruction_checked, with_words, instruction_does, statement_does, numbered_line}
+use Rattle.sbx_asm.specs.Stages.Drafts.{close_block, close_headed, close_function, headed, open_block, begin_function, begin_block_of, begin_block, param_if, add_param, result_if, add_result, depth_by, add_depth, cell_if, add_cell, term_if, add_term, fuel_if, fuel_by, add_fuel, services_by, add_services, stack_by, add_stack, noted, noted_where, begun, leave_region, close_region, choose_data, begin_region, with_bytes, closed, data_checked, with_data, with_zeros, add_values, add_zeros, instruction_checked, with_words, instruction_does, statement_does, said_does, numbered_line, draft_item}
+use Rattle.sbx_asm.proofs.Views.{leaves_region, is_unknown, empty_block, empty_region}
 use Rattle.sbx_asm.proofs.Labelling.{fold_append}
-use Rattle.sbx_asm.proofs.Standing.{item, passed, place_of, stands}
-use Rattle.sbx_asm.proofs.Following.{said_does, Follows, follows, and_true}
+use Rattle.sbx_asm.proofs.Standing.{item, place_of, stands}
+use Rattle.sbx_asm.proofs.Following.{Follows, follows, and_true}
 use Rattle.sbx_asm.proofs.Orders.{told_first}
 use Rattle.sbx_asm.proofs.Telling.{closing, pending, leaving, wanting, line_told}
 
@@ -78,7 +80,7 @@ module _ (values : Values) (before : List Item) (number : ℕ) (labels : List (L
   abbrev acted : pending values (begun d) after ≡ map (at d.block.line) (when (is_some d.function.head && (not d.block.begun && false)) causes.Directive)
   acted = λ j. map (at d.block.line) (when (is_some d.function.head && nothing (not d.block.begun) j) causes.Directive)
 
-  words_turn : (r : Result (List Instr) SyntaxFault) → Turns (Ok statements.Instruction) (begun (with_words r (instruction_checked bytes tokens d)))
+  words_turn : (r : Result (List Instr) SyntaxFault) → Turns (Ok statements.Instruction) (begun (with_words r (instruction_checked (it (Ok statements.Instruction)) d)))
   words_turn (Ok is) = (inr (refl, refl, acted), inr (refl, refl, refl))
   words_turn (Err f) = (inr (refl, refl, acted), inr (refl, refl, refl))
 
@@ -217,10 +219,20 @@ module _ (o : Option AsmFault) (B L R : List AsmFault) (n : ℕ) (s t : Bool) wh
       ∙ sym (fold_append told o p (((B ++ L) ++ []) ++ R))
       ∙ ap (λ (x : List AsmFault). fold told o (p ++ (((B ++ L) ++ x) ++ R))) (sym b)
 
-module _ (values : Values) where
-  abbrev pub item_does : Draft → Item → Draft
-  item_does d i = said_does values i i.said (numbered_line i.number d)
+-- what a line is told: its own causes, its region, its block
+split : (values : Values) (before : List Item) (i : Item) (after : List Item)
+    → faults_at values before i after ≡ (map (at i.number) (when (nat_lt 1000000 i.number) causes.Limit ++ line_rules values before i i.said) ++ empty_region i after) ++ empty_block values before i after
+split values before i after =
+    let many : List Cause = when (nat_lt 1000000 i.number) causes.Limit in
+    let own : List Cause = line_rules values before i i.said in
+    let region : List Cause = when (is_region i && not (list_any has_bytes (up_to leaves_region after))) causes.Directive in
+    let block : List Cause = when (begins_block before i && not (list_any (acts values) (up_to ends_block after))) causes.Directive in
+    ap (map (at i.number)) (sym (append_assoc many own (region ++ block)))
+    ∙ map-append (at i.number) (many ++ own) (region ++ block)
+    ∙ ap (λ (fs : List AsmFault). map (at i.number) (many ++ own) ++ fs) (map-append (at i.number) region block)
+    ∙ sym (append_assoc (map (at i.number) (many ++ own)) (map (at i.number) region) (map (at i.number) block))
 
+module _ (values : Values) where
   at_end : (d : Draft) (o : Option Head) → (close_headed o d).fault ≡ fold told d.fault (map (at d.block.line) (when (is_some o && (not d.block.begun && true)) causes.Directive) ++ [])
   unfolding close_block
   at_end d (Some x) =
@@ -228,16 +240,12 @@ module _ (values : Values) where
       ∙ ap (fold told d.fault) (sym (append-nil (map (at d.block.line) (when (not d.block.begun && true) causes.Directive))))
   at_end d None = refl
 
-  place_said : (i : Item) (s : Said) (d : Draft) → (said_does values i s d).place ≡ passed i s d.place
-  place_said i (Ok s) d = refl
-  place_said i (Err f) d = refl
+  pub item_stands : (before : List Item) (i : Item) (d : Draft) → d.place ≡ place_of before → (draft_item values d i).place ≡ place_of (i ∷ before)
+  unfolding numbered_line draft_item
+  item_stands before i d p = ap (place_after i i.said) p ∙ stands before i.number i.labels i.bytes i.tokens i.said
 
-  pub item_stands : (before : List Item) (i : Item) (d : Draft) → d.place ≡ place_of before → (item_does d i).place ≡ place_of (i ∷ before)
-  unfolding numbered_line
-  item_stands before i d p = place_said i i.said (numbered_line i.number d) ∙ ap (passed i i.said) p ∙ stands before i.number i.labels i.bytes i.tokens i.said
-
-  pub item_follows : (before : List Item) (i : Item) (d : Draft) → Follows values before d → Follows values (i ∷ before) (item_does d i)
-  unfolding numbered_line
+  pub item_follows : (before : List Item) (i : Item) (d : Draft) → Follows values before d → Follows values (i ∷ before) (draft_item values d i)
+  unfolding numbered_line draft_item
   item_follows before i d h = follows values before i.number i.labels i.bytes i.tokens i.said (numbered_line i.number d) h
 
   at_last : (d : Draft) → (closed d).fault ≡ fold told d.fault (wanting d [] ++ (pending values d [] ++ []))
@@ -248,8 +256,8 @@ module _ (values : Values) where
       ∙ sym (fold_append told d.fault (wanting d []) (pending values d [] ++ []))
 
   pub all_told : (before after : List Item) (d : Draft) → d.place ≡ place_of before → Follows values before d
-      → (closed (fold item_does d after)).fault ≡ fold told d.fault (wanting d after ++ (pending values d after ++ each (faults_at values) before after))
-  unfolding numbered_line
+      → (closed (fold (draft_item values) d after)).fault ≡ fold told d.fault (wanting d after ++ (pending values d after ++ each (faults_at values) before after))
+  unfolding numbered_line draft_item
   all_told before [] d p h = at_last d
   all_told before (i ∷ after) d p h =
       let d0 : Draft = numbered_line i.number d in
@@ -259,12 +267,12 @@ module _ (values : Values) where
       let E : List AsmFault = empty_region i after in
       let F : List AsmFault = empty_block values before i after in
       let R : List AsmFault = each (faults_at values) (i ∷ before) after in
-      let v : List AsmFault = wanting (item_does d i) after in
-      let q : List AsmFault = pending values (item_does d i) after in
+      let v : List AsmFault = wanting (draft_item values d i) after in
+      let q : List AsmFault = pending values (draft_item values d i) after in
       let w : List AsmFault = wanting d (i ∷ after) in
       let turned = turns values before i.number i.labels i.bytes i.tokens d0 h refl after i.said in
       let o : Option AsmFault = fold told d.fault w in
-      all_told (i ∷ before) after (item_does d i) (item_stands before i d p) (item_follows before i d h)
+      all_told (i ∷ before) after (draft_item values d i) (item_stands before i d p) (item_follows before i d h)
       ∙ ap (λ (x : Option AsmFault). fold told x (v ++ (q ++ R))) (line_told values before i.number i.labels i.bytes i.tokens d0 p h i.said)
       ∙ ap (λ (x : Option AsmFault). fold told (fold told (fold told x (leaving i.said d0)) L) (v ++ (q ++ R))) (sym (fold_append told d.fault B C))
       ∙ gathered d.fault (B ++ C) L (q ++ R) d.region.line _ _ v E turned.1
@@ -276,3 +284,4 @@ module _ (values : Values) where
       ∙ sym (fold_append told d.fault w (pending values d (i ∷ after) ++ (((B ++ (L ++ E)) ++ F) ++ R)))
       ∙ ap (λ (x : List AsmFault). fold told d.fault (w ++ (pending values d (i ∷ after) ++ ((x ++ F) ++ R)))) (sym (append_assoc B L E))
       ∙ ap (λ (x : List AsmFault). fold told d.fault (w ++ (pending values d (i ∷ after) ++ (((x ++ E) ++ F) ++ R)))) (sym (map-append (at i.number) (when (nat_lt 1000000 i.number) causes.Limit) (line_rules values before i i.said)))
+      ∙ ap (λ (x : List AsmFault). fold told d.fault (w ++ (pending values d (i ∷ after) ++ (x ++ R)))) (sym (split values before i after))

@@ -1,5 +1,5 @@
 -- A list of values has as many bytes as its directive says.
-use Rattle.std.proofs.Common.{◌≡◌, ℕ, suc, ◌+◌, ◌*◌, Bool, true, false, cond, ℤ, List, [], ◌∷◌, length, map, drop, Option, None, Some, IfSome, Result, Ok, Err, refl, ap, ◌∙◌, arith}
+use Rattle.std.proofs.Common.{◌≡◌, ℕ, suc, ◌+◌, ◌*◌, Bool, true, false, cond, ℤ, List, [], ◌∷◌, length, drop, Option, None, Some, IfSome, Result, Ok, Err, refl, ap, ◌∙◌, arith}
 use Rattle.std.specs.Prelude.{not, ◌&&◌, ◌||◌, ◌==◌}
 use Rattle.std.specs.Option.{is_none, option_map_or}
 use Rattle.std.specs.List.{AllByRecursion, flat_map, list_all}
@@ -26,7 +26,8 @@ use Rattle.sbx_directives.specs.Directives.{is_expression, services_of, frames_o
 use Rattle.sbx_directives.specs.Data.{bytes_of_width, fits, spelled, value_of, is_known, is_fit, bytes_of, listed, data_of}
 use Rattle.sbx_asm.specs.Items.{Item, Said, read_line, item_of, items_of, all_lines}
 use Rattle.sbx_asm.specs.Rules.{Values, value_rules}
-use Rattle.sbx_asm.specs.Images.{bytes_meant}
+use Rattle.sbx_asm.proofs.Views.{bytes_meant}
+use Rattle.sbx_asm.proofs.Wholes.{map_all}
 use Rattle.sbx_asm.proofs.Numbers.{then_all, then_any}
 use Rattle.sbx_asm.proofs.Making.{cons_nil}
 
@@ -103,12 +104,8 @@ read_counts : (number : ℕ) (line : List ℕ) (r : Result (List Token) TextFaul
 read_counts number line (Ok ts) = statement_counts line (drop (2 * label_count line ts) ts)
 read_counts number line (Err f) = tt
 
-lines_count : (xs : List (ℕ × List ℕ)) → AllByRecursion ItemCounts (map item_of xs)
-lines_count [] = tt
-lines_count (x ∷ xs) = (read_counts x.0 x.1 (tokens_of x.1), lines_count xs)
-
 pub items_count : (source : List ℕ) → AllByRecursion ItemCounts (items_of source)
-items_count source = lines_count (all_lines source)
+items_count source = map_all ItemCounts item_of (λ x. read_counts x.0 x.1 (tokens_of x.1)) (all_lines source)
 
 -- ---- so many bytes
 

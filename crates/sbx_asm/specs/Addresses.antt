@@ -1,25 +1,22 @@
 -- Where the lines of a source stand, and what their labels are worth: the start of a section and the lengths before them.
-use Rattle.std.specs.Prelude.{ℕ, ◌+◌, ◌-◌, ◌*◌, ◌%◌, Bool, nat_le, ◌==◌, if◌then◌else◌, List, [], ◌∷◌, ◌++◌, map, Option, Some, None, Ok, Err}
+use Rattle.std.specs.Prelude.{ℕ, ◌+◌, ◌-◌, ◌*◌, ◌%◌, Bool, true, false, ◌||◌, nat_le, ◌==◌, if◌then◌else◌, List, [], ◌∷◌, ◌++◌, map, Option, Some, None, Ok, Err}
 use Rattle.std.specs.Str.{bytes_eq}
 use Rattle.v8_map.specs.declared.TheConstants.{CODE_START, DATA_START}
 use Rattle.v8_syntax.specs.Statements.{statement_length}
 use Rattle.sbx_image.specs.Regions.{pages_for}
-use Rattle.sbx_directives.specs.declared.directive.Name.{Name}
 use Rattle.sbx_directives.specs.declared.directive.Directive.TheVariants as directives
 use Rattle.sbx_directives.specs.declared.directive.Statement.TheVariants as statements
 use Rattle.sbx_directives.specs.Lines.{text_of}
 use Rattle.sbx_directives.specs.Data.{bytes_of_width}
 use Rattle.sbx_asm.specs.declared.place.Section.{Section}
 use Rattle.sbx_asm.specs.declared.place.Section.TheVariants.{Code, Data}
-use Rattle.sbx_asm.specs.Items.{Item, Said, each}
+use Rattle.sbx_asm.specs.Items.{Item, Said, each, is_text, is_data, is_region}
 
 -- ---- lengths, in bytes
 
 -- a statement with a fault is as long as one without, and a line without tokens one word long
-abbrev pub code_length : Item → Said → ℕ
-code_length i (Ok statements.Instruction) = 4 * statement_length i.bytes i.tokens
-code_length i (Err f) = 4
-code_length i _ = 0
+abbrev pub code_length : Item → ℕ
+code_length i = elim i.said [ Ok statements.Instruction ↦ 4 * statement_length i.bytes i.tokens | Err f ↦ 4 | _ ↦ 0 ]
 
 -- up to a multiple of n
 abbrev pub padding_of : ℕ → ℕ → ℕ
@@ -43,48 +40,30 @@ up_to_room size = if nat_le size section_room then size else section_room
 abbrev pub fits_behind : ℕ → ℕ → Bool
 fits_behind offset n = nat_le n (section_room - offset)
 
--- the sums of the lengths of some items, the nearest first
-abbrev pub code_size : List Item → ℕ
-code_size [] = 0
-code_size (i ∷ before) = code_size before + code_length i i.said
+-- how far some items, the nearest first, fill the code
+abbrev pub code_offset : List Item → ℕ
+code_offset [] = 0
+code_offset (i ∷ before) = up_to_room (code_offset before + code_length i)
 
--- those of the data are of the newest region
-abbrev pub size_with : ℕ → Said → ℕ
-size_with size (Ok (statements.Directive (directives.Region writable))) = 0
-size_with size s = size + data_length (up_to_room size) s
-
-abbrev pub data_size : List Item → ℕ
-data_size [] = 0
-data_size (i ∷ before) = size_with (data_size before) i.said
+-- and the data, of which the newest region counts
+abbrev pub data_offset : List Item → ℕ
+data_offset [] = 0
+data_offset (i ∷ before) = if is_region i then 0 else up_to_room (data_offset before + data_length (data_offset before) i.said)
 
 -- ---- addresses
-
--- how far they fill their section
-abbrev pub code_offset : List Item → ℕ
-code_offset before = up_to_room (code_size before)
-
-abbrev pub data_offset : List Item → ℕ
-data_offset before = up_to_room (data_size before)
 
 -- where a ninth region, which is too many, begins at the latest
 abbrev pub last_start : ℕ
 last_start = DATA_START + 8 * section_room
 
 -- a region begins at the page behind the last one of the region before it, which has so many bytes
-abbrev pub up_to_last : ℕ → ℕ
-up_to_last address = if nat_le address last_start then address else last_start
-
 abbrev pub start_behind : ℕ → ℕ → ℕ
-start_behind start size = up_to_last (start + 4096 * pages_for size)
-
-abbrev pub start_with : ℕ → ℕ → Said → ℕ
-start_with start size (Ok (statements.Directive (directives.Region writable))) = start_behind start size
-start_with start size s = start
+start_behind start size = if nat_le (start + 4096 * pages_for size) last_start then start + 4096 * pages_for size else last_start
 
 -- where the newest region begins, or the data where there are no regions
 abbrev pub region_start : List Item → ℕ
 region_start [] = DATA_START
-region_start (i ∷ before) = start_with (region_start before) (data_offset before) i.said
+region_start (i ∷ before) = if is_region i then start_behind (region_start before) (data_offset before) else region_start before
 
 -- the code begins at 00040000 and the data at 00080000, as the address map has them
 abbrev pub code_address : List Item → ℕ
@@ -93,24 +72,18 @@ code_address before = CODE_START + code_offset before
 abbrev pub data_address : List Item → ℕ
 data_address before = region_start before + data_offset before
 
-abbrev pub chosen : Said → Section → Section
-chosen (Ok (statements.Directive directives.Text)) section = Code
-chosen (Ok (statements.Directive directives.Data)) section = Data
-chosen (Ok (statements.Directive (directives.Region writable))) section = Data
-chosen _ section = section
+abbrev pub is_code : Section → Bool
+is_code Code = true
+is_code Data = false
 
 -- the section that `.text`, `.data` or `.region` chose last
 abbrev pub section_after : List Item → Section
 section_after [] = Code
-section_after (i ∷ before) = chosen i.said (section_after before)
-
-abbrev pub address_in_section : List Item → Section → ℕ
-address_in_section before Code = code_address before
-address_in_section before Data = data_address before
+section_after (i ∷ before) = if is_text i then Code else (if is_data i || is_region i then Data else section_after before)
 
 -- where the next line's labels point
 abbrev pub label_address : List Item → ℕ
-label_address before = address_in_section before (section_after before)
+label_address before = if is_code (section_after before) then code_address before else data_address before
 
 -- ---- labels
 
@@ -120,15 +93,11 @@ pub record Label : Type 0 where
   pub address : ℕ
   pub line : ℕ
 
-abbrev pub name_or_none : List ℕ → Option Name → List (List ℕ)
-name_or_none line (Some name) = text_of line name ∷ []
-name_or_none line None = []
-
 -- the names of a function and of a block are labels of their first words, whatever their other operands
 abbrev pub names_said : List ℕ → Said → List (List ℕ)
 names_said line (Ok (statements.Directive (directives.Function name kind frame room budget))) = text_of line name ∷ []
 names_said line (Ok (statements.Directive (directives.Block name))) = text_of line name ∷ []
-names_said line (Ok (statements.Malformed k name)) = name_or_none line name
+names_said line (Ok (statements.Malformed k (Some name))) = text_of line name ∷ []
 names_said line _ = []
 
 abbrev pub labelled : ℕ → ℕ → List ℕ → Label
@@ -142,10 +111,13 @@ labels_at before i after =
 abbrev pub all_labels : List Item → List Label
 all_labels items = each labels_at [] items
 
+abbrev pub is_called : List ℕ → Label → Bool
+is_called name l = bytes_eq l.name name
+
 -- a name is worth the address of the first label of that name
 abbrev pub worth_in : List Label → List ℕ → Option ℕ
 worth_in [] name = None
-worth_in (l ∷ ls) name = if bytes_eq l.name name then Some l.address else worth_in ls name
+worth_in (l ∷ ls) name = if is_called name l then Some l.address else worth_in ls name
 
 abbrev pub values_of : List Item → List ℕ → Option ℕ
 values_of items = worth_in (all_labels items)

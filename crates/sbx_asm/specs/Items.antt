@@ -1,11 +1,12 @@
 -- The lines of a source as items: the labels of each, and the statement or the directive behind them.
-use Rattle.std.specs.Prelude.{ℕ, zero, suc, ◌+◌, ◌*◌, Bool, true, false, ◌||◌, ◌&&◌, nat_lt, if◌then◌else◌, List, [], ◌∷◌, ◌++◌, drop, map, Result, Ok, Err}
+use Rattle.std.specs.Prelude.{ℕ, zero, suc, ◌+◌, ◌*◌, Bool, true, false, ◌||◌, ◌&&◌, nat_lt, if◌then◌else◌, List, [], ◌∷◌, ◌++◌, drop, length, map, not, ◌==◌, ℤ, Result, Ok, Err}
 use Rattle.sbx_text.specs.declared.Token.{Token}
 use Rattle.sbx_text.specs.declared.fault.TextFault.{TextFault}
 use Rattle.sbx_text.specs.Tokens.{tokens_of}
 use Rattle.v8_syntax.specs.Words.{bytes_between}
 use Rattle.sbx_image.specs.Range.{Range}
 use Rattle.sbx_image.specs.Cell.{Cell}
+use Rattle.sbx_image.specs.Services.{Services}
 use Rattle.sbx_image.specs.Term.{Term}
 use Rattle.sbx_directives.specs.declared.directive.Keyword.TheVariants as keywords
 use Rattle.sbx_directives.specs.declared.directive.Directive.TheVariants as directives
@@ -36,7 +37,9 @@ label_names line (suc n) (t ∷ ts) = bytes_between line t.start t.stop ∷ labe
 -- the labels of a line without tokens don't count
 abbrev pub read_line : ℕ → List ℕ → Result (List Token) TextFault → Item
 read_line number line (Ok ts) =
-    record { number = number; labels = label_names line (label_count line ts) ts; bytes = line; tokens = drop (2 * label_count line ts) ts; said = Ok (statement_of line (drop (2 * label_count line ts) ts)) }
+    let count : ℕ = label_count line ts in
+    let rest : List Token = drop (2 * count) ts in
+    record { number = number; labels = label_names line count ts; bytes = line; tokens = rest; said = Ok (statement_of line rest) }
 read_line number line (Err f) = record { number = number; labels = []; bytes = line; tokens = []; said = Err f }
 
 abbrev pub item_of : ℕ × List ℕ → Item
@@ -78,92 +81,43 @@ count test (i ∷ is) = if test i then count test is + 1 else count test is
 
 -- ---- what an item is
 
-abbrev pub starts : Said → Bool
-starts (Ok (statements.Directive (directives.Function name kind frame room budget))) = true
-starts _ = false
-
 -- a `.function`
 abbrev pub starts_function : Item → Bool
-starts_function i = starts i.said
-
-abbrev pub ends : Said → Bool
-ends (Ok (statements.Directive (directives.Function name kind frame room budget))) = true
-ends (Ok (statements.Malformed keywords.Function name)) = true
-ends _ = false
+starts_function i = elim i.said [ Ok (statements.Directive (directives.Function name kind frame room budget)) ↦ true | _ ↦ false ]
 
 -- a `.function`, whatever its operands: it ends the function before it
 abbrev pub ends_function : Item → Bool
-ends_function i = ends i.said
-
-abbrev pub divides : Said → Bool
-divides (Ok (statements.Directive (directives.Block name))) = true
-divides (Ok (statements.Malformed keywords.Block name)) = true
-divides _ = false
+ends_function i = starts_function i || elim i.said [ Ok (statements.Malformed keywords.Function name) ↦ true | _ ↦ false ]
 
 -- a `.block`, whatever its operands
 abbrev pub is_block : Item → Bool
-is_block i = divides i.said
+is_block i = elim i.said [ Ok (statements.Directive (directives.Block name)) ↦ true | Ok (statements.Malformed keywords.Block name) ↦ true | _ ↦ false ]
 
 -- a block ends where another one or a function begins
 abbrev pub ends_block : Item → Bool
-ends_block i = ends i.said || divides i.said
+ends_block i = ends_function i || is_block i
 
-abbrev pub chooses_data : Said → Bool
-chooses_data (Ok (statements.Directive directives.Data)) = true
-chooses_data _ = false
+abbrev pub is_text : Item → Bool
+is_text i = elim i.said [ Ok (statements.Directive directives.Text) ↦ true | _ ↦ false ]
 
--- a `.data`
 abbrev pub is_data : Item → Bool
-is_data i = chooses_data i.said
+is_data i = elim i.said [ Ok (statements.Directive directives.Data) ↦ true | _ ↦ false ]
 
-abbrev pub starts_region : Said → Bool
-starts_region (Ok (statements.Directive (directives.Region writable))) = true
-starts_region _ = false
-
--- a `.region`
 abbrev pub is_region : Item → Bool
-is_region i = starts_region i.said
-
-abbrev pub leaves : Said → Bool
-leaves (Ok (statements.Directive directives.Text)) = true
-leaves (Ok (statements.Directive (directives.Region writable))) = true
-leaves _ = false
-
--- a region is the section up to a `.text` or another `.region`
-abbrev pub leaves_region : Item → Bool
-leaves_region i = leaves i.said
-
-abbrev pub gives_bytes : Said → Bool
-gives_bytes (Ok (statements.Directive (directives.Values w n))) = true
-gives_bytes (Ok (statements.Directive (directives.Skip n))) = nat_lt 0 n
-gives_bytes _ = false
+is_region i = elim i.said [ Ok (statements.Directive (directives.Region writable)) ↦ true | _ ↦ false ]
 
 -- a list of values, or zeros; at the start of a region `.align` gives none
 abbrev pub has_bytes : Item → Bool
-has_bytes i = gives_bytes i.said
-
-abbrev pub tells_depth : Said → Bool
-tells_depth (Ok (statements.Directive (directives.Depth n))) = true
-tells_depth _ = false
-
--- a `.depth`
-abbrev pub is_depth : Item → Bool
-is_depth i = tells_depth i.said
-
--- whether a function is open behind an item, by whether one was before it
-abbrev pub leaves_open : Said → Bool → Bool
-leaves_open (Ok (statements.Directive (directives.Function name kind frame room budget))) was = true
-leaves_open (Ok (statements.Malformed keywords.Function name)) was = false
-leaves_open _ was = was
+has_bytes i = elim i.said [ Ok (statements.Directive (directives.Values w n)) ↦ true | Ok (statements.Directive (directives.Skip n)) ↦ nat_lt 0 n | _ ↦ false ]
 
 -- whether some items, the nearest first, end within a function
 abbrev pub in_function : List Item → Bool
 in_function [] = false
-in_function (i ∷ before) = leaves_open i.said (in_function before)
+in_function (i ∷ before) = if ends_function i then starts_function i else in_function before
 
 -- an item that begins a block: a `.function`, or a `.block` in one
 abbrev pub begins_block : List Item → Item → Bool
-begins_block before i = starts i.said || (divides i.said && in_function before)
+begins_block before i = starts_function i || (is_block i && in_function before)
 
 abbrev pub block_count : List Item → ℕ
 block_count [] = 0
@@ -171,37 +125,35 @@ block_count (i ∷ before) = if begins_block before i then block_count before + 
 
 -- ---- what an item has
 
-abbrev pub param_said : Said → List Range
-param_said (Ok (statements.Directive (directives.Param r))) = r ∷ []
-param_said _ = []
+abbrev pub services : Item → List Services
+services i = elim i.said [ Ok (statements.Directive (directives.Services x)) ↦ x ∷ [] | _ ↦ [] ]
 
-abbrev pub result_said : Said → List Range
-result_said (Ok (statements.Directive (directives.Result r))) = r ∷ []
-result_said _ = []
-
-abbrev pub depth_said : Said → List ℕ
-depth_said (Ok (statements.Directive (directives.Depth n))) = n ∷ []
-depth_said _ = []
-
-abbrev pub cell_said : Said → List Cell
-cell_said (Ok (statements.Directive (directives.Cell c))) = c ∷ []
-cell_said _ = []
-
-abbrev pub term_said : Said → List Term
-term_said (Ok (statements.Directive (directives.Term t))) = t ∷ []
-term_said _ = []
+abbrev pub stacks : Item → List ℕ
+stacks i = elim i.said [ Ok (statements.Directive (directives.Stack n)) ↦ n ∷ [] | _ ↦ [] ]
 
 abbrev pub params : Item → List Range
-params i = param_said i.said
+params i = elim i.said [ Ok (statements.Directive (directives.Param r)) ↦ r ∷ [] | _ ↦ [] ]
 
 abbrev pub results : Item → List Range
-results i = result_said i.said
+results i = elim i.said [ Ok (statements.Directive (directives.Result r)) ↦ r ∷ [] | _ ↦ [] ]
 
 abbrev pub depths : Item → List ℕ
-depths i = depth_said i.said
+depths i = elim i.said [ Ok (statements.Directive (directives.Depth n)) ↦ n ∷ [] | _ ↦ [] ]
+
+abbrev pub fuels : Item → List ℤ
+fuels i = elim i.said [ Ok (statements.Directive (directives.Fuel z)) ↦ z ∷ [] | _ ↦ [] ]
 
 abbrev pub cells : Item → List Cell
-cells i = cell_said i.said
+cells i = elim i.said [ Ok (statements.Directive (directives.Cell c)) ↦ c ∷ [] | _ ↦ [] ]
 
 abbrev pub terms : Item → List Term
-terms i = term_said i.said
+terms i = elim i.said [ Ok (statements.Directive (directives.Term t)) ↦ t ∷ [] | _ ↦ [] ]
+
+-- an item that has any of them
+abbrev pub has : {A : Type 0} → (Item → List A) → Item → Bool
+has of i = not (length (of i) == 0)
+
+-- the first of some values, else the default
+abbrev pub first_or : {A : Type 0} → A → List A → A
+first_or default [] = default
+first_or default (x ∷ xs) = x

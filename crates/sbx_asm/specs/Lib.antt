@@ -7,4 +7,3 @@ pub mod Images
 pub mod Meaning
 pub mod Stages
 pub mod Laws
-pub mod Examples

@@ -1,6 +1,5 @@
 -- What a source means: the image of its lines, or the fault that is told.
 use Rattle.std.specs.Prelude.{◌≡◌, ◌⊎◌, ℕ, ◌+◌, ◌==◌, ◌&&◌, not, nat_lt, Bool, if◌then◌else◌, List, length, Option, Some, None, Result, Ok, Err, MatchResult}
-use Rattle.sbx_image.specs.ImageFault.{ImageFault}
 use Rattle.sbx_image.specs.Parts.{Parts}
 use Rattle.sbx_image.specs.Region.{Region}
 use Rattle.sbx_image.specs.Regions.{page_rights}
@@ -22,22 +21,16 @@ pass_pages regions = nat_lt 64 (length (page_rights regions))
 abbrev pub whole_cause : Parts → Cause
 whole_cause p = if not (length p.functions == 0) && pass_pages p.regions then causes.Limit else causes.Directive
 
--- what is no image though no line has a fault is told at the line after the last
-abbrev pub kept : ℕ → Parts → Result (Unit {0}) ImageFault → Result Parts AsmFault
-kept after p (Ok u) = Ok p
-kept after p (Err f) = Err (at after (whole_cause p))
-
+-- the fault of the lines where one is told, else their image; what is none though no line has a fault is told at the line after the last
 abbrev pub judged : ℕ → Option AsmFault → Parts → Result Parts AsmFault
 judged after (Some f) p = Err f
-judged after None p = kept after p (parts_keep p)
+judged after None p = elim (parts_keep p) [ Ok u ↦ Ok p | Err f ↦ Err (at after (whole_cause p)) ]
 
--- the least fault of the lines where there is one, else their image
-abbrev pub meaning_of : List Item → Result Parts AsmFault
-meaning_of items = judged (length items + 1) (least_of (faults_of items)) (image_of items)
-
--- The image of a source, as its parts, or the fault that is told.
+-- The image of a source, as its parts, or the fault that is told: the least one.
 unfoldable pub source_image : List ℕ → Result Parts AsmFault
-source_image source = meaning_of (items_of source)
+source_image source =
+    let items : List Item = items_of source in
+    judged (length items + 1) (least_of (faults_of items)) (image_of items)
 
 -- what a call gives is this, but want of memory, told at line 0, may stand in the place of any answer
 abbrev pub Gives : Result Parts AsmFault → Result Parts AsmFault → Type 0

@@ -1,8 +1,7 @@
 //! The image of a draft.
-ghost use Rattle.std.specs.Prelude.{◌≡◌};
-ghost use Rattle.sbx_image.specs.Rules.{parts_keep};
+ghost use Rattle.std.specs.Prelude.{◌≡◌, None};
 ghost use Rattle.sbx_asm.specs.Images.{version_with};
-ghost use Rattle.sbx_asm.specs.Meaning.{kept, whole_cause, Gives};
+ghost use Rattle.sbx_asm.specs.Meaning.{judged, whole_cause, Gives};
 ghost use Rattle.sbx_asm.specs.Stages.Whole.{parts_in, image_in};
 
 use crate::draft::Draft;
@@ -51,7 +50,7 @@ fn parts_of(draft: Draft) -> Parts
 
 /// The image of parts; else a fault at the line after the last.
 fn image_of(after: usize, parts: Parts) -> Result<Image, AsmFault>
-    ensures { result ≡ kept after parts (parts_keep parts) }
+    ensures { result ≡ judged after None parts }
 {
     match Image::from_parts(parts) {
         Ok(image) => Ok(image),

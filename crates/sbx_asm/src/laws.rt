@@ -1,6 +1,5 @@
 //! What holds of the source meaning itself. Each law is the contract of a function that does nothing.
 ghost use Rattle.sbx_asm.specs.Laws.{MeantImagesFitTheirFields, CodeIsItsStatements, DataLieWhereLabelsSay, RegionsBeginWhereLabelsSay, WordsLookAheadByLabelsAlone, BlankLinesSayNothing, BlankLinesChangeNothing, NumbersShowInFaultsAlone, LabelsMayBeRenamed, TheLeastFaultIsTold};
-ghost use Rattle.sbx_asm.specs.Examples.{KnownSourcesHaveTheirMeanings};
 
 /// Of each image that a source means, each number is one that its field can hold, and its regions have bytes.
 pub fn meant_images_fit_their_fields()
@@ -46,11 +45,4 @@ pub fn labels_may_be_renamed()
 #[tactic(auto, using(crate::proofs::Meanings::least_told))]
 pub fn the_least_fault_is_told()
     ensures { TheLeastFaultIsTold }
-{}
-
-/// What an empty source and three short programs mean, one of them with regions and one with a depth, worked out from the
-/// definitions.
-#[tactic(auto, using(crate::proofs::Worked::known_meanings))]
-pub fn known_sources_have_their_meanings()
-    ensures { KnownSourcesHaveTheirMeanings }
 {}

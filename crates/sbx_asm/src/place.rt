@@ -2,13 +2,12 @@
 ghost use Rattle.std.specs.Prelude.{◌≡◌, ◌+◌, ◌*◌, ◌≤◌};
 ghost use Rattle.sbx_directives.specs.Data.{bytes_of_width};
 ghost use Rattle.sbx_image.specs.Regions.{pages_for};
-ghost use Rattle.sbx_asm.specs.Addresses.{last_start, padding_of, section_room, start_behind, up_to_last};
+ghost use Rattle.sbx_asm.specs.Addresses.{last_start, padding_of, section_room, start_behind};
 ghost use Rattle.sbx_asm.specs.Stages.Places.{start, code_end, has_room, moved_on, with_code, with_data, address, directed, place_after};
 
+use crate::reading::Line;
 use sbx_directives::{Directive, Statement, Width, byte_len};
-use sbx_text::Token;
 use v8_map::{CODE_END, CODE_START, DATA_START};
-use v8_syntax::length_of;
 
 /// What an ordinary line adds to.
 #[derive(Clone, Copy)]
@@ -158,15 +157,16 @@ impl Place {
         }
     }
 
-    /// Where the next line stands: behind the statement of `tokens`.
+    /// Where the next line stands.
     #[tactic(auto, unfolding(crate::specs::Stages::Places::place_after))]
-    pub fn after(self, line: &[u8], tokens: &[Token], statement: Statement) -> Place
-        ensures { result ≡ place_after line.now tokens.now statement self }
+    pub fn after(self, line: &Line<'_>) -> Place
+        ensures { result ≡ place_after line.now line.now.said self }
     {
-        match statement {
-            Statement::Nothing | Statement::Malformed(..) => self,
-            Statement::Directive(directive) => self.directed(directive),
-            Statement::Instruction => self.with_code(4 * length_of(line, tokens) as u128),
+        match line.said {
+            Ok(Statement::Nothing | Statement::Malformed(..)) => self,
+            Ok(Statement::Directive(directive)) => self.directed(directive),
+            Ok(Statement::Instruction) => self.with_code(line.code_len()),
+            Err(_) => self.with_code(4),
         }
     }
 }

@@ -1,12 +1,47 @@
-//! The tokens of a line.
+//! The lines of a source, each of them read once.
 ghost use Rattle.std.specs.Prelude.{◌≡◌, IfOk, MatchResult, Ok, Err, drop, ◌*◌};
 ghost use Rattle.sbx_text.specs.Tokens.{tokens_of};
+ghost use Rattle.v8_syntax.specs.Statements.{statement_length};
+ghost use Rattle.sbx_asm.specs.Items.{item_of, items_of};
 
+use crate::growing::Growing;
+use crate::lines::first_line;
+use sbx_directives::{Statement, label_count, read_statement};
 use sbx_text::{TextFault, Token, tokens};
 use std::alloc::{AllocError, Global};
+use std::marker::Model;
+use v8_syntax::length_of;
+
+/// A line of a source. Contracts see the item that it is.
+#[derive(Drop)]
+pub struct Line<'a> {
+    /// From 1.
+    pub number: usize,
+    pub bytes: &'a [u8],
+    /// None where the line has a fault of its text.
+    pub tokens: Vec<Token>,
+    /// How many labels its tokens begin with.
+    pub label_count: usize,
+    /// How many words what stands behind them takes, if it is an instruction.
+    words: usize,
+    /// What stands behind the labels, or why there are no tokens.
+    pub said: Result<Statement, TextFault>,
+}
+
+impl<'a> Model for Line<'a> {
+    ghost use Rattle.std.specs.Prelude.{◌≡◌, ◌*◌, drop};
+    ghost use Rattle.v8_syntax.specs.Statements.{statement_length};
+    ghost use Rattle.sbx_asm.specs.Items.{Item, label_names};
+
+    ghost Value = { Item };
+
+    ghost view = { λ l. record { number = l.number; labels = label_names l.bytes.now l.label_count l.tokens.items; bytes = l.bytes.now; tokens = drop (2 * l.label_count) l.tokens.items; said = l.said } };
+
+    ghost invariant = { λ l. l.words ≡ statement_length l.bytes.now (drop (2 * l.label_count) l.tokens.items) };
+}
 
 /// The tokens of a line, or why it has none.
-pub fn read_tokens(alloc: Global, line: &[u8]) -> Result<Result<Vec<Token>, TextFault>, AllocError>
+fn read_tokens(alloc: Global, line: &[u8]) -> Result<Result<Vec<Token>, TextFault>, AllocError>
     ensures { IfOk result (λ read. MatchResult read (λ found. tokens_of line.now ≡ Ok found.items) (λ fault. tokens_of line.now ≡ Err fault)) }
 {
     match tokens(alloc, line) {
@@ -22,7 +57,7 @@ pub fn read_tokens(alloc: Global, line: &[u8]) -> Result<Result<Vec<Token>, Text
 }
 
 /// The tokens behind so many labels.
-pub fn behind_labels(tokens: &[Token], count: usize) -> &[Token]
+fn behind_labels(tokens: &[Token], count: usize) -> &[Token]
     ensures { result.now ≡ drop (2 * count) tokens.now }
 {
     if count <= tokens.len() / 2 {
@@ -30,4 +65,66 @@ pub fn behind_labels(tokens: &[Token], count: usize) -> &[Token]
     } else {
         &[]
     }
+}
+
+impl<'a> Line<'a> {
+    /// Reads a line of that number.
+    fn read(alloc: Global, number: usize, bytes: &'a [u8]) -> Result<Line<'a>, AllocError>
+        ensures { IfOk result (λ line. line ≡ item_of (number, bytes.now)) }
+    {
+        match read_tokens(alloc, bytes)? {
+            Ok(tokens) => {
+                let label_count = label_count(bytes, tokens.as_slice());
+                let behind = behind_labels(tokens.as_slice(), label_count);
+                let words = length_of(bytes, behind);
+                let said = Ok(read_statement(bytes, behind));
+                Ok(Line {
+                    number,
+                    bytes,
+                    tokens,
+                    label_count,
+                    words,
+                    said,
+                })
+            }
+            Err(fault) => Ok(Line {
+                number,
+                bytes,
+                tokens: Vec::new(alloc),
+                label_count: 0,
+                words: 1,
+                said: Err(fault),
+            }),
+        }
+    }
+
+    /// The tokens behind the labels.
+    pub fn behind_labels(&self) -> &[Token]
+        ensures { result.now ≡ self.now.tokens }
+    {
+        behind_labels(self.tokens.as_slice(), self.label_count)
+    }
+
+    /// How many bytes of code its instruction takes.
+    pub fn code_len(&self) -> u128
+        ensures { result ≡ 4 * statement_length self.now.bytes self.now.tokens }
+    {
+        4 * self.words as u128
+    }
+}
+
+/// The lines of a source.
+pub fn read_lines<'a>(alloc: Global, source: &'a [u8]) -> Result<Growing<Line<'a>>, AllocError>
+    ensures { IfOk result (λ lines. lines ≡ items_of source.now) }
+{
+    let mut lines = Growing::new(alloc);
+    let mut number = 0;
+    let mut rest = source;
+    while rest.len() > 0 {
+        number += 1;
+        let (line, after) = first_line(rest);
+        lines.push(Line::read(alloc, number, line)?)?;
+        rest = after;
+    }
+    Ok(lines)
 }

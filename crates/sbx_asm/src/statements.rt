@@ -3,23 +3,22 @@ ghost use Rattle.std.specs.Prelude.{◌≡◌, ◌*◌, ◌++◌, IfOk, Ok, Err,
 ghost use Rattle.v8_formats.specs.Spelling.{spelling};
 ghost use Rattle.v8_syntax.specs.Statements.{source_meaning};
 ghost use Rattle.sbx_directives.specs.Data.{data_of};
-ghost use Rattle.sbx_asm.specs.Rules.{is_code};
+ghost use Rattle.sbx_asm.specs.Addresses.{is_code};
 ghost use Rattle.sbx_asm.specs.Stages.Labels.{worth};
-ghost use Rattle.sbx_asm.specs.Stages.Drafts.{data_checked, with_bytes, with_zeros, add_values, add_zeros, directive_does, instruction_checked, begun, with_words, instruction_does, statement_does, behind_labels, draft_tokens, numbered_line, draft_line};
+ghost use Rattle.sbx_asm.specs.Stages.Drafts.{data_checked, with_bytes, with_zeros, add_values, add_zeros, directive_does, instruction_checked, begun, with_words, instruction_does, statement_does, line_does, numbered_line, draft_item};
 
 use crate::draft::Draft;
 use crate::fault::Cause;
 use crate::growing::Growing;
 use crate::place::{ROOM, Section, bytes_of_values, has_room, padding};
-use crate::reading::{behind_labels, read_tokens};
+use crate::reading::Line;
 use crate::scope::Scope;
 use crate::table::Table;
-use sbx_directives::{DataFault, Directive, Statement, Width, label_count, read_statement};
-use sbx_text::Token;
+use sbx_directives::{DataFault, Directive, Statement, Width};
 use std::alloc::{AllocError, Global};
 use v8_formats::{Instr, encode};
 use v8_map::CODE_END;
-use v8_syntax::{SyntaxFault, length_of, parse_instr};
+use v8_syntax::{SyntaxFault, parse_instr};
 
 /// The most lines.
 const LINES: usize = 1_000_000;
@@ -58,16 +57,19 @@ impl Draft {
     fn add_values(
         &mut self,
         table: &Table<'_>,
-        line: &[u8],
-        tokens: &[Token],
+        line: &Line<'_>,
         width: Width,
         count: usize,
     ) -> Result<(), AllocError>
-        ensures { IfOk result (λ _. self.new ≡ add_values width count (data_of (worth table.now) line.now width tokens.now) self.old) }
+        ensures { IfOk result (λ _. self.new ≡ add_values width count (data_of (worth table.now) line.now.bytes width line.now.tokens) self.old) }
     {
         self.check_data(bytes_of_values(width, count));
         let scope = Scope { table, here: 0 };
-        match self.region.bytes.push_values(width, &scope, line, tokens) {
+        match self
+            .region
+            .bytes
+            .push_values(width, &scope, line.bytes, line.behind_labels())
+        {
             Ok(()) => {}
             Err(DataFault::UnknownSymbol) => {
                 self.note(Cause::Syntax(SyntaxFault::UnknownSymbol));
@@ -95,11 +97,10 @@ impl Draft {
         &mut self,
         alloc: Global,
         table: &Table<'_>,
-        line: &[u8],
-        tokens: &[Token],
+        line: &Line<'_>,
         directive: Directive,
     ) -> Result<(), AllocError>
-        ensures { IfOk result (λ _. self.new ≡ directive_does (worth table.now) line.now tokens.now directive self.old) }
+        ensures { IfOk result (λ _. self.new ≡ directive_does (worth table.now) line.now directive self.old) }
     {
         match directive {
             Directive::Text => self.leave_region(),
@@ -122,7 +123,7 @@ impl Draft {
             Directive::Fuel(fuel) => self.add_fuel(fuel),
             Directive::Term(term) => self.add_term(term)?,
             Directive::Values(width, count) => {
-                self.add_values(table, line, tokens, width, count)?;
+                self.add_values(table, line, width, count)?;
                 self.with_bytes(true);
             }
             Directive::Skip(count) => {
@@ -136,31 +137,25 @@ impl Draft {
         Ok(())
     }
 
-    fn check_instruction(&mut self, line: &[u8], tokens: &[Token])
-        ensures { self.new ≡ instruction_checked line.now tokens.now self.old }
+    fn check_instruction(&mut self, line: &Line<'_>)
+        ensures { self.new ≡ instruction_checked line.now self.old }
     {
-        let bytes = 4 * length_of(line, tokens) as u128;
-        let room = has_room(CODE_END, self.place.next_word, bytes);
+        let room = has_room(CODE_END, self.place.next_word, line.code_len());
         let placed = is_code(self.place.section) && self.function.head.is_some();
         self.note_where(!placed, Cause::Directive);
         self.note_where(!room, Cause::Limit);
     }
 
     #[tactic(auto, unfolding(crate::specs::Stages::Drafts::instruction_does))]
-    fn instruction_does(
-        &mut self,
-        table: &Table<'_>,
-        line: &[u8],
-        tokens: &[Token],
-    ) -> Result<(), AllocError>
-        ensures { IfOk result (λ _. self.new ≡ instruction_does (worth table.now) line.now tokens.now self.old) }
+    fn instruction_does(&mut self, table: &Table<'_>, line: &Line<'_>) -> Result<(), AllocError>
+        ensures { IfOk result (λ _. self.new ≡ instruction_does (worth table.now) line.now self.old) }
     {
-        self.check_instruction(line, tokens);
+        self.check_instruction(line);
         let scope = Scope {
             table,
             here: self.place.next_word,
         };
-        match parse_instr(line, tokens, &scope) {
+        match parse_instr(line.bytes, line.behind_labels(), &scope) {
             Ok(instructions) => push_words(&mut self.words, instructions.as_slice())?,
             Err(fault) => self.note(Cause::Syntax(fault)),
         }
@@ -173,37 +168,19 @@ impl Draft {
         &mut self,
         alloc: Global,
         table: &Table<'_>,
-        line: &[u8],
-        tokens: &[Token],
+        line: &Line<'_>,
         statement: Statement,
     ) -> Result<(), AllocError>
-        ensures { IfOk result (λ _. self.new ≡ statement_does (worth table.now) line.now tokens.now statement self.old) }
+        ensures { IfOk result (λ _. self.new ≡ statement_does (worth table.now) line.now statement self.old) }
     {
         match statement {
             Statement::Nothing => Ok(()),
             Statement::Directive(directive) => {
-                self.directive_does(alloc, table, line, tokens, directive)
+                self.directive_does(alloc, table, line, directive)
             }
             Statement::Malformed(keyword, _) => self.malformed(alloc, keyword),
-            Statement::Instruction => self.instruction_does(table, line, tokens),
+            Statement::Instruction => self.instruction_does(table, line),
         }
-    }
-
-    #[tactic(auto, unfolding(crate::specs::Stages::Drafts::behind_labels))]
-    fn behind_labels(
-        &mut self,
-        alloc: Global,
-        table: &Table<'_>,
-        line: &[u8],
-        tokens: &[Token],
-    ) -> Result<(), AllocError>
-        ensures { IfOk result (λ _. self.new ≡ behind_labels (worth table.now) line.now tokens.now self.old) }
-    {
-        let statement = read_statement(line, tokens);
-        let place = self.place.after(line, tokens, statement);
-        self.statement_does(alloc, table, line, tokens, statement)?;
-        self.place = place;
-        Ok(())
     }
 
     #[tactic(auto, unfolding(crate::specs::Stages::Drafts::numbered_line))]
@@ -214,30 +191,38 @@ impl Draft {
         self.note_where(number > LINES, Cause::Limit);
     }
 
-    /// One more line, of that number.
-    #[tactic(auto, unfolding(crate::specs::Stages::Drafts::draft_line))]
+    fn line_does(
+        &mut self,
+        alloc: Global,
+        table: &Table<'_>,
+        line: &Line<'_>,
+    ) -> Result<(), AllocError>
+        ensures { IfOk result (λ _. self.new ≡ line_does (worth table.now) line.now line.now.said self.old) }
+    {
+        match line.said {
+            Ok(statement) => self.statement_does(alloc, table, line, statement)?,
+            Err(fault) => {
+                self.note(Cause::Text(fault));
+                self.block.begun = true;
+            }
+        }
+        Ok(())
+    }
+
+    /// One more line.
+    #[tactic(auto, unfolding(crate::specs::Stages::Drafts::draft_item))]
     pub fn add_line(
         &mut self,
         alloc: Global,
         table: &Table<'_>,
-        number: usize,
-        line: &[u8],
+        line: &Line<'_>,
     ) -> Result<(), AllocError>
-        ensures { IfOk result (λ _. self.new ≡ draft_line (worth table.now) self.old (number, line.now)) }
+        ensures { IfOk result (λ _. self.new ≡ draft_item (worth table.now) self.old line.now) }
     {
-        self.begin_line(number);
-        match read_tokens(alloc, line)? {
-            Ok(found) => {
-                let count = label_count(line, found.as_slice());
-                let rest = behind_labels(found.as_slice(), count);
-                self.behind_labels(alloc, table, line, rest)
-            }
-            Err(fault) => {
-                self.note(Cause::Text(fault));
-                self.block.begun = true;
-                self.place = self.place.with_code(4);
-                Ok(())
-            }
-        }
+        self.begin_line(line.number);
+        let place = self.place.after(line);
+        self.line_does(alloc, table, line)?;
+        self.place = place;
+        Ok(())
     }
 }

@@ -1,15 +1,17 @@
 //! Where each label stands.
-ghost use Rattle.std.specs.Prelude.{◌≡◌, IfOk, List};
+ghost use Rattle.std.specs.Prelude.{◌≡◌, IfOk, MatchOption, [], ◌∷◌};
 ghost use Rattle.std.specs.List.{fold};
+ghost use Rattle.sbx_directives.specs.Lines.{text_of};
 ghost use Rattle.sbx_asm.specs.Items.{label_names};
-ghost use Rattle.sbx_asm.specs.Stages.Labels.{no_lines, labels_of, add, add_here, name_it, names_of, survey_statement, survey_line};
+ghost use Rattle.sbx_asm.specs.Addresses.{names_said};
+ghost use Rattle.sbx_asm.specs.Stages.Labels.{no_lines, labels_of, add, add_at, survey_item};
 
 use crate::fault::{AsmFault, Cause, told};
 use crate::place::Place;
-use crate::reading::{behind_labels, read_tokens};
+use crate::reading::Line;
 use crate::table::Table;
-use sbx_directives::{Directive, Name, Statement, label_count, read_statement, text_of};
-use sbx_text::Token;
+use sbx_directives::{Directive, Name, Statement, text_of};
+use sbx_text::{TextFault, Token};
 use std::alloc::{AllocError, Global};
 use v8_syntax::after_first;
 
@@ -19,6 +21,19 @@ pub struct Survey<'a> {
     pub table: Table<'a>,
     pub place: Place,
     pub fault: Option<AsmFault>,
+}
+
+/// The name of a function or of a block, whatever its other operands.
+fn name_said(line: &[u8], said: Result<Statement, TextFault>) -> Option<Name>
+    ensures { MatchOption result (names_said line.now said ≡ []) (λ name. names_said line.now said ≡ text_of line.now name ∷ []) }
+{
+    match said {
+        Ok(Statement::Directive(Directive::Function { name, .. } | Directive::Block(name))) => {
+            Some(name)
+        }
+        Ok(Statement::Malformed(_, name)) => name,
+        _ => None,
+    }
 }
 
 impl<'a> Survey<'a> {
@@ -51,15 +66,16 @@ impl<'a> Survey<'a> {
         Ok(())
     }
 
-    /// So many labels of a line, which stand in front of `tokens`.
+    /// So many labels of a line at an address, which stand in front of `tokens`.
     fn labels(
         &mut self,
         number: usize,
+        address: u32,
         line: &'a [u8],
         count: usize,
         tokens: &[Token],
     ) -> Result<(), AllocError>
-        ensures { IfOk result (λ _. labels_of self.new ≡ fold (add_here number) (labels_of self.old) (label_names line.now count tokens.now)) }
+        ensures { IfOk result (λ _. labels_of self.new ≡ fold (add_at number address) (labels_of self.old) (label_names line.now count tokens.now)) }
     {
         let mut rest = tokens;
         for _ in 0..count {
@@ -71,103 +87,43 @@ impl<'a> Survey<'a> {
                 start,
                 stop,
             } = *first;
-            self.add(
-                number,
-                text_of(line, Name { start, stop }),
-                self.place.address(),
-            )?;
+            self.add(number, text_of(line, Name { start, stop }), address)?;
             rest = after_first(after);
         }
         Ok(())
     }
 
-    fn name_it(
+    /// The name of a function or of a block.
+    fn name(
         &mut self,
         number: usize,
+        address: u32,
         line: &'a [u8],
-        directive: Directive,
+        said: Result<Statement, TextFault>,
     ) -> Result<(), AllocError>
-        ensures { IfOk result (λ _. labels_of self.new ≡ name_it number line.now directive (labels_of self.old)) }
+        ensures { IfOk result (λ _. labels_of self.new ≡ fold (add_at number address) (labels_of self.old) (names_said line.now said)) }
     {
-        match directive {
-            Directive::Function { name, .. } | Directive::Block(name) => {
-                self.add(number, text_of(line, name), self.place.next_word)
-            }
-            Directive::Text
-            | Directive::Data
-            | Directive::Region { .. }
-            | Directive::Services(_)
-            | Directive::Stack(_)
-            | Directive::Param(_)
-            | Directive::Result(_)
-            | Directive::Depth(_)
-            | Directive::Cell(_)
-            | Directive::Fuel(_)
-            | Directive::Term(_)
-            | Directive::Values(..)
-            | Directive::Skip(_)
-            | Directive::Align(_) => Ok(()),
+        match name_said(line, said) {
+            Some(name) => self.add(number, text_of(line, name), address),
+            None => Ok(()),
         }
     }
 
-    /// The name of a function or of a block, whatever its other operands.
-    #[tactic(auto, unfolding(crate::specs::Stages::Labels::names_of))]
-    fn names_of(
-        &mut self,
-        number: usize,
-        line: &'a [u8],
-        statement: Statement,
-    ) -> Result<(), AllocError>
-        ensures { IfOk result (λ _. labels_of self.new ≡ names_of number line.now statement (labels_of self.old)) }
+    /// One more line.
+    #[tactic(auto, unfolding(crate::specs::Stages::Labels::survey_item))]
+    pub fn add_line(&mut self, line: &Line<'a>) -> Result<(), AllocError>
+        ensures { IfOk result (λ _. labels_of self.new ≡ survey_item (labels_of self.old) line.now) }
     {
-        match statement {
-            Statement::Directive(directive) => self.name_it(number, line, directive),
-            Statement::Malformed(_, name) => match name {
-                Some(name) => self.add(number, text_of(line, name), self.place.next_word),
-                None => Ok(()),
-            },
-            Statement::Nothing | Statement::Instruction => Ok(()),
-        }
-    }
-}
-
-impl<'a> Survey<'a> {
-    #[tactic(auto, unfolding(crate::specs::Stages::Labels::survey_statement))]
-    fn statement(
-        &mut self,
-        number: usize,
-        line: &'a [u8],
-        tokens: &[Token],
-    ) -> Result<(), AllocError>
-        ensures { IfOk result (λ _. labels_of self.new ≡ survey_statement number line.now tokens.now (labels_of self.old)) }
-    {
-        let statement = read_statement(line, tokens);
-        let place = self.place.after(line, tokens, statement);
-        self.names_of(number, line, statement)?;
-        self.place = place;
+        let place = self.place;
+        self.labels(
+            line.number,
+            place.address(),
+            line.bytes,
+            line.label_count,
+            line.tokens.as_slice(),
+        )?;
+        self.name(line.number, place.next_word, line.bytes, line.said)?;
+        self.place = place.after(line);
         Ok(())
-    }
-
-    /// One more line, of that number.
-    #[tactic(auto, unfolding(crate::specs::Stages::Labels::survey_line))]
-    pub fn add_line(
-        &mut self,
-        alloc: Global,
-        number: usize,
-        line: &'a [u8],
-    ) -> Result<(), AllocError>
-        ensures { IfOk result (λ _. labels_of self.new ≡ survey_line (labels_of self.old) (number, line.now)) }
-    {
-        match read_tokens(alloc, line)? {
-            Ok(found) => {
-                let count = label_count(line, found.as_slice());
-                self.labels(number, line, count, found.as_slice())?;
-                self.statement(number, line, behind_labels(found.as_slice(), count))
-            }
-            Err(_) => {
-                self.place = self.place.with_code(4);
-                Ok(())
-            }
-        }
     }
 }

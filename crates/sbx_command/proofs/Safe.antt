@@ -5,10 +5,14 @@ use Rattle.sbx_image.specs.Parts.{Parts}
 use Rattle.sbx_image.specs.Rules.{parts_keep}
 use Rattle.sbx_image.proofs.AgainLaws.{reading_again}
 use Rattle.sbx_asm.specs.declared.fault.AsmFault.{AsmFault}
-use Rattle.sbx_asm.specs.Meaning.{source_image, judged, kept}
+use Rattle.sbx_asm.specs.Faults.{at}
+use Rattle.sbx_asm.specs.Meaning.{source_image, judged, whole_cause}
 use Rattle.sbx_asm.proofs.Fitting.{meant_images_fit}
 use Rattle.sbx_stream.proofs.Whole.{checked_is_safe}
 use Rattle.sbx_command.specs.Laws.{SourcesAreSafe}
+
+abbrev kept : ℕ → Parts → Result (Unit {0}) ImageFault → Result Parts AsmFault
+kept after p verdict = elim verdict [ Ok u ↦ Ok p | Err f ↦ Err (at after (whole_cause p)) ]
 
 kept_keeps : (after : ℕ) (p parts : Parts) (verdict : Result (Unit {0}) ImageFault) → parts_keep p ≡ verdict → kept after p verdict ≡ Ok parts
     → parts_keep parts ≡ Ok tt

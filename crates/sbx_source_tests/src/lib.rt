@@ -10,6 +10,7 @@ mod depths;
 mod directives;
 #[cfg(test)]
 mod instructions;
+pub mod laws;
 #[cfg(test)]
 mod limits;
 #[cfg(test)]

@@ -1,10 +1,7 @@
 -- The image of a source: the fold over the lines, with the addresses of all labels known.
-use Rattle.std.specs.Prelude.{ℕ, ◌+◌, ◌*◌, ◌==◌, Bool, true, false, not, ◌&&◌, ◌||◌, nat_lt, nat_le, if◌then◌else◌, ℤ, pos, List, [], ◌∷◌, ◌++◌, length, map, drop, replicate, Option, Some, None, Result, Ok, Err}
+use Rattle.std.specs.Prelude.{ℕ, ◌+◌, ◌*◌, ◌==◌, Bool, true, false, not, ◌&&◌, ◌||◌, nat_lt, nat_le, if◌then◌else◌, ℤ, pos, List, [], ◌∷◌, ◌++◌, length, map, replicate, Option, Some, None, Result, Ok, Err}
 use Rattle.std.specs.Option.{is_some, unwrap_or}
 use Rattle.std.specs.List.{fold}
-use Rattle.sbx_text.specs.declared.Token.{Token}
-use Rattle.sbx_text.specs.declared.fault.TextFault.{TextFault}
-use Rattle.sbx_text.specs.Tokens.{tokens_of}
 use Rattle.v8_formats.specs.declared.instr.Instr.{Instr}
 use Rattle.v8_formats.specs.Spelling.{spelling}
 use Rattle.v8_syntax.specs.declared.fault.SyntaxFault.{SyntaxFault}
@@ -26,8 +23,6 @@ use Rattle.sbx_directives.specs.declared.directive.Statement.{Statement}
 use Rattle.sbx_directives.specs.declared.directive.Statement.TheVariants as statements
 use Rattle.sbx_directives.specs.declared.fault.DataFault.{DataFault}
 use Rattle.sbx_directives.specs.declared.fault.DataFault.TheVariants as data_faults
-use Rattle.sbx_directives.specs.Lines.{label_count}
-use Rattle.sbx_directives.specs.Directives.{statement_of}
 use Rattle.sbx_directives.specs.Data.{data_of, bytes_of_width}
 use Rattle.sbx_asm.specs.declared.fault.AsmFault.{AsmFault}
 use Rattle.sbx_asm.specs.declared.fault.Cause.{Cause}
@@ -38,10 +33,11 @@ use Rattle.sbx_asm.specs.declared.opening.OpenFunction.{OpenFunction}
 use Rattle.sbx_asm.specs.declared.regions.OpenRegion.{OpenRegion}
 use Rattle.sbx_asm.specs.declared.draft.Draft.{Draft}
 use Rattle.sbx_asm.specs.Faults.{told, at}
-use Rattle.sbx_asm.specs.Addresses.{padding_of, section_room}
+use Rattle.sbx_asm.specs.Items.{Item, Said}
+use Rattle.sbx_asm.specs.Addresses.{padding_of, section_room, is_code}
 use Rattle.sbx_asm.specs.Images.{filled, region_with}
-use Rattle.sbx_asm.specs.Stages.Places.{start, code_end, has_room, with_code, place_after}
-use Rattle.sbx_asm.specs.Rules.{Values, when, is_code}
+use Rattle.sbx_asm.specs.Stages.Places.{start, code_end, has_room, place_after}
+use Rattle.sbx_asm.specs.Rules.{Values, when}
 
 -- ---- faults
 
@@ -124,22 +120,7 @@ begin_block d = begin_block_of d.function.head d
 abbrev pub malformed : Keyword → Draft → Draft
 malformed keywords.Function d = noted causes.Directive (close_function d)
 malformed keywords.Block d = noted causes.Directive (begin_block d)
-malformed keywords.Text d = noted causes.Directive d
-malformed keywords.Data d = noted causes.Directive d
-malformed keywords.Region d = noted causes.Directive d
-malformed keywords.Services d = noted causes.Directive d
-malformed keywords.Stack d = noted causes.Directive d
-malformed keywords.Param d = noted causes.Directive d
-malformed keywords.Result d = noted causes.Directive d
-malformed keywords.Depth d = noted causes.Directive d
-malformed keywords.Cell d = noted causes.Directive d
-malformed keywords.Fuel d = noted causes.Directive d
-malformed keywords.Term d = noted causes.Directive d
-malformed keywords.Word d = noted causes.Directive d
-malformed keywords.Half d = noted causes.Directive d
-malformed keywords.Byte d = noted causes.Directive d
-malformed keywords.Skip d = noted causes.Directive d
-malformed keywords.Align d = noted causes.Directive d
+malformed _ d = noted causes.Directive d
 
 -- ---- annotations
 
@@ -286,17 +267,17 @@ unfoldable pub add_zeros : ℕ → Draft → Draft
 add_zeros n d = with_zeros (has_room section_room d.place.region_bytes n) n (data_checked n d)
 
 -- an instruction stands in the code, in a function, within the limit
-abbrev pub instruction_checked : List ℕ → List Token → Draft → Draft
-instruction_checked line ts d =
-    noted_where (not (has_room code_end d.place.next_word (4 * statement_length line ts))) causes.Limit
+abbrev pub instruction_checked : Item → Draft → Draft
+instruction_checked i d =
+    noted_where (not (has_room code_end d.place.next_word (4 * statement_length i.bytes i.tokens))) causes.Limit
     (noted_where (not (is_code d.place.section && is_some d.function.head)) causes.Directive d)
 
 abbrev pub with_words : Result (List Instr) SyntaxFault → Draft → Draft
 with_words (Ok is) d = record d { words = d.words ++ map spelling is }
 with_words (Err f) d = noted (causes.Syntax f) d
 
--- the labels' values, the line and its tokens behind the labels
-module _ (values : Values) (line : List ℕ) (ts : List Token) where
+-- the labels' values, and the line
+module _ (values : Values) (i : Item) where
   abbrev pub directive_does : Directive → Draft → Draft
   directive_does directives.Text d = leave_region d
   directive_does directives.Data d = choose_data d
@@ -311,12 +292,12 @@ module _ (values : Values) (line : List ℕ) (ts : List Token) where
   directive_does (directives.Cell c) d = add_cell c d
   directive_does (directives.Fuel z) d = add_fuel z d
   directive_does (directives.Term t) d = add_term t d
-  directive_does (directives.Values w n) d = with_bytes true (add_values w n (data_of values line w ts) d)
+  directive_does (directives.Values w n) d = with_bytes true (add_values w n (data_of values i.bytes w i.tokens) d)
   directive_does (directives.Skip n) d = with_bytes (nat_lt 0 n) (add_zeros n d)
   directive_does (directives.Align n) d = add_zeros (padding_of n d.place.region_bytes) d
 
   unfoldable pub instruction_does : Draft → Draft
-  instruction_does d = begun (with_words (source_meaning values d.place.next_word line ts) (instruction_checked line ts d))
+  instruction_does d = begun (with_words (source_meaning values d.place.next_word i.bytes i.tokens) (instruction_checked i d))
 
   unfoldable pub statement_does : Statement → Draft → Draft
   statement_does statements.Nothing d = d
@@ -324,20 +305,21 @@ module _ (values : Values) (line : List ℕ) (ts : List Token) where
   statement_does (statements.Malformed k name) d = malformed k d
   statement_does statements.Instruction d = instruction_does d
 
-  unfoldable pub behind_labels : Draft → Draft
-  behind_labels d = record (statement_does (statement_of line ts) d) { place = place_after line ts (statement_of line ts) d.place }
+  -- a line without tokens counts as an instruction
+  abbrev pub line_does : Said → Draft → Draft
+  line_does (Ok s) d = statement_does s d
+  line_does (Err f) d = begun (noted (causes.Text f) d)
 
--- a line without tokens counts as an instruction, one word long
-abbrev pub draft_tokens : Values → List ℕ → Draft → Result (List Token) TextFault → Draft
-draft_tokens values line d (Err f) = record d { fault = told d.fault (at d.line (causes.Text f)); block = record d.block { begun = true }; place = with_code 4 d.place }
-draft_tokens values line d (Ok ts) = behind_labels values line (drop (2 * label_count line ts) ts) d
+  -- what it says, and the place behind it
+  abbrev pub said_does : Said → Draft → Draft
+  said_does s d = record (line_does s d) { place = place_after i s d.place }
 
 -- at most 1,000,000 lines
 unfoldable pub numbered_line : ℕ → Draft → Draft
 numbered_line number d = noted_where (nat_lt 1000000 number) causes.Limit (record d { line = number })
 
-unfoldable pub draft_line : Values → Draft → ℕ × List ℕ → Draft
-draft_line values d x = draft_tokens values x.1 (numbered_line x.0 d) (tokens_of x.1)
+unfoldable pub draft_item : Values → Draft → Item → Draft
+draft_item values d i = said_does values i i.said (numbered_line i.number d)
 
 -- before the first line, with the fault that is told already
 abbrev pub empty_draft : Option AsmFault → Draft

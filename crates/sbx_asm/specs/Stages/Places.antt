@@ -1,16 +1,15 @@
 -- Places of a source: how far the code and the data have come.
-use Rattle.std.specs.Prelude.{ℕ, ◌+◌, ◌-◌, ◌*◌, Bool, nat_le, min, if◌then◌else◌, List}
+use Rattle.std.specs.Prelude.{ℕ, ◌+◌, ◌-◌, ◌*◌, Bool, nat_le, min, if◌then◌else◌, Ok, Err}
 use Rattle.v8_map.specs.declared.TheConstants.{CODE_START, CODE_END, DATA_START}
-use Rattle.sbx_text.specs.declared.Token.{Token}
 use Rattle.v8_syntax.specs.Statements.{statement_length}
 use Rattle.sbx_directives.specs.declared.directive.Directive.{Directive}
 use Rattle.sbx_directives.specs.declared.directive.Directive.TheVariants as directives
-use Rattle.sbx_directives.specs.declared.directive.Statement.{Statement}
 use Rattle.sbx_directives.specs.declared.directive.Statement.TheVariants as statements
 use Rattle.sbx_directives.specs.Data.{bytes_of_width}
 use Rattle.sbx_asm.specs.declared.place.Section.{Section}
 use Rattle.sbx_asm.specs.declared.place.Section.TheVariants.{Code, Data}
 use Rattle.sbx_asm.specs.declared.place.Place.{Place}
+use Rattle.sbx_asm.specs.Items.{Item, Said}
 use Rattle.sbx_asm.specs.Addresses.{padding_of, section_room, start_behind}
 
 -- the code begins and ends where the address map has it, and the data begin there
@@ -45,23 +44,15 @@ abbrev pub directed : Directive → Place → Place
 directed directives.Text p = record p { section = Code }
 directed directives.Data p = record p { section = Data }
 directed (directives.Region writable) p = record p { section = Data; region_start = start_behind p.region_start p.region_bytes; region_bytes = 0 }
-directed (directives.Services x) p = p
-directed (directives.Stack n) p = p
-directed (directives.Function name kind frame room budget) p = p
-directed (directives.Param r) p = p
-directed (directives.Result r) p = p
-directed (directives.Depth n) p = p
-directed (directives.Block name) p = p
-directed (directives.Cell c) p = p
-directed (directives.Fuel z) p = p
-directed (directives.Term t) p = p
 directed (directives.Values w n) p = with_data (bytes_of_width w * n) p
 directed (directives.Skip n) p = with_data n p
 directed (directives.Align n) p = with_data (padding_of n p.region_bytes) p
+directed _ p = p
 
--- instructions go to the code and values to the data, whatever section is current
-unfoldable pub place_after : List ℕ → List Token → Statement → Place → Place
-place_after line ts statements.Nothing p = p
-place_after line ts (statements.Directive d) p = directed d p
-place_after line ts (statements.Malformed k name) p = p
-place_after line ts statements.Instruction p = with_code (4 * statement_length line ts) p
+-- Behind a line, by what it says. Instructions go to the code and values to the data, whatever section is current; a line without tokens is one
+-- word long.
+unfoldable pub place_after : Item → Said → Place → Place
+place_after i (Ok (statements.Directive d)) p = directed d p
+place_after i (Ok statements.Instruction) p = with_code (4 * statement_length i.bytes i.tokens) p
+place_after i (Ok _) p = p
+place_after i (Err f) p = with_code 4 p

@@ -5,20 +5,19 @@ use Rattle.std.specs.List.{fold}
 use Rattle.sbx_image.specs.Parts.{Parts}
 use Rattle.sbx_asm.specs.declared.fault.AsmFault.{AsmFault}
 use Rattle.sbx_asm.specs.declared.draft.Draft.{Draft}
-use Rattle.sbx_asm.specs.Lines.{lines_of}
-use Rattle.sbx_asm.specs.Items.{all_lines}
+use Rattle.sbx_asm.specs.Items.{Item}
 use Rattle.sbx_asm.specs.Images.{version_with}
 use Rattle.sbx_asm.specs.Meaning.{judged}
-use Rattle.sbx_asm.specs.Stages.Labels.{Labels, no_lines, survey_line}
-use Rattle.sbx_asm.specs.Stages.Drafts.{empty_draft, draft_line, closed}
+use Rattle.sbx_asm.specs.Stages.Labels.{Labels, no_lines, survey_item}
+use Rattle.sbx_asm.specs.Stages.Drafts.{empty_draft, draft_item, closed}
 
 -- the labels of all lines
-unfoldable pub labels_in : List ℕ → Labels
-labels_in source = fold survey_line no_lines (all_lines source)
+unfoldable pub labels_in : List Item → Labels
+labels_in items = fold survey_item no_lines items
 
 -- the image as far as all lines say
-unfoldable pub draft_in : Labels → List ℕ → Draft
-draft_in labels source = fold (draft_line labels.values) (empty_draft labels.fault) (all_lines source)
+unfoldable pub draft_in : Labels → List Item → Draft
+draft_in labels items = fold (draft_item labels.values) (empty_draft labels.fault) items
 
 unfoldable pub parts_in : Draft → Parts
 parts_in d =
@@ -27,5 +26,5 @@ parts_in d =
 abbrev pub image_in : ℕ → Draft → Result Parts AsmFault
 image_in after d = judged after d.fault (parts_in d)
 
-unfoldable pub image_made : List ℕ → Result Parts AsmFault
-image_made source = image_in (length (lines_of source) + 1) (closed (draft_in (labels_in source) source))
+unfoldable pub image_made : List Item → Result Parts AsmFault
+image_made items = image_in (length items + 1) (closed (draft_in (labels_in items) items))

@@ -2,6 +2,6 @@ use Rattle.sbx_asm.specs.Stages.Whole.{image_made}
 use Rattle.std.proofs.Common.{rules}
 use Rattle.sbx_asm.proofs.assembling.image_made.Goals as goal
 
-pub returns-in-Ok : goal.returns-in-Ok
+pub returns : goal.returns
 unfolding image_made
-returns-in-Ok c = search rules
+returns c = search rules

@@ -16,7 +16,7 @@ use Rattle.sbx_asm.specs.Lines.{lines_of}
 use Rattle.sbx_asm.specs.Items.{label_names, numbered}
 use Rattle.sbx_asm.specs.Images.{image_of}
 use Rattle.sbx_asm.specs.Meaning.{source_image}
-use Rattle.sbx_asm.specs.Examples.{KnownSourcesHaveTheirMeanings}
+use Rattle.sbx_source_tests.specs.Examples.{KnownSourcesHaveTheirMeanings}
 
 pub known_meanings : KnownSourcesHaveTheirMeanings
 unfolding tokens_at word_of after_annul word_in distance displacement after_expression expression after_register address second sum memory elsewhere number target read set_operands set named_meaning natives synthetics meaning spelling labels_first operand_of integer_in natural_in range_of location named_keywords keyword_named services_of value_count directive_of called statement_of listed each_kept region_keeps range_keeps cell_keeps term_keeps block_keeps function_keeps parts_keep lines_of label_names numbered image_of source_image
