@@ -228,7 +228,7 @@ module _ (values_of : List ℕ → Option ℕ) (here : ℕ) (line : List ℕ) wh
   call_read : (w i j : ℕ) → operands_of values_of here line (parts.Call ∷ []) (target_words (far w) i j) ≡ Some (Ok (values (parts.Call ∷ []) w), [])
   unfolding read
   call_read w i j =
-      ap (then_behind []) (target_filled (2 ^ 29) (far w) i j false (omega arith) (far_in w) (omega arith))
+      ap (then_behind values_of here line []) (target_filled (2 ^ 29) (far w) i j false (omega arith) (far_in w) (omega arith))
       ∙ ap (λ n. Some (Ok (plus n 0), [])) (let z : 0 + far w % 2 ^ 30 ≡ far w % 2 ^ 30 = omega arith in z)
 
 target_end : (d : ℕ) → Heard 3 (target_text d ++ []) (λ at. target_words d at (at + 1))

@@ -12,16 +12,14 @@ use Rattle.v8_forms.specs.declared.part.Range.TheVariants as ranges
 use Rattle.v8_forms.specs.declared.part.Special.{Special}
 use Rattle.v8_forms.specs.Forms.{scale, least, greatest, width, plus}
 use Rattle.v8_forms.specs.Text.{code_of, sum_bits, elsewhere_bits, annul_bit}
-use Rattle.v8_syntax.specs.declared.fault.SyntaxFault.{SyntaxFault}
-use Rattle.v8_syntax.specs.declared.fault.SyntaxFault.TheVariants.{Immediate, UnknownSymbol, Target}
-use Rattle.v8_syntax.specs.declared.word.Word.{Word}
-use Rattle.v8_syntax.specs.declared.word.Word.TheVariants as words
-use Rattle.v8_syntax.specs.declared.word.NameKind.{NameKind}
-use Rattle.v8_syntax.specs.declared.word.NameKind.TheVariants as names
-use Rattle.v8_syntax.specs.declared.expression.Base.{Base}
+pub use Rattle.v8_syntax.specs.declared.fault.SyntaxFault.{SyntaxFault}
+pub use Rattle.v8_syntax.specs.declared.fault.SyntaxFault.TheVariants.{UnknownMnemonic, Shape, Immediate, UnknownSymbol, Target}
+pub use Rattle.v8_syntax.specs.declared.expression.Base.{Base}
 use Rattle.v8_syntax.specs.declared.expression.Base.TheVariants as bases
-use Rattle.v8_syntax.specs.declared.expression.Expression.{Expression}
-use Rattle.v8_syntax.specs.Words.{either, bytes_between}
+pub use Rattle.v8_syntax.specs.declared.expression.Expression.{Expression}
+use Rattle.v8_syntax.specs.declared.word.Word.TheVariants as words
+use Rattle.v8_syntax.specs.declared.word.NameKind.TheVariants as names
+use Rattle.v8_syntax.specs.Words.{Word, NameKind, either, bytes_between}
 
 infixl 10 ◌>>=◌
 abbrev pub ◌>>=◌ : {A B : Type 0} → Result A SyntaxFault → (A → Result B SyntaxFault) → Result B SyntaxFault

@@ -6,18 +6,13 @@ use Rattle.v8_formats.specs.declared.instr.Operand.TheVariants as operands
 use Rattle.v8_formats.specs.declared.instr.Instr.{Instr}
 use Rattle.v8_formats.specs.declared.instr.Instr.TheVariants.{Sethi, Or}
 use Rattle.v8_formats.specs.Table.{meaning}
-use Rattle.v8_forms.specs.declared.part.Range.TheVariants as ranges
 use Rattle.v8_forms.specs.Forms.{Form, suffixes, forms}
 use Rattle.v8_forms.specs.Text.{filled}
-use Rattle.v8_syntax.specs.declared.fault.SyntaxFault.{SyntaxFault}
-use Rattle.v8_syntax.specs.declared.fault.SyntaxFault.TheVariants.{UnknownMnemonic, Shape, UnknownSymbol}
-use Rattle.v8_syntax.specs.declared.word.Word.{Word}
+use Rattle.v8_forms.specs.declared.part.Range.TheVariants as ranges
 use Rattle.v8_syntax.specs.declared.word.Word.TheVariants as words
-use Rattle.v8_syntax.specs.declared.expression.Base.{Base}
 use Rattle.v8_syntax.specs.declared.expression.Base.TheVariants as bases
-use Rattle.v8_syntax.specs.declared.expression.Expression.{Expression}
-use Rattle.v8_syntax.specs.Words.{either, bytes_between, words_of}
-use Rattle.v8_syntax.specs.Operands.{◌>>=◌, Reading, ◌and_then◌, ◌giving◌, end, after, register_first, word_in, expression, operands_of}
+use Rattle.v8_syntax.specs.Words.{Word, either, bytes_between, words_of}
+use Rattle.v8_syntax.specs.Operands.{Base, Expression, SyntaxFault, UnknownMnemonic, Shape, UnknownSymbol, ◌>>=◌, Reading, ◌and_then◌, ◌giving◌, end, after, register_first, word_in, expression, operands_of}
 
 -- ---- names
 

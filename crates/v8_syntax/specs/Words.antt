@@ -9,9 +9,9 @@ use Rattle.sbx_text.specs.declared.Kind.{Kind}
 use Rattle.sbx_text.specs.declared.Kind.TheVariants as kinds
 use Rattle.v8_forms.specs.declared.part.Special.{Special}
 use Rattle.v8_forms.specs.declared.part.Special.TheVariants.{Y, Psr, Wim, Tbr}
-use Rattle.v8_syntax.specs.declared.word.Word.{Word}
+pub use Rattle.v8_syntax.specs.declared.word.Word.{Word}
 use Rattle.v8_syntax.specs.declared.word.Word.TheVariants as words
-use Rattle.v8_syntax.specs.declared.word.NameKind.{NameKind}
+pub use Rattle.v8_syntax.specs.declared.word.NameKind.{NameKind}
 use Rattle.v8_syntax.specs.declared.word.NameKind.TheVariants as names
 
 -- the bytes of a line from one place up to another, and none where the line has no such bytes
