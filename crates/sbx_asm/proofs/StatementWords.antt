@@ -22,9 +22,10 @@ use Rattle.v8_syntax.specs.declared.fault.SyntaxFault.TheVariants.{Shape, Unknow
 use Rattle.v8_syntax.specs.declared.word.Word.{Word}
 use Rattle.v8_syntax.specs.declared.word.Word.TheVariants as words
 use Rattle.v8_syntax.specs.declared.word.NameKind.{NameKind}
+use Rattle.v8_syntax.specs.declared.expression.Base.TheVariants as bases
 use Rattle.v8_syntax.specs.declared.expression.Expression.{Expression}
 use Rattle.v8_syntax.specs.Words.{either, beside, groups, small_number, grouped, register_named, specials, word_at, word_of, words_of, bytes_between}
-use Rattle.v8_syntax.specs.Operands.{◌>>=◌, Reading, after_sign, after, number_first, register_first, end, named_expression, expression, word_in, operands_of}
+use Rattle.v8_syntax.specs.Operands.{◌>>=◌, Reading, after_sign, after, number_first, register_first, end, plain, less, moved, named_expression, expression, word_in, operands_of}
 use Rattle.v8_syntax.specs.Statements.{sethi, or, set_instructions, is_symbolic, set_operands, set, named, of_condition, first_of, named_meaning, statement, source_meaning}
 use Rattle.sbx_asm.proofs.Wholes.{whatever}
 
@@ -71,9 +72,12 @@ IsGroup group = group.0 + group.1 ≤ 32
 grouped_small : (group : ℕ × ℕ) (n : ℕ) → IsGroup group → Named (grouped group n)
 grouped_small group n h = cond_both (ltb n group.1) (Some (group.0 + n)) None Named (λ e. let lt = ltb-true n group.1 e in omega arith) (λ _. tt)
 
+abbrev pointers : List (List ℕ × ℕ)
+pointers = (codes "sp", 14) ∷ (codes "fp", 30) ∷ []
+
 named_small : (name : List ℕ) → Named (register_named name)
 named_small name =
-    or_all IsRegister (beside name ((codes "sp", 14) ∷ (codes "fp", 30) ∷ [])) _ (beside_all IsRegister name _ (omega arith, (omega arith, tt)))
+    or_all IsRegister (beside name pointers) _ (beside_all IsRegister name pointers (omega arith, (omega arith, tt)))
     (either_all IsGroup Named (beside (take 1 name) groups) _ None
     (beside_all IsGroup (take 1 name) groups (omega arith, (omega arith, (omega arith, (omega arith, (omega arith, tt))))))
     (λ group h. either_all (λ _. Unit {0}) Named (small_number (drop 1 name)) _ None (whatever _) (λ n _. grouped_small group n h) tt) tt)
@@ -132,7 +136,9 @@ signed_small : (b : ℕ) (f : ℕ → Expression) (ws : List Word) → AreSmall 
 signed_small b f ws h = map_all (λ x. AreSmall x.1) (λ x. AreSmall x.1) _ (after b number_first ws) (after_all (λ x. AreSmall x.1) b number_first ws h number_small) (λ x k. k)
 
 named_expression_small : (kind : NameKind) (value : Option ℕ) (ws : List Word) → AreSmall ws → Left (named_expression kind value ws)
-named_expression_small kind value ws h = or_all (λ x. AreSmall x.1) _ _ (or_all (λ x. AreSmall x.1) _ _ (signed_small 43 _ ws h) (signed_small 45 _ ws h)) h
+named_expression_small kind value ws h =
+    or_all {A = Expression × List Word} (λ x. AreSmall x.1) _ _
+    (or_all {A = Expression × List Word} (λ x. AreSmall x.1) _ _ (signed_small 43 (plain (moved kind value)) ws h) (signed_small 45 (less (moved kind value)) ws h)) h
 
 abbrev InRegister : Option ((Expression × ℕ) × List Word) → Type 0
 InRegister o = IfSome o (λ x. IsRegister x.0.1)
@@ -142,7 +148,7 @@ module _ (values : List ℕ → Option ℕ) (line : List ℕ) where
   unfolding expression
   expression_small (words.Number n ∷ ws) h = h.1
   expression_small (words.Name kind i j ∷ ws) h = named_expression_small kind (values (bytes_between line i j)) ws h.1
-  expression_small (words.Sign c ∷ ws) h = signed_small 45 _ (words.Sign c ∷ ws) h
+  expression_small (words.Sign c ∷ ws) h = signed_small 45 (less bases.Number) (words.Sign c ∷ ws) h
   expression_small _ h = tt
 
   set_operands_small : (ws : List Word) → AreSmall ws → InRegister (set_operands values line ws)
@@ -150,7 +156,7 @@ module _ (values : List ℕ → Option ℕ) (line : List ℕ) where
   set_operands_small ws h =
       either_all (λ x. AreSmall x.1) InRegister (expression values line ws) _ None (expression_small ws h)
       (λ x k. either_all (λ y. IsRegister y.0) InRegister (after 44 register_first x.1) _ None (after_all (λ y. IsRegister y.0) 44 register_first x.1 k register_small)
-      (λ y r. map_all (λ _. Unit {0}) (λ z. IsRegister z.0.1) _ (end y.1) (whatever _) (λ _ _. r)) tt) tt
+      (λ y r. map_all {B = (Expression × ℕ) × List Word} (λ _. Unit {0}) (λ z. IsRegister z.0.1) _ (end y.1) (whatever _) (λ _ _. r)) tt) tt
 
 -- ---- instructions
 
