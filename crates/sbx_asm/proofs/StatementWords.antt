@@ -1,7 +1,6 @@
 -- The instructions of a statement are spelled as words below 2 ^ 32.
-use Rattle.std.proofs.Common.{◌≡◌, ℕ, ◌+◌, ◌-◌, ◌*◌, ◌/◌, ◌%◌, ◌^◌, ◌<◌, ◌≤◌, Bool, true, false, not, eqb, ltb, leb, List, [], ◌∷◌, map, Option, None, Some, IfSome, Result, Ok, Err, IfOk, arith}
+use Rattle.std.proofs.Common.{ℕ, ◌+◌, ◌%◌, ◌^◌, ◌<◌, ◌≤◌, Bool, not, eqb, ltb, leb, List, [], ◌∷◌, map, Option, None, Some, IfSome, Result, Ok, Err, IfOk, arith}
 use Rattle.std.specs.Prelude.{◌&&◌, ◌||◌, codes, take, drop}
-use Rattle.std.specs.Char.{is_ascii_digit}
 use Rattle.std.specs.Option.{option_map, option_or, unwrap_or}
 use Rattle.std.specs.Str.{bytes_eq}
 use Rattle.std.specs.List.{AllByRecursion}

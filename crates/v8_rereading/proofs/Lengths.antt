@@ -12,13 +12,13 @@ use Rattle.v8_syntax.specs.declared.word.Word.TheVariants as words
 use Rattle.v8_syntax.specs.declared.word.NameKind.{NameKind}
 use Rattle.v8_syntax.specs.declared.word.NameKind.TheVariants as names
 use Rattle.v8_syntax.specs.declared.fault.SyntaxFault.{SyntaxFault}
-use Rattle.v8_syntax.specs.declared.fault.SyntaxFault.TheVariants.{Immediate, Shape, UnknownMnemonic, UnknownSymbol, Target}
+use Rattle.v8_syntax.specs.declared.fault.SyntaxFault.TheVariants.{Immediate, Shape, UnknownMnemonic, UnknownSymbol}
 use Rattle.v8_syntax.specs.declared.expression.Base.{Base}
 use Rattle.v8_syntax.specs.declared.expression.Base.TheVariants as bases
 use Rattle.v8_syntax.specs.declared.expression.Expression.{Expression}
 use Rattle.v8_forms.specs.Forms.{forms, least, greatest}
 use Rattle.v8_syntax.specs.Words.{either, bytes_between, words_of}
-use Rattle.v8_syntax.specs.Operands.{◌>>=◌, end, after, plain, less, moved, number_first, register_first, named_expression, expression, word_in, in_range, word_of_number, based, offset_of}
+use Rattle.v8_syntax.specs.Operands.{◌>>=◌, end, after, plain, less, moved, number_first, register_first, named_expression, expression, word_in, in_range, word_of_number, offset_of}
 use Rattle.v8_syntax.specs.Statements.{set, set_operands, set_instructions, is_symbolic, first_of, named_meaning, statement, no_symbol, count_of, length_of}
 use Rattle.v8_rereading.specs.Laws.{CountsInstructions, IsNoStatement}
 
