@@ -1,5 +1,5 @@
 -- A bare `.word` is no statement.
-use Rattle.std.proofs.Common.{◌≡◌, ℕ, suc, ◌+◌, ◌/◌, ◌%◌, ◌^◌, ◌<◌, Bool, true, false, cond, List, [], ◌∷◌, ◌++◌, length, take, refl, sym, ap, subst, ◌∙◌, arith, ltb, Option, None, Ok, Err}
+use Rattle.std.proofs.Common.{◌≡◌, ℕ, suc, ◌+◌, ◌/◌, ◌%◌, ◌^◌, ◌<◌, Bool, true, false, cond, List, [], ◌∷◌, ◌++◌, length, take, refl, sym, ap, subst, ◌∙◌, arith, ltb, Option, None, Err}
 use Rattle.std.specs.Prelude.{codes}
 use Rattle.std.specs.List.{prefix_len}
 use Rattle.std.specs.Char.{is_digit, digit_value}
@@ -20,9 +20,8 @@ use Rattle.v8_syntax.specs.declared.word.Word.{Word}
 use Rattle.v8_syntax.specs.declared.fault.SyntaxFault.TheVariants.{UnknownMnemonic}
 use Rattle.v8_forms.specs.Forms.{Form, natives, synthetics}
 use Rattle.v8_forms.specs.Text.{hexadecimal, native_of, shown, text_of}
-use Rattle.v8_syntax.specs.Words.{words_of}
-use Rattle.v8_syntax.specs.Operands.{◌>>=◌}
-use Rattle.v8_syntax.specs.Statements.{instructions, named_meaning}
+use Rattle.v8_syntax.specs.Words.{word_of, words_of}
+use Rattle.v8_syntax.specs.Statements.{named_meaning}
 use Rattle.v8_rereading.specs.Laws.{IsNotRead, RefusesEachBareWord}
 use Rattle.v8_rereading.proofs.Bytes.{Below, at_below, all, run, name_front}
 use Rattle.v8_rereading.proofs.Hearing.{Heard, ended, spaced, closed, tokened, token_scanned, between}
@@ -79,6 +78,7 @@ unfolding named_meaning natives synthetics
 unknown values here line ws = refl
 
 bare_word : (w : ℕ) → IsNotRead (codes ".word" ++ behind w)
+unfolding word_of
 bare_word w =
     let h = spaced (number_heard w) in
     let scanned = token_scanned kinds.Name (codes ".word") (behind w) h.marks (name_front (codes ".word") (behind w) refl (refl, refl)) (omega arith) h.scanned (length (codes ".word" ++ behind w)) 0 (omega arith) in (
@@ -86,8 +86,8 @@ bare_word w =
       scanned,
       λ values here.
           let line : List ℕ = codes ".word" ++ behind w in
-          ap (λ name. named_meaning values here line name (words_of line (h.marks (0 + 5))) >>= λ x. Ok (instructions x)) (between line [] (codes ".word") (behind w) 0 refl refl)
-          ∙ ap (λ r. r >>= λ x. Ok (instructions x)) (unknown values here line (words_of line (h.marks (0 + 5)))),
+          ap (λ name. named_meaning values here line name (words_of line (h.marks (0 + 5)))) (between line [] (codes ".word") (behind w) 0 refl refl)
+          ∙ unknown values here line (words_of line (h.marks (0 + 5))),
     )
 
 by_native : (o : Option Form) (word : ℕ) → o ≡ None → IsNotRead (shown o word)

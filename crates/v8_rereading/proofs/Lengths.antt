@@ -1,100 +1,104 @@
 -- How many instructions a statement takes doesn't hang on what its names are worth.
 use Rattle.std.proofs.Common.{◌≡◌, ℕ, ℤ, Bool, true, false, cond, List, [], ◌∷◌, length, refl, sym, ap, subst, ◌∙◌, Some, Option, None, Result, Ok, Err, pos}
 use Rattle.std.specs.Prelude.{MatchResult, ◌&&◌, ◌+ℤ◌, int_le, codes}
+use Rattle.std.specs.Option.{option_map, option_or}
 use Rattle.std.specs.Str.{bytes_eq}
 use Rattle.std.proofs.lemmas.Bool.{cond_both}
-use Rattle.sbx_text.specs.declared.Token.{Token}
-use Rattle.sbx_text.specs.declared.Kind.{Kind}
-use Rattle.sbx_text.specs.declared.Kind.TheVariants as kinds
+use Rattle.v8_formats.specs.declared.instr.Instr.{Instr}
+use Rattle.v8_formats.specs.Table.{meaning}
 use Rattle.v8_forms.specs.declared.part.Range.TheVariants as ranges
 use Rattle.v8_syntax.specs.declared.word.Word.{Word}
+use Rattle.v8_syntax.specs.declared.word.Word.TheVariants as words
 use Rattle.v8_syntax.specs.declared.word.NameKind.{NameKind}
 use Rattle.v8_syntax.specs.declared.word.NameKind.TheVariants as names
 use Rattle.v8_syntax.specs.declared.fault.SyntaxFault.{SyntaxFault}
-use Rattle.v8_syntax.specs.declared.fault.SyntaxFault.TheVariants.{Immediate, Shape, UnknownMnemonic}
+use Rattle.v8_syntax.specs.declared.fault.SyntaxFault.TheVariants.{Immediate, Shape, UnknownMnemonic, UnknownSymbol}
 use Rattle.v8_syntax.specs.declared.expression.Base.{Base}
 use Rattle.v8_syntax.specs.declared.expression.Base.TheVariants as bases
 use Rattle.v8_syntax.specs.declared.expression.Expression.{Expression}
-use Rattle.v8_syntax.specs.declared.statement.Words.{Words}
-use Rattle.v8_syntax.specs.declared.statement.Words.TheVariants as counts
 use Rattle.v8_forms.specs.Forms.{forms, least, greatest}
-use Rattle.v8_syntax.specs.Words.{bytes_between, words_of}
-use Rattle.v8_syntax.specs.Operands.{◌>>=◌, either, ends, plain, less, moved, number_first, number_after, name_first, register_first, after_sign, named_expression, expression, word_in, in_range, word_of_number, offset_of, symbol_value}
-use Rattle.v8_syntax.specs.Statements.{set, set_operands, set_words, is_symbolic, first_of, named_meaning, begins, instructions, no_symbol, count_of, value_length, word_length, begun_length}
+use Rattle.v8_syntax.specs.Words.{either, bytes_between, words_of}
+use Rattle.v8_syntax.specs.Operands.{◌>>=◌, end, after, plain, less, moved, number_first, register_first, named_expression, expression, word_in, in_range, word_of_number, offset_of}
+use Rattle.v8_syntax.specs.Statements.{set, set_operands, set_instructions, is_symbolic, first_of, named_meaning, statement, no_symbol, count_of, length_of}
 use Rattle.v8_rereading.specs.Laws.{CountsInstructions, IsNoStatement}
 
 -- ---- the operands of `set`, without what their names are worth
 
 abbrev base_of : Base → Base
 base_of bases.Number = bases.Number
-base_of (bases.Symbol v) = bases.Symbol (Some 0)
-base_of (bases.Here v) = bases.Here (Some 0)
+base_of (bases.Symbol v) = bases.Symbol None
+base_of (bases.Here v) = bases.Here None
 
 abbrev bare : Expression → Expression
 bare e = record { base = base_of e.base; negative = e.negative; number = e.number }
 
-abbrev over : {A B : Type 0} → (A → B) → Option A → Option B
-over f (Some x) = Some (f x)
-over f None = None
-
 abbrev read_as : {B : Type 0} → Expression × B → Expression × B
 read_as x = (bare x.0, x.1)
 
--- a choice by one reading, and by that reading without what its names are worth
-either_over : {A B C : Type 0} (f : B → C) (o : Option A) (g : A → B) (g' : A → C) (x : B) (x' : C) → ((a : A) → g' a ≡ f (g a)) → x' ≡ f x → either o g' x' ≡ f (either o g x)
-either_over f (Some a) g g' x x' h e = h a
-either_over f None g g' x x' h e = e
+-- the operands of `set`, and the words after them
+abbrev Operands : Type 0
+Operands = (Expression × ℕ) × List Word
 
-either_both : {A A' B C : Type 0} (f : B → C) (k : A → A') (o : Option A) (o' : Option A') (g : A → B) (g' : A' → C) (x : B) (x' : C)
-    → o' ≡ over k o → ((a : A) → g' (k a) ≡ f (g a)) → x' ≡ f x → either o' g' x' ≡ f (either o g x)
-either_both f k (Some a) o' g g' x x' same h e = ap (λ r. either r g' x') same ∙ h a
-either_both f k None o' g g' x x' same h e = ap (λ r. either r g' x') same ∙ e
+abbrev set_as : Operands → Operands
+set_as x = (read_as x.0, x.1)
 
-ends_over : {B C : Type 0} (f : B → C) (ws : List Word) (x y : B) (x' y' : C) → x' ≡ f x → y' ≡ f y → ends ws x' y' ≡ f (ends ws x y)
-ends_over f [] x y x' y' h e = h
-ends_over f (w ∷ ws) x y x' y' h e = e
+-- readings, and these without what their names are worth
+mapped : {A B C : Type 0} (f : B → C) (o : Option A) (g : A → B) (g' : A → C) → ((a : A) → g' a ≡ f (g a)) → option_map g' o ≡ option_map f (option_map g o)
+mapped f (Some a) g g' h = ap (λ x. Some x) (h a)
+mapped f None g g' h = refl
 
-moved_bare : (kind : NameKind) (v : Option ℕ) → moved kind (Some 0) ≡ base_of (moved kind v)
+or_mapped : {B C : Type 0} (f : B → C) (o p : Option B) (o' p' : Option C) → o' ≡ option_map f o → p' ≡ option_map f p → option_or o' p' ≡ option_map f (option_or o p)
+or_mapped f (Some b) p o' p' h e = ap (λ r. option_or r p') h
+or_mapped f None p o' p' h e = ap (λ r. option_or r p') h ∙ e
+
+either_over : {A B C : Type 0} (f : B → C) (o : Option A) (g : A → Option B) (g' : A → Option C) → ((a : A) → g' a ≡ option_map f (g a)) → either o g' None ≡ option_map f (either o g None)
+either_over f (Some a) g g' h = h a
+either_over f None g g' h = refl
+
+either_both : {A A' B C : Type 0} (f : B → C) (k : A → A') (o : Option A) (o' : Option A') (g : A → Option B) (g' : A' → Option C)
+    → o' ≡ option_map k o → ((a : A) → g' (k a) ≡ option_map f (g a)) → either o' g' None ≡ option_map f (either o g None)
+either_both f k (Some a) o' g g' same h = ap (λ r. either r g' None) same ∙ h a
+either_both f k None o' g g' same h = ap (λ r. either r g' None) same
+
+moved_bare : (kind : NameKind) (v : Option ℕ) → moved kind None ≡ base_of (moved kind v)
 moved_bare names.Place v = refl
 moved_bare names.Annul v = refl
 moved_bare names.Plain v = refl
 
-named_bare : (kind : NameKind) (v : Option ℕ) (rest : List Word) → named_expression kind (Some 0) rest ≡ read_as (named_expression kind v rest)
+named_bare : (kind : NameKind) (v : Option ℕ) (rest : List Word) → named_expression kind None rest ≡ option_map read_as (named_expression kind v rest)
 named_bare kind v rest =
-    either_over read_as (number_after 43 rest) _ _ _ _ (λ x. ap (λ b. (plain b x.0, x.1)) (moved_bare kind v))
-    (either_over read_as (number_after 45 rest) _ _ _ _ (λ x. ap (λ b. (less b x.0, x.1)) (moved_bare kind v)) refl)
+    or_mapped read_as _ _ _ _
+    (or_mapped read_as _ _ _ _
+    (mapped read_as (after 43 number_first rest) _ _ (λ x. ap (λ b. (plain b x.0, x.1)) (moved_bare kind v)))
+    (mapped read_as (after 45 number_first rest) _ _ (λ x. ap (λ b. (less b x.0, x.1)) (moved_bare kind v)))) refl
 
 module _ (values : List ℕ → Option ℕ) (line : List ℕ) where
-  expression_bare : (ws : List Word) → expression no_symbol line ws ≡ over read_as (expression values line ws)
+  expression_bare : (ws : List Word) → expression no_symbol line ws ≡ option_map read_as (expression values line ws)
   unfolding expression
-  expression_bare ws =
-      either_over (over read_as) (number_first ws) _ _ _ _ (λ x. refl)
-      (either_over (over read_as) (number_after 45 ws) _ _ _ _ (λ x. refl)
-      (either_over (over read_as) (name_first ws) _ _ _ _ (λ x. ap (λ y. Some y) (named_bare x.0.0 (values (bytes_between line x.0.1 x.0.2)) x.1)) refl))
+  expression_bare (words.Number n ∷ ws) = refl
+  expression_bare (words.Name kind i j ∷ ws) = named_bare kind (values (bytes_between line i j)) ws
+  expression_bare (words.Sign c ∷ ws) = mapped read_as (after 45 number_first (words.Sign c ∷ ws)) _ _ (λ x. refl)
+  expression_bare _ = refl
 
-  set_bare : (ws : List Word) → set_operands no_symbol line ws ≡ over read_as (set_operands values line ws)
+  set_bare : (ws : List Word) → set_operands no_symbol line ws ≡ option_map set_as (set_operands values line ws)
   unfolding set_operands
   set_bare ws =
-      either_both (over read_as) read_as (expression values line ws) (expression no_symbol line ws) _ _ _ _ (expression_bare ws)
-      (λ x. either_over (over read_as) (after_sign 44 x.1) _ _ _ _
-      (λ more. either_over (over read_as) (register_first more) _ _ _ _ (λ y. ends_over (over read_as) y.1 _ _ _ _ refl refl) refl) refl) refl
+      either_both set_as read_as (expression values line ws) (expression no_symbol line ws) _ _ (expression_bare ws)
+      (λ x. either_over set_as (after 44 register_first x.1) _ _ (λ y. mapped set_as (end y.1) _ _ (λ z. refl)))
 
 -- ---- `set`
 
 -- so many instructions are made, and one is counted where there is no statement
-abbrev Counts : Result Words SyntaxFault → ℕ → Type 0
-Counts r n = MatchResult (r >>= λ m. Ok (instructions m)) (λ is. length is ≡ n) (λ f. IsNoStatement f → n ≡ 1)
+abbrev Counts : Result (List Instr) SyntaxFault → ℕ → Type 0
+Counts r n = MatchResult r (λ is. length is ≡ n) (λ f. IsNoStatement f → n ≡ 1)
 
-words_count : (m : Words) → length (instructions m) ≡ count_of m
-words_count (counts.Single w) = refl
-words_count (counts.Pair v w) = refl
+counts_itself : (r : Result (List Instr) SyntaxFault) → Counts r (count_of r)
+counts_itself (Ok is) = refl
+counts_itself (Err UnknownSymbol) = λ k. absurd k
+counts_itself (Err _) = λ _. refl
 
-abbrev made : Bool → ℕ → Result ℕ SyntaxFault → Result Words SyntaxFault
-made symbolic rd r = r >>= λ w. Ok (set_words symbolic w rd)
-
-plain_counts : (rd : ℕ) (r : Result ℕ SyntaxFault) → Counts (made false rd r) (word_length rd r)
-plain_counts rd (Ok w) = words_count (set_words false w rd)
-plain_counts rd (Err f) = λ _. refl
+abbrev made : Bool → ℕ → Result ℕ SyntaxFault → Result (List Instr) SyntaxFault
+made symbolic rd r = r >>= λ w. Ok (set_instructions symbolic w rd)
 
 -- a value has no fault of shape
 abbrev IsValue : Result ℕ SyntaxFault → Type 0
@@ -103,10 +107,6 @@ IsValue r = MatchResult r (λ _. Unit {0}) (λ f. IsNoStatement f → ⊥)
 range_is_value : (low high z : ℤ) → IsValue (in_range low high Immediate z)
 range_is_value low high z = cond_both (int_le low z && int_le z high) (Ok (word_of_number z)) (Err Immediate) IsValue (λ _. tt) (λ _ k. k)
 
-symbol_is_value : (low high z : ℤ) (v : Option ℕ) → IsValue (symbol_value v z >>= in_range low high Immediate)
-symbol_is_value low high z (Some v) = range_is_value low high (pos v +ℤ z)
-symbol_is_value low high z None = λ k. k
-
 symbol_counts : (rd : ℕ) (r : Result ℕ SyntaxFault) → IsValue r → Counts (made true rd r) 2
 symbol_counts rd (Ok w) h = refl
 symbol_counts rd (Err f) h = λ k. absurd (h k)
@@ -114,43 +114,46 @@ symbol_counts rd (Err f) h = λ k. absurd (h k)
 abbrev based_on : Base → Bool → ℕ → Expression
 based_on b negative n = record { base = b; negative = negative; number = n }
 
-base_counts : (b : Base) (negative : Bool) (n rd : ℕ) → Counts (made (is_symbolic b) rd (word_in ranges.Whole (based_on b negative n))) (value_length (bare (based_on b negative n)) rd)
-unfolding word_in
-base_counts bases.Number negative n rd = plain_counts rd (word_in ranges.Whole (based_on bases.Number negative n))
-base_counts (bases.Symbol v) negative n rd =
-    symbol_counts rd (word_in ranges.Whole (based_on (bases.Symbol v) negative n)) (symbol_is_value (least ranges.Whole) (greatest ranges.Whole) (offset_of (based_on (bases.Symbol v) negative n)) v)
-base_counts (bases.Here v) negative n rd =
-    symbol_counts rd (word_in ranges.Whole (based_on (bases.Here v) negative n)) (symbol_is_value (least ranges.Whole) (greatest ranges.Whole) (offset_of (based_on (bases.Here v) negative n)) v)
+abbrev made_of : Expression → ℕ → Result (List Instr) SyntaxFault
+made_of e rd = made (is_symbolic e.base) rd (word_in ranges.Whole e)
 
-set_counts : (o : Option (Expression × ℕ))
-    → Counts (either o (λ x. made (is_symbolic x.0.base) x.1 (word_in ranges.Whole x.0)) (Err Shape)) (either (over read_as o) (λ x. value_length x.0 x.1) 1)
-set_counts (Some x) = base_counts x.0.base x.0.negative x.0.number x.1
+base_counts : (b : Base) (negative : Bool) (n rd : ℕ) → Counts (made_of (based_on b negative n) rd) (count_of (made_of (bare (based_on b negative n)) rd))
+unfolding word_in
+base_counts bases.Number negative n rd = counts_itself (made_of (based_on bases.Number negative n) rd)
+base_counts (bases.Symbol (Some v)) negative n rd =
+    let z : ℤ = offset_of (based_on bases.Number negative n) in
+    symbol_counts rd (in_range (least ranges.Whole) (greatest ranges.Whole) Immediate (pos v +ℤ z)) (range_is_value (least ranges.Whole) (greatest ranges.Whole) (pos v +ℤ z))
+base_counts (bases.Symbol None) negative n rd = λ k. absurd k
+base_counts (bases.Here (Some v)) negative n rd =
+    let z : ℤ = offset_of (based_on bases.Number negative n) in
+    symbol_counts rd (in_range (least ranges.Whole) (greatest ranges.Whole) Immediate (pos v +ℤ z)) (range_is_value (least ranges.Whole) (greatest ranges.Whole) (pos v +ℤ z))
+base_counts (bases.Here None) negative n rd = λ k. absurd k
+
+abbrev set_of : Option Operands → Result (List Instr) SyntaxFault
+set_of o = either o (λ x. made_of x.0.0 x.0.1) (Err Shape)
+
+set_counts : (o : Option Operands) → Counts (set_of o) (count_of (set_of (option_map set_as o)))
+set_counts (Some x) = base_counts x.0.0.base x.0.0.negative x.0.0.number x.0.1
 set_counts None = λ _. refl
 
 -- ---- statements
 
-one_counts : (r : Result ℕ SyntaxFault) → Counts (r >>= λ w. Ok (counts.Single w)) 1
+one_counts : (r : Result ℕ SyntaxFault) → Counts (r >>= λ w. Ok (meaning w ∷ [])) 1
 one_counts (Ok w) = refl
 one_counts (Err f) = λ _. refl
 
 module _ (values : List ℕ → Option ℕ) (here : ℕ) (line : List ℕ) where
   name_counts : (t : Bool) (name : List ℕ) (ws : List Word)
-      → Counts (cond t (set values line ws) (first_of values here line UnknownMnemonic forms name ws >>= λ w. Ok (counts.Single w)))
-      (cond t (either (set_operands no_symbol line ws) (λ x. value_length x.0 x.1) 1) 1)
+      → Counts (cond t (set values line ws) (first_of values here line UnknownMnemonic forms name ws >>= λ w. Ok (meaning w ∷ []))) (cond t (count_of (set no_symbol line ws)) 1)
   unfolding set
   name_counts true name ws =
-      subst (λ o. Counts (set values line ws) (either o (λ x. value_length x.0 x.1) 1)) (sym (set_bare values line ws)) (set_counts (set_operands values line ws))
+      subst (λ o. Counts (set values line ws) (count_of (set_of o))) (sym (set_bare values line ws)) (set_counts (set_operands values line ws))
   name_counts false name ws = one_counts (first_of values here line UnknownMnemonic forms name ws)
 
-  begun_counts : (kind : Kind) (first : Token) (rest : List Token) → Counts (begins values here line kind first rest) (begun_length line kind first rest)
+  words_count : (ws : List Word) → Counts (statement values here line ws) (length_of line ws)
   unfolding named_meaning
-  begun_counts kinds.Name first rest =
-      let name : List ℕ = bytes_between line first.start first.stop in
-      name_counts (bytes_eq name (codes "set")) name (words_of line rest)
-  begun_counts kinds.Percent first rest = λ _. refl
-  begun_counts (kinds.Number n) first rest = λ _. refl
-  begun_counts kinds.Sign first rest = λ _. refl
+  words_count (words.Name kind i j ∷ ws) = name_counts (bytes_eq (bytes_between line i j) (codes "set")) (bytes_between line i j) ws
+  words_count _ = λ _. refl
 
 pub counts_instructions : CountsInstructions
-counts_instructions values here line [] = λ _. refl
-counts_instructions values here line (first ∷ rest) = begun_counts values here line first.kind first rest
+counts_instructions values here line tokens = words_count values here line (words_of line tokens)

@@ -10,7 +10,8 @@ use Rattle.v8_syntax.specs.declared.fault.SyntaxFault.TheVariants.{Shape, Unknow
 use Rattle.v8_syntax.specs.declared.word.Word.{Word}
 use Rattle.v8_forms.specs.Forms.{Form, forms, natives, suffixes, synthetics}
 use Rattle.v8_forms.specs.Text.{condition_in, filled, is_word_of, native_of, suffix_text, values}
-use Rattle.v8_syntax.specs.Operands.{◌>>=◌, either, operands_of}
+use Rattle.v8_syntax.specs.Words.{either}
+use Rattle.v8_syntax.specs.Operands.{◌>>=◌, operands_of}
 use Rattle.v8_syntax.specs.Statements.{first_of, named, of_condition}
 use Rattle.v8_forms.proofs.Tables.{all_of, first_of_both, second_of_both, found_passes, same}
 use Rattle.v8_rereading.proofs.Bytes.{is_name}
@@ -130,10 +131,10 @@ module _ (values_of : List ℕ → Option ℕ) (here : ℕ) (line : List ℕ) (w
   passed : (others : SyntaxFault → Result ℕ SyntaxFault) (x : ℕ) (k : Form) (fault : SyntaxFault) (o : Option ℕ) → ((other : SyntaxFault) → others other ≡ Ok x)
       → (operands_of values_of here line k.parts ws ≡ None) ⊎ (o ≡ None) → of_condition values_of here line others fault k ws o ≡ Ok x
   passed others x k fault None go h = go fault
-  passed others x k fault (Some c) go (inl e) = ap (λ r. either r (λ n. n >>= λ m. Ok (filled k c m)) (others Shape)) e ∙ go Shape
+  passed others x k fault (Some c) go (inl e) = ap (λ r. either r (λ n. n.0 >>= λ m. Ok (filled k c m)) (others Shape)) e ∙ go Shape
   passed others x k fault (Some c) go (inr e) = absurd (cc)
 
-  found_first : (f : Form) (w : ℕ) (name : List ℕ) → Found f w → operands_of values_of here line f.parts ws ≡ Some (Ok (values f.parts w)) → name ≡ f.name ++ suffix_text f.conditional w
+  found_first : (f : Form) (w : ℕ) (name : List ℕ) → Found f w → operands_of values_of here line f.parts ws ≡ Some (Ok (values f.parts w), []) → name ≡ f.name ++ suffix_text f.conditional w
       → ((ks : _) → shut ks f.parts ≡ true → operands_of values_of here line ks ws ≡ None)
       → (rows rest : List Form) (fault : SyntaxFault) → find (λ g. is_word_of g w) rows ≡ Some f → apart rows ≡ true → first_of values_of here line fault (rows ++ rest) name ws ≡ Ok w
   found_first f w name known fits is shuts [] rest fault e h = absurd (cc)
@@ -152,14 +153,14 @@ module _ (values_of : List ℕ → Option ℕ) (here : ℕ) (line : List ℕ) (w
           ap (λ x. of_condition values_of here line (λ other. first_of values_of here line other (rows ++ rest) name ws) fault x ws (named x name)) (same k f g)
           ∙ ap (λ n. of_condition values_of here line (λ other. first_of values_of here line other (rows ++ rest) name ws) fault f ws (named f n)) is
           ∙ ap (of_condition values_of here line (λ other. first_of values_of here line other (rows ++ rest) name ws) fault f ws) known.names
-          ∙ ap (λ r. either r (λ n. n >>= λ m. Ok (filled f (condition_in f w) m)) (first_of values_of here line Shape (rows ++ rest) name ws)) fits
+          ∙ ap (λ r. either r (λ n. n.0 >>= λ m. Ok (filled f (condition_in f w) m)) (first_of values_of here line Shape (rows ++ rest) name ws)) fits
           ∙ ap (λ n. Ok n) known.spells
       by false g go =
           passed (λ other. first_of values_of here line other (rows ++ rest) name ws) w k fault (named k name)
           (λ other. go other g)
           (skips (shut k.parts f.parts) refl (found_passes (λ x. is_word_of x w) (clear k) rows f g (first_of_both (all_of (clear k) rows) (apart rows) h)))
 
-  pub first_is : (f : Form) (w : ℕ) (name : List ℕ) → native_of w ≡ Some f → Found f w → operands_of values_of here line f.parts ws ≡ Some (Ok (values f.parts w))
+  pub first_is : (f : Form) (w : ℕ) (name : List ℕ) → native_of w ≡ Some f → Found f w → operands_of values_of here line f.parts ws ≡ Some (Ok (values f.parts w), [])
       → name ≡ f.name ++ suffix_text f.conditional w → ((ks : _) → shut ks f.parts ≡ true → operands_of values_of here line ks ws ≡ None)
       → first_of values_of here line UnknownMnemonic forms name ws ≡ Ok w
   unfolding native_of

@@ -2,10 +2,12 @@
 use Rattle.std.proofs.Common.{◌≡◌, ℕ, ◌+◌, ◌*◌, ◌/◌, ◌%◌, ◌^◌, ◌<◌, ◌≤◌, Bool, true, false, cond, List, [], ◌∷◌, ◌++◌, length, refl, sym, ap, subst, ◌∙◌, arith, ltb, leb, Some, Option, None, Ok}
 use Rattle.std.specs.Prelude.{codes}
 use Rattle.std.specs.Fmt.{decimal}
+use Rattle.std.specs.Option.{option_map}
 use Rattle.std.proofs.lemmas.Bool.{false≢true, leb-true}
 use Rattle.std.proofs.lemmas.List.{append_assoc, append-nil}
 use Rattle.v8_word.specs.Word.{bits_of}
 use Rattle.v8_formats.specs.declared.instr.Operand.TheVariants as operands
+use Rattle.v8_formats.specs.Spelling.{spell_operand}
 use Rattle.v8_forms.specs.declared.part.Part.{Part}
 use Rattle.v8_forms.specs.declared.part.Part.TheVariants as parts
 use Rattle.v8_forms.specs.declared.part.Field.{Field}
@@ -15,15 +17,14 @@ use Rattle.v8_forms.specs.declared.part.Range.TheVariants as ranges
 use Rattle.v8_syntax.specs.declared.word.Word.{Word}
 use Rattle.v8_syntax.specs.declared.word.Word.TheVariants as words
 use Rattle.v8_syntax.specs.declared.word.NameKind.TheVariants as names
-use Rattle.v8_syntax.specs.declared.address.Address.{Address}
 use Rattle.v8_forms.specs.Forms.{plus, width}
 use Rattle.v8_forms.specs.Text.{annul_bit, annuls, behind_text, elsewhere_bits, far, lead_text, near, number_in, operand_in, operands_text, part_text, register_in, special_in, target_text, memory_text, value, values}
-use Rattle.v8_syntax.specs.Words.{bytes_between}
-use Rattle.v8_syntax.specs.Operands.{Reading, ◌>>=◌, after_annul, after_sign, address, after_register, behind, displacement, either, elsewhere, expression, join, memory, number, operands_of, read, rest_of, sum, sum_of, target}
+use Rattle.v8_syntax.specs.Words.{bytes_between, either}
+use Rattle.v8_syntax.specs.Operands.{Filled, ◌>>=◌, added, after, behind, displacement, expression, gives, operands_of, read, target}
 use Rattle.v8_rereading.proofs.Bytes.{Stops}
 use Rattle.v8_rereading.proofs.Hearing.{Heard, ended, spaced, regrouped3}
 use Rattle.v8_rereading.proofs.Pieces.{operand_words, added_words, offset_words, comma, annulling, numbered, registered, state_register, operand_heard, address_heard, memory_heard, target_heard}
-use Rattle.v8_rereading.proofs.Reading.{In, IsSigned, address_read, address_value, bytes_away, far_in, in_word, is_part, is_unsigned, near_in, number_inside, operand_inside, second_read, target_read, target_value, unsigned_worth}
+use Rattle.v8_rereading.proofs.Reading.{In, IsSigned, address_read, bytes_away, far_in, in_word, is_part, is_unsigned, near_in, number_inside, operand_inside, second_read, target_read, target_value, unsigned_worth}
 
 -- ---- operands whose words are the same at each place
 
@@ -96,24 +97,23 @@ module _ {count : ℕ} {bytes : List ℕ} {ws : List Word} (w : ℕ) (s : Stops 
   part_heard parts.Call k = absurd (cc)
   part_heard parts.Branch k = absurd (cc)
 
-abbrev closed_by : Option (Address × List Word) → Option (Address × List Word)
-closed_by a = either a (λ x. either (after_sign 93 x.1) (λ rest. Some (x.0, rest)) None) None
+abbrev Read : Type 0
+Read = Option (Filled × List Word)
 
-abbrev summed : Option (Address × List Word) → Reading
-summed a = either a (λ x. Some (sum_of ranges.Signed x.0, x.1)) None
+abbrev closed_by : Read → Read
+closed_by a = either a (λ x. after 93 (gives x.0) x.1) None
 
 module _ (values_of : List ℕ → Option ℕ) (here : ℕ) (line : List ℕ) (w : ℕ) (ws : List Word) where
   memory_read : read values_of here line parts.Memory (part_words parts.Memory w ++ ws) ≡ Some (Ok (value parts.Memory w), ws)
-  unfolding read memory
+  unfolding read
   memory_read =
       let o = operand_in ranges.Signed w in
       let rs1 = bits_of w 14 5 in
-      ap (λ more. memory values_of line (words.Sign 91 ∷ words.Register rs1 ∷ more)) (append_assoc (added_words o) (words.Sign 93 ∷ []) ws)
-      ∙ ap (λ a. summed (closed_by a)) (address_read values_of line rs1 o (words.Sign 93 ∷ ws))
-      ∙ ap (λ r. Some (r, ws)) (address_value ranges.Signed rs1 o (operand_inside ranges.Signed w refl))
+      ap (λ more. read values_of here line parts.Memory (words.Sign 91 ∷ words.Register rs1 ∷ more)) (append_assoc (added_words o) (words.Sign 93 ∷ []) ws)
+      ∙ ap closed_by (address_read values_of line ranges.Signed rs1 o (words.Sign 93 ∷ ws) (operand_inside ranges.Signed w refl))
 
   elsewhere_read : read values_of here line parts.Elsewhere (part_words parts.Elsewhere w ++ ws) ≡ Some (Ok (value parts.Elsewhere w), ws)
-  unfolding read elsewhere address after_register expression
+  unfolding read expression
   elsewhere_read =
       let n = number_in ranges.Space w in
       let whole : n % 2 ^ 8 ≡ n = omega arith in
@@ -121,13 +121,12 @@ module _ (values_of : List ℕ → Option ℕ) (here : ℕ) (line : List ℕ) (w
       ∙ ap (λ asi. Some (Ok (elsewhere_bits (bits_of w 14 5) (bits_of w 0 5) asi), ws)) whole
 
   part_read : (p : Part) → is_plain p ≡ true → read values_of here line p (part_words p w ++ ws) ≡ Some (Ok (value p w), ws)
-  unfolding read sum number expression
+  unfolding read expression
   part_read (parts.Register f) k = refl
   part_read parts.State k = refl
-  part_read (parts.Second range) k = second_read values_of line range (operand_in range w) ws (operand_inside range w k)
-  part_read (parts.Address range) k =
-      ap (λ a. either a (λ x. Some (sum_of range x.0, x.1)) None) (address_read values_of line (bits_of w 14 5) (operand_in range w) ws)
-      ∙ ap (λ r. Some (r, ws)) (address_value range (bits_of w 14 5) (operand_in range w) (operand_inside range w k))
+  part_read (parts.Second range) k =
+      ap (option_map (λ x. (x.0 >>= λ operand2. Ok (spell_operand operand2), x.1))) (second_read values_of line range (operand_in range w) ws (operand_inside range w k))
+  part_read (parts.Address range) k = address_read values_of line range (bits_of w 14 5) (operand_in range w) ws (operand_inside range w k)
   part_read parts.Memory k = memory_read
   part_read parts.Elsewhere k = elsewhere_read
   part_read (parts.Number range) k =
@@ -164,11 +163,14 @@ behind_heard (p ∷ ps) w h =
     (comma (part_heard w (behind_stops ps w) (behind_heard ps w (others_plain (is_plain p) (all_plain ps) h)) p (first_plain (is_plain p) (all_plain ps) h)))
 
 module _ (values_of : List ℕ → Option ℕ) (here : ℕ) (line : List ℕ) where
-  behind_read : (ps : List Part) (w : ℕ) → all_plain ps ≡ true → behind values_of here line ps (behind_words ps w) ≡ Some (Ok (values ps w))
+  abbrev then_behind : List Part → Read → Read
+  then_behind ps r = either r (λ x. option_map (λ y. (added x.0 y.0, y.1)) (behind values_of here line ps x.1)) None
+
+  behind_read : (ps : List Part) (w : ℕ) → all_plain ps ≡ true → behind values_of here line ps (behind_words ps w) ≡ Some (Ok (values ps w), [])
   behind_read [] w h = refl
   behind_read (p ∷ ps) w h =
-      ap (λ r. rest_of values_of here line r (behind values_of here line ps)) (part_read values_of here line w (behind_words ps w) p (first_plain (is_plain p) (all_plain ps) h))
-      ∙ ap (join (Ok (value p w))) (behind_read ps w (others_plain (is_plain p) (all_plain ps) h))
+      ap (then_behind ps) (part_read values_of here line w (behind_words ps w) p (first_plain (is_plain p) (all_plain ps) h))
+      ∙ ap (option_map (λ y. (added (Ok (value p w)) y.0, y.1))) (behind_read ps w (others_plain (is_plain p) (all_plain ps) h))
 
 -- ---- all operands of a form
 
@@ -182,12 +184,12 @@ pub record Operands (ps : List Part) (w : ℕ) : Type 0 where
   pub said : ℕ → List Word
   pub heard : Heard 40 (operands_text ps w) said
   pub stops : Stops (operands_text ps w)
-  pub reads : (values_of : List ℕ → Option ℕ) (here : ℕ) (line : List ℕ) (at : ℕ) → operands_of values_of here line ps (said at) ≡ Some (Ok (values ps w))
+  pub reads : (values_of : List ℕ → Option ℕ) (here : ℕ) (line : List ℕ) (at : ℕ) → operands_of values_of here line ps (said at) ≡ Some (Ok (values ps w), [])
   pub refuses : (ks : List Part) → shut ks ps ≡ true → (values_of : List ℕ → Option ℕ) (here : ℕ) (line : List ℕ) (at : ℕ) → operands_of values_of here line ks (said at) ≡ None
 
 shut_words : (ks : List Part) (p : Part) (ps : List Part) (w : ℕ) (ws : List Word) → shut ks (p ∷ ps) ≡ true
     → (values_of : List ℕ → Option ℕ) (here : ℕ) (line : List ℕ) → operands_of values_of here line ks (part_words p w ++ ws) ≡ None
-unfolding read number expression
+unfolding read expression
 shut_words (parts.Number range ∷ ks) (parts.Address other) ps w ws h values_of here line = refl
 shut_words _ _ ps w ws h values_of here line = absurd (cc)
 
@@ -198,7 +200,8 @@ plain_operands p ps w lead k h few = record {
       (at_most 40 (omega arith) (spaced (part_heard w (behind_stops ps w) (behind_heard ps w h) p k)));
   stops = subst (λ t. Stops ((t ++ part_text p w) ++ behind_text ps w)) (sym lead) (refl, refl);
   reads = λ values_of here line at.
-      ap (λ r. rest_of values_of here line r (behind values_of here line ps)) (part_read values_of here line w (behind_words ps w) p k) ∙ ap (join (Ok (value p w))) (behind_read values_of here line ps w h);
+      ap (then_behind values_of here line ps) (part_read values_of here line w (behind_words ps w) p k)
+      ∙ ap (option_map (λ y. (added (Ok (value p w)) y.0, y.1))) (behind_read values_of here line ps w h);
   refuses = λ ks s values_of here line at. shut_words ks p ps w (behind_words ps w) s values_of here line;
 }
 
@@ -214,18 +217,19 @@ heard_target : (d : ℕ) → Heard 3 (target_text d) (λ at. target_words d at (
 heard_target d = target_heard (bytes_away d) (away_is_word d) ended
 
 module _ (values_of : List ℕ → Option ℕ) (here : ℕ) (line : List ℕ) where
-  target_filled : (reach d i j : ℕ) (annul : Bool) → reach ≤ 2 ^ 29 → IsSigned reach d
+  target_filled : (reach d i j : ℕ) (annul : Bool) → reach ≤ 2 ^ 29 → IsSigned reach d → bytes_away d / 4 % (4 * reach / 2) ≡ d % (4 * reach / 2)
       → target values_of here line (4 * reach) annul (target_words d i j) ≡ Some (Ok (annul_bit annul + d % (4 * reach / 2)), [])
-  unfolding target expression
-  target_filled reach d i j annul small h =
-      ap (λ x. either x (λ e. Some (displacement (4 * reach) here e.0 >>= λ n. Ok (annul_bit annul + n % (4 * reach / 2)), e.1)) None)
-      (target_read values_of line i j (ltb (bytes_away d) (2 ^ 31)) (bytes_away d))
+  unfolding target
+  target_filled reach d i j annul small h same =
+      ap (option_map (λ e. (displacement (4 * reach) here e.0 >>= λ n. Ok (annul_bit annul + n % (4 * reach / 2)), e.1))) (target_read values_of line i j (ltb (bytes_away d) (2 ^ 31)) (bytes_away d))
       ∙ ap (λ r. Some (r >>= λ n. Ok (annul_bit annul + n % (4 * reach / 2)), [])) (target_value reach here d (values_of (bytes_between line i j)) small h)
+      ∙ ap (λ n. Some (Ok (annul_bit annul + n), [])) same
 
-  call_read : (w i j : ℕ) → operands_of values_of here line (parts.Call ∷ []) (target_words (far w) i j) ≡ Some (Ok (values (parts.Call ∷ []) w))
+  call_read : (w i j : ℕ) → operands_of values_of here line (parts.Call ∷ []) (target_words (far w) i j) ≡ Some (Ok (values (parts.Call ∷ []) w), [])
   unfolding read
-  call_read w i j = ap (λ x. rest_of values_of here line x (behind values_of here line [])) (target_filled (2 ^ 29) (far w) i j false (omega arith) (far_in w))
-      ∙ ap (λ n. Some (Ok (plus n 0))) (let z : 0 + far w % 2 ^ 30 ≡ far w % 2 ^ 30 = omega arith in z)
+  call_read w i j =
+      ap (then_behind values_of here line []) (target_filled (2 ^ 29) (far w) i j false (omega arith) (far_in w) (omega arith))
+      ∙ ap (λ n. Some (Ok (plus n 0), [])) (let z : 0 + far w % 2 ^ 30 ≡ far w % 2 ^ 30 = omega arith in z)
 
 target_end : (d : ℕ) → Heard 3 (target_text d ++ []) (λ at. target_words d at (at + 1))
 target_end d = subst (λ t. Heard 3 t (λ at. target_words d at (at + 1))) (sym (append-nil (target_text d))) (heard_target d)
@@ -270,12 +274,12 @@ branch_stops w true = (refl, refl)
 branch_stops w false = (refl, refl)
 
 branch_read : (values_of : List ℕ → Option ℕ) (here : ℕ) (line : List ℕ) (w at : ℕ) (t : Bool)
-    → operands_of values_of here line (parts.Branch ∷ []) (branch_words w t at) ≡ Some (Ok (plus (annul_bit t + near w % 2 ^ 22) 0))
-unfolding read after_annul
+    → operands_of values_of here line (parts.Branch ∷ []) (branch_words w t at) ≡ Some (Ok (plus (annul_bit t + near w % 2 ^ 22) 0), [])
+unfolding read
 branch_read values_of here line w at true =
-    ap (λ x. rest_of values_of here line x (behind values_of here line [])) (target_filled values_of here line (2 ^ 21) (near w) (at + 1 + 1 + 1) (at + 1 + 1 + 1 + 1) true (omega arith) (near_in w))
+    ap (then_behind values_of here line []) (target_filled values_of here line (2 ^ 21) (near w) (at + 1 + 1 + 1) (at + 1 + 1 + 1 + 1) true (omega arith) (near_in w) (omega arith))
 branch_read values_of here line w at false =
-    ap (λ x. rest_of values_of here line x (behind values_of here line [])) (target_filled values_of here line (2 ^ 21) (near w) (at + 1) (at + 1 + 1) false (omega arith) (near_in w))
+    ap (then_behind values_of here line []) (target_filled values_of here line (2 ^ 21) (near w) (at + 1) (at + 1 + 1) false (omega arith) (near_in w) (omega arith))
 
 branch_operands : (w : ℕ) → Operands (parts.Branch ∷ []) w
 branch_operands w = record {

@@ -5,7 +5,6 @@ use Rattle.std.proofs.lemmas.Bool.{cond_both, le-leb, lt-ltb, ltb-true, ltb-fals
 use Rattle.v8_word.specs.Word.{bits_of, sign_extend}
 use Rattle.v8_formats.specs.declared.instr.Operand.{Operand}
 use Rattle.v8_formats.specs.declared.instr.Operand.TheVariants as operands
-use Rattle.v8_formats.specs.Spelling.{spell_operand}
 use Rattle.v8_forms.specs.declared.part.Range.{Range}
 use Rattle.v8_forms.specs.declared.part.Range.TheVariants as ranges
 use Rattle.v8_syntax.specs.declared.word.Word.{Word}
@@ -15,20 +14,14 @@ use Rattle.v8_syntax.specs.declared.fault.SyntaxFault.{SyntaxFault}
 use Rattle.v8_syntax.specs.declared.fault.SyntaxFault.TheVariants.{Immediate, Target}
 use Rattle.v8_syntax.specs.declared.expression.Base.TheVariants as bases
 use Rattle.v8_syntax.specs.declared.expression.Expression.{Expression}
-use Rattle.v8_syntax.specs.declared.address.Address.{Address}
-use Rattle.v8_syntax.specs.declared.address.Address.TheVariants as addresses
 use Rattle.v8_forms.specs.Text.{number_in, operand_in, sum_bits}
 use Rattle.v8_syntax.specs.Words.{bytes_between}
-use Rattle.v8_syntax.specs.Operands.{◌>>=◌, plain, less, expression, after_register, address, second, sum_of, immediate, word_in, in_range, distance, displacement, reached, quarter}
+use Rattle.v8_syntax.specs.Operands.{◌>>=◌, plain, less, expression, added_second, address, second, sum_of, immediate, word_in, in_range, offset_of, distance, displacement, reached}
 use Rattle.v8_rereading.proofs.Pieces.{OperandIn, signed_words, offset_words, operand_words, added_words}
 
 -- what stands for a word that is read as signed
 abbrev pub signed_expression : Bool → ℕ → Expression
 signed_expression t n = cond t (plain bases.Number n) (less bases.Number (2 ^ 32 - n))
-
-abbrev pub address_of : ℕ → Operand → Address
-address_of rs1 (operands.Register r) = addresses.Both rs1 r
-address_of rs1 (operands.Immediate n) = addresses.Offset rs1 (signed_expression (ltb n (2 ^ 31)) n)
 
 -- a target by its distance
 abbrev pub place_expression : Option ℕ → Bool → ℕ → Expression
@@ -152,22 +145,24 @@ module _ (values : List ℕ → Option ℕ) (line : List ℕ) where
   signed_read range true n ws = refl
   signed_read range false n ws = refl
 
-  pub second_read : (range : Range) (o : Operand) (ws : List Word) → OperandIn (In range) o → second values line range (operand_words o ++ ws) ≡ Some (Ok (spell_operand o), ws)
+  pub second_read : (range : Range) (o : Operand) (ws : List Word) → OperandIn (In range) o → second values line range (operand_words o ++ ws) ≡ Some (Ok o, ws)
   unfolding second
   second_read range (operands.Register r) ws h = refl
   second_read range (operands.Immediate n) ws h =
-      signed_read range (ltb n (2 ^ 31)) n ws ∙ ap (λ r. Some (r >>= λ m. Ok (spell_operand (operands.Immediate m)), ws)) (worth range n h)
+      signed_read range (ltb n (2 ^ 31)) n ws ∙ ap (λ r. Some (r >>= λ m. Ok (operands.Immediate m), ws)) (worth range n h)
 
-  offset_read : (rs1 : ℕ) (t : Bool) (n : ℕ) (ws : List Word)
-      → address values line (words.Register rs1 ∷ (offset_words t n ++ ws)) ≡ Some (addresses.Offset rs1 (signed_expression t n), ws)
-  unfolding address after_register expression
-  offset_read rs1 true n ws = refl
-  offset_read rs1 false n ws = refl
+  offset_read : (range : Range) (rs1 : ℕ) (t : Bool) (n : ℕ) (ws : List Word)
+      → address values line range (words.Register rs1 ∷ (offset_words t n ++ ws)) ≡ Some (sum_of rs1 (immediate range (signed_expression t n)), ws)
+  unfolding address added_second second expression
+  offset_read range rs1 true n ws = refl
+  offset_read range rs1 false n ws = refl
 
-  pub address_read : (rs1 : ℕ) (o : Operand) (ws : List Word) → address values line (words.Register rs1 ∷ (added_words o ++ ws)) ≡ Some (address_of rs1 o, ws)
-  unfolding address after_register
-  address_read rs1 (operands.Register r) ws = refl
-  address_read rs1 (operands.Immediate n) ws = offset_read rs1 (ltb n (2 ^ 31)) n ws
+  pub address_read : (range : Range) (rs1 : ℕ) (o : Operand) (ws : List Word) → OperandIn (In range) o
+      → address values line range (words.Register rs1 ∷ (added_words o ++ ws)) ≡ Some (Ok (sum_bits rs1 o), ws)
+  unfolding address added_second second
+  address_read range rs1 (operands.Register r) ws h = refl
+  address_read range rs1 (operands.Immediate n) ws h =
+      offset_read range rs1 (ltb n (2 ^ 31)) n ws ∙ ap (λ r. Some (sum_of rs1 (r >>= λ m. Ok (operands.Immediate m)), ws)) (worth range n h)
 
   pub target_read : (i j : ℕ) (t : Bool) (n : ℕ)
       → expression values line (words.Name names.Place i j ∷ offset_words t n) ≡ Some (place_expression (values (bytes_between line i j)) t n, [])
@@ -175,27 +170,19 @@ module _ (values : List ℕ → Option ℕ) (line : List ℕ) where
   target_read i j true n = refl
   target_read i j false n = refl
 
-pub address_value : (range : Range) (rs1 : ℕ) (o : Operand) → OperandIn (In range) o → sum_of range (address_of rs1 o) ≡ Ok (sum_bits rs1 o)
-address_value range rs1 (operands.Register r) h = refl
-address_value range rs1 (operands.Immediate n) h = ap (λ r. r >>= λ m. Ok (sum_bits rs1 (operands.Immediate m))) (worth range n h)
-
 -- ---- targets
 
--- a displacement of words, as bytes and back
-quarter_by : (t : Bool) (d : ℕ) → (t ≡ true → d < 2 ^ 29) → (t ≡ false → (2 ^ 32 - 2 ^ 29 ≤ d) × (d < 2 ^ 32)) → cond t (4 * d % 2 ^ 32 / 4) (4 * d % 2 ^ 32 / 4 + 3 * 2 ^ 30) ≡ d
-quarter_by true d f g = let h = f refl in omega arith
-quarter_by false d f g = let h = g refl in omega arith
-
-distance_by : (v : Option ℕ) (here : ℕ) (t : Bool) (n : ℕ) → (t ≡ true → n < 2 ^ 31) → (t ≡ false → (2 ^ 31 ≤ n) × (n < 2 ^ 32)) → distance here (place_expression v t n) ≡ Ok n
-unfolding distance
+distance_by : (v : Option ℕ) (here : ℕ) (t : Bool) (n : ℕ) → (t ≡ true → n < 2 ^ 31) → (t ≡ false → (2 ^ 31 ≤ n) × (n < 2 ^ 32))
+    → distance here (place_expression v t n).base (offset_of (place_expression v t n)) ≡ Ok n
 distance_by v here true n f g = let h = f refl in positive_in 2147483647 2147483647 n Target (omega arith)
 distance_by v here false n f g = let h = g refl in negative_in 2147483647 2147483647 n Target h.1 (omega arith)
 
+-- a displacement of words, as bytes
 abbrev pub bytes_away : ℕ → ℕ
 bytes_away d = 4 * d % 2 ^ 32
 
-reached_by : (a b c : Bool) (q d : ℕ) → a ≡ true → (b || c) ≡ true → q ≡ d → cond (a && (b || c)) (Ok q) (Err Target) ≡ Ok d
-reached_by a b c q d e f g = ap (λ t. cond (t && (b || c)) (Ok q) (Err Target)) e ∙ ap (λ t. cond t (Ok q) (Err Target)) f ∙ ap (λ m. Ok m) g
+reached_by : (a b c : Bool) (q : ℕ) → a ≡ true → (b || c) ≡ true → cond (a && (b || c)) (Ok q) (Err Target) ≡ Ok q
+reached_by a b c q e f = ap (λ t. cond (t && (b || c)) (Ok q) (Err Target)) e ∙ ap (λ t. cond t (Ok q) (Err Target)) f
 
 or_first : (b c : Bool) → b ≡ true → (b || c) ≡ true
 or_first b c e = ap (λ t. t || c) e
@@ -209,15 +196,11 @@ near : (reach d : ℕ) → reach ≤ 2 ^ 29 → IsSigned reach d → (ltb (bytes
 near reach d small (inl h) = or_first _ _ (lt-ltb (bytes_away d) (4 * reach) (omega arith))
 near reach d small (inr h) = or_second (ltb (bytes_away d) (4 * reach)) _ (le-leb (2 ^ 32 - 4 * reach) (bytes_away d) (omega arith))
 
-quarter_of : (reach d : ℕ) → reach ≤ 2 ^ 29 → IsSigned reach d → quarter (bytes_away d) ≡ d
-quarter_of reach d small (inl h) = quarter_by (ltb (bytes_away d) (2 ^ 31)) d (λ _. omega arith) (λ e. let ge = ltb-false (bytes_away d) (2 ^ 31) e in absurd (omega arith))
-quarter_of reach d small (inr h) = quarter_by (ltb (bytes_away d) (2 ^ 31)) d (λ e. let lt = ltb-true (bytes_away d) (2 ^ 31) e in absurd (omega arith)) (λ _. (omega arith, h.1))
-
 pub target_value : (reach here d : ℕ) (v : Option ℕ) → reach ≤ 2 ^ 29 → IsSigned reach d
-    → displacement (4 * reach) here (place_expression v (ltb (bytes_away d) (2 ^ 31)) (bytes_away d)) ≡ Ok d
+    → displacement (4 * reach) here (place_expression v (ltb (bytes_away d) (2 ^ 31)) (bytes_away d)) ≡ Ok (bytes_away d / 4)
 unfolding displacement
 target_value reach here d v small h =
     let whole : bytes_away d % 4 ≡ 0 = omega arith in
     ap (λ r. r >>= reached (4 * reach)) (distance_by v here (ltb (bytes_away d) (2 ^ 31)) (bytes_away d) (λ e. ltb-true (bytes_away d) (2 ^ 31) e) (λ e. (ltb-false (bytes_away d) (2 ^ 31) e, omega arith)))
-    ∙ reached_by (eqb (bytes_away d % 4) 0) (ltb (bytes_away d) (4 * reach)) (leb (2 ^ 32 - 4 * reach) (bytes_away d)) (quarter (bytes_away d)) d
-    (eq-eqb (bytes_away d % 4) 0 whole) (near reach d small h) (quarter_of reach d small h)
+    ∙ reached_by (eqb (bytes_away d % 4) 0) (ltb (bytes_away d) (4 * reach)) (leb (2 ^ 32 - 4 * reach) (bytes_away d)) (bytes_away d / 4)
+    (eq-eqb (bytes_away d % 4) 0 whole) (near reach d small h)

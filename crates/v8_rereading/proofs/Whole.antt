@@ -14,13 +14,11 @@ use Rattle.v8_formats.specs.Table.{meaning}
 use Rattle.v8_formats.proofs.TableOk.{meaning-spelling}
 use Rattle.v8_syntax.specs.declared.fault.SyntaxFault.{SyntaxFault}
 use Rattle.v8_syntax.specs.declared.fault.SyntaxFault.TheVariants.{UnknownMnemonic}
-use Rattle.v8_syntax.specs.declared.statement.Words.{Words}
-use Rattle.v8_syntax.specs.declared.statement.Words.TheVariants as counts
 use Rattle.v8_forms.specs.Forms.{Form, forms}
 use Rattle.v8_forms.specs.Text.{native_of, operands_text, shown, suffix_text, text_of}
-use Rattle.v8_syntax.specs.Words.{words_of}
+use Rattle.v8_syntax.specs.Words.{word_of, words_of}
 use Rattle.v8_syntax.specs.Operands.{◌>>=◌}
-use Rattle.v8_syntax.specs.Statements.{first_of, instructions, named_meaning, set, source_meaning}
+use Rattle.v8_syntax.specs.Statements.{first_of, named_meaning, set, source_meaning}
 use Rattle.v8_rereading.specs.Laws.{IsReadAs, ReadsEachTextBack}
 use Rattle.v8_rereading.proofs.Bytes.{is_name, name_front}
 use Rattle.v8_rereading.proofs.Covered.{has_form}
@@ -32,9 +30,9 @@ name_not_empty : (text : List ℕ) → is_name text ≡ true → 0 < length text
 name_not_empty [] h = absurd (false≢true h)
 name_not_empty (b ∷ text) h = omega arith
 
-no_set_meaning : (t : Bool) (r : Result Words SyntaxFault) (m : Result ℕ SyntaxFault) (w : ℕ) → t ≡ false → m ≡ Ok w → cond t r (m >>= λ n. Ok (counts.Single n)) ≡ Ok (counts.Single w)
+no_set_meaning : (t : Bool) (r : Result (List Instr) SyntaxFault) (m : Result ℕ SyntaxFault) (w : ℕ) → t ≡ false → m ≡ Ok w → cond t r (m >>= λ n. Ok (meaning n ∷ [])) ≡ Ok (meaning w ∷ [])
 no_set_meaning true r m w e h = absurd (cc)
-no_set_meaning false r m w e h = ap (λ x. x >>= λ n. Ok (counts.Single n)) h
+no_set_meaning false r m w e h = ap (λ x. x >>= λ n. Ok (meaning n ∷ [])) h
 
 module _ (f : Form) (w : ℕ) (found : native_of w ≡ Some f) (known : Found f w) (told : Operands f.parts w) where
   name : List ℕ
@@ -42,14 +40,13 @@ module _ (f : Form) (w : ℕ) (found : native_of w ≡ Some f) (known : Found f 
 
   spoken_at : (ts : List Token) (values_of : List ℕ → Option ℕ) (here at : ℕ) → words_of (name ++ operands_text f.parts w) ts ≡ told.said at
       → source_meaning values_of here (name ++ operands_text f.parts w) (record { kind = kinds.Name; start = 0; stop = 0 + length name } ∷ ts) ≡ Ok (meaning w ∷ [])
-  unfolding name named_meaning
+  unfolding name named_meaning word_of
   spoken_at ts values_of here at e =
       let line : List ℕ = name ++ operands_text f.parts w in
-      ap (λ n. named_meaning values_of here line n (words_of line ts) >>= λ x. Ok (instructions x)) (between line [] name (operands_text f.parts w) 0 refl refl)
-      ∙ ap (λ ws. named_meaning values_of here line name ws >>= λ x. Ok (instructions x)) e
-      ∙ ap (λ r. r >>= λ x. Ok (instructions x))
-      (no_set_meaning (bytes_eq name (codes "set")) (set values_of line (told.said at)) (first_of values_of here line UnknownMnemonic forms name (told.said at)) w known.no_set
-      (first_is values_of here line (told.said at) f w name found known (told.reads values_of here line at) refl (λ ks s. told.refuses ks s values_of here line at)))
+      ap (λ n. named_meaning values_of here line n (words_of line ts)) (between line [] name (operands_text f.parts w) 0 refl refl)
+      ∙ ap (named_meaning values_of here line name) e
+      ∙ no_set_meaning (bytes_eq name (codes "set")) (set values_of line (told.said at)) (first_of values_of here line UnknownMnemonic forms name (told.said at)) w known.no_set
+      (first_is values_of here line (told.said at) f w name found known (told.reads values_of here line at) refl (λ ks s. told.refuses ks s values_of here line at))
 
   spoken : IsReadAs (name ++ operands_text f.parts w) (meaning w)
   unfolding name

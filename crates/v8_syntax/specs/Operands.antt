@@ -1,79 +1,81 @@
--- What the words behind a statement's name mean as its operands (appendix A): each reading gives what the operand fills in the
--- instruction's word, or why its value doesn't fit, and the words after it; and none where the words have another shape.
+-- What the words behind a statement's name mean as its operands (appendix A): what each fills in the instruction's word, or why its
+-- value doesn't fit.
 use Rattle.std.specs.Prelude.{ℕ, ◌+◌, ◌-◌, ◌*◌, ◌/◌, ◌%◌, ◌^◌, ◌==◌, Bool, true, false, ◌&&◌, ◌||◌, nat_lt, nat_le, if◌then◌else◌, ℤ, pos, negsuc, ◌+ℤ◌, neg_ℤ, int_le, List, [], ◌∷◌, Option, Some, None, Result, Ok, Err}
+use Rattle.std.specs.Option.{option_map, option_or}
+use Rattle.v8_formats.specs.declared.instr.Operand.{Operand}
 use Rattle.v8_formats.specs.declared.instr.Operand.TheVariants as operands
 use Rattle.v8_formats.specs.Spelling.{spell_operand}
-use Rattle.v8_syntax.specs.declared.fault.SyntaxFault.{SyntaxFault}
-use Rattle.v8_syntax.specs.declared.fault.SyntaxFault.TheVariants.{Immediate, UnknownSymbol, Target}
 use Rattle.v8_forms.specs.declared.part.Part.{Part}
 use Rattle.v8_forms.specs.declared.part.Part.TheVariants as parts
-use Rattle.v8_forms.specs.declared.part.Field.{Field}
 use Rattle.v8_forms.specs.declared.part.Range.{Range}
 use Rattle.v8_forms.specs.declared.part.Range.TheVariants as ranges
 use Rattle.v8_forms.specs.declared.part.Special.{Special}
-use Rattle.v8_syntax.specs.declared.word.Word.{Word}
-use Rattle.v8_syntax.specs.declared.word.Word.TheVariants as words
-use Rattle.v8_syntax.specs.declared.word.NameKind.{NameKind}
-use Rattle.v8_syntax.specs.declared.word.NameKind.TheVariants as names
-use Rattle.v8_syntax.specs.declared.expression.Base.{Base}
-use Rattle.v8_syntax.specs.declared.expression.Base.TheVariants as bases
-use Rattle.v8_syntax.specs.declared.expression.Expression.{Expression}
-use Rattle.v8_syntax.specs.declared.address.Address.{Address}
-use Rattle.v8_syntax.specs.declared.address.Address.TheVariants as addresses
 use Rattle.v8_forms.specs.Forms.{scale, least, greatest, width, plus}
 use Rattle.v8_forms.specs.Text.{code_of, sum_bits, elsewhere_bits, annul_bit}
-use Rattle.v8_syntax.specs.Words.{bytes_between}
-
--- the first reading where there is one, else the second
-abbrev pub either : {A B : Type 0} → Option A → (A → B) → B → B
-either (Some x) f other = f x
-either None f other = other
+pub use Rattle.v8_syntax.specs.declared.fault.SyntaxFault.{SyntaxFault}
+pub use Rattle.v8_syntax.specs.declared.fault.SyntaxFault.TheVariants.{UnknownMnemonic, Shape, Immediate, UnknownSymbol, Target}
+pub use Rattle.v8_syntax.specs.declared.expression.Base.{Base}
+use Rattle.v8_syntax.specs.declared.expression.Base.TheVariants as bases
+pub use Rattle.v8_syntax.specs.declared.expression.Expression.{Expression}
+use Rattle.v8_syntax.specs.declared.word.Word.TheVariants as words
+use Rattle.v8_syntax.specs.declared.word.NameKind.TheVariants as names
+use Rattle.v8_syntax.specs.Words.{Word, NameKind, either, bytes_between}
 
 infixl 10 ◌>>=◌
 abbrev pub ◌>>=◌ : {A B : Type 0} → Result A SyntaxFault → (A → Result B SyntaxFault) → Result B SyntaxFault
 (Ok x) >>= f = f x
 (Err e) >>= f = Err e
 
--- ---- one word
+-- ---- readings: what stands at the front of some words, and the words after it
+
+abbrev pub Reading : Type 0 → Type 0
+Reading A = List Word → Option (A × List Word)
+
+infixl 30 ◌and_then◌
+abbrev pub ◌and_then◌ : {A B : Type 0} → Reading A → (A → Reading B) → Reading B
+p and_then f = λ ws. either (p ws) (λ x. f x.0 x.1) None
+
+infixl 30 ◌giving◌
+abbrev pub ◌giving◌ : {A B : Type 0} → Reading A → (A → B) → Reading B
+p giving f = λ ws. option_map (λ x. (f x.0, x.1)) (p ws)
+
+infixl 20 ◌or_else◌
+abbrev pub ◌or_else◌ : {A : Type 0} → Reading A → Reading A → Reading A
+p or_else q = λ ws. option_or (p ws) (q ws)
+
+-- nothing is read
+abbrev pub gives : {A : Type 0} → A → Reading A
+gives x = λ ws. Some (x, ws)
+
+abbrev pub end : Reading (Unit {0})
+end [] = Some (tt, [])
+end _ = None
 
 abbrev pub after_sign : ℕ → List Word → Option (List Word)
-after_sign b (words.Sign c ∷ rest) = if c == b then Some rest else None
+after_sign b (words.Sign c ∷ ws) = if c == b then Some ws else None
 after_sign b _ = None
 
-abbrev pub number_first : List Word → Option (ℕ × List Word)
-number_first (words.Number n ∷ rest) = Some (n, rest)
+-- a reading behind a sign
+abbrev pub after : {A : Type 0} → ℕ → Reading A → Reading A
+after b p = λ ws. either (after_sign b ws) p None
+
+abbrev pub number_first : Reading ℕ
+number_first (words.Number n ∷ ws) = Some (n, ws)
 number_first _ = None
 
-abbrev pub register_first : List Word → Option (ℕ × List Word)
-register_first (words.Register r ∷ rest) = Some (r, rest)
+abbrev pub register_first : Reading ℕ
+register_first (words.Register r ∷ ws) = Some (r, ws)
 register_first _ = None
 
-abbrev pub special_first : List Word → Option (Special × List Word)
-special_first (words.Special s ∷ rest) = Some (s, rest)
+abbrev pub special_first : Reading Special
+special_first (words.Special s ∷ ws) = Some (s, ws)
 special_first _ = None
 
--- a name: whether it is `a` or `.`, and its bytes' place in the line
-abbrev pub name_first : List Word → Option ((NameKind × ℕ × ℕ) × List Word)
-name_first (words.Name k i j ∷ rest) = Some ((k, i, j), rest)
-name_first _ = None
-
-abbrev pub ends : {A : Type 0} → List Word → A → A → A
-ends [] x y = x
-ends (w ∷ ws) x y = y
-
--- `,a`
-abbrev pub is_annul : NameKind → Bool
-is_annul names.Annul = true
-is_annul _ = false
-
-unfoldable pub after_annul : List Word → Option (List Word)
-after_annul ws = either (after_sign 44 ws) (λ rest. either (name_first rest) (λ x. if is_annul x.0.0 then Some x.1 else None) None) None
+abbrev pub annul_first : Reading Bool
+annul_first (words.Name names.Annul i j ∷ ws) = Some (true, ws)
+annul_first _ = None
 
 -- ---- expressions: a number, `-` number, a symbol, a symbol with `+` or `-` number
-
--- a number behind the sign
-abbrev pub number_after : ℕ → List Word → Option (ℕ × List Word)
-number_after sign ws = either (after_sign sign ws) (λ rest. number_first rest) None
 
 abbrev pub plain : Base → ℕ → Expression
 plain base n = record { base = base; negative = false; number = n }
@@ -81,30 +83,27 @@ plain base n = record { base = base; negative = false; number = n }
 abbrev pub less : Base → ℕ → Expression
 less base n = record { base = base; negative = true; number = n }
 
+abbrev pub negative : Base → Reading Expression
+negative base = after 45 number_first giving less base
+
 -- `.` before a sign is the place of the instruction; else it is a symbol, as other names are
 abbrev pub moved : NameKind → Option ℕ → Base
 moved names.Place value = bases.Here value
 moved _ value = bases.Symbol value
 
-abbrev pub named_expression : NameKind → Option ℕ → List Word → Expression × List Word
-named_expression kind value rest =
-    either (number_after 43 rest) (λ x. (plain (moved kind value) x.0, x.1))
-    (either (number_after 45 rest) (λ x. (less (moved kind value) x.0, x.1))
-    (plain (bases.Symbol value) 0, rest))
+abbrev pub named_expression : NameKind → Option ℕ → Reading Expression
+named_expression kind value = after 43 number_first giving plain (moved kind value) or_else negative (moved kind value) or_else gives (plain (bases.Symbol value) 0)
 
--- ---- values: whole numbers, without wrapping
+-- ---- their values: whole numbers, without wrapping
 
 abbrev pub offset_of : Expression → ℤ
 offset_of e = if e.negative then neg_ℤ (pos e.number) else pos e.number
 
-abbrev pub symbol_value : Option ℕ → ℤ → Result ℤ SyntaxFault
-symbol_value (Some v) z = Ok (pos v +ℤ z)
-symbol_value None z = Err UnknownSymbol
-
 abbrev pub based : Base → ℤ → Result ℤ SyntaxFault
 based bases.Number z = Ok z
-based (bases.Symbol v) z = symbol_value v z
-based (bases.Here v) z = symbol_value v z
+based (bases.Symbol (Some v)) z = Ok (pos v +ℤ z)
+based (bases.Here (Some v)) z = Ok (pos v +ℤ z)
+based _ z = Err UnknownSymbol
 
 -- a number of 32 bits, signed or not, as a word
 abbrev pub word_of_number : ℤ → ℕ
@@ -118,157 +117,85 @@ in_range low high fault z = if int_le low z && int_le z high then Ok (word_of_nu
 unfoldable pub word_in : Range → Expression → Result ℕ SyntaxFault
 word_in range e = based e.base (offset_of e) >>= in_range (least range) (greatest range) Immediate
 
--- ---- targets (appendix B, "Branch on Integer Condition Codes" and "Call and Link")
-
 -- how many bytes from the instruction, as a word: `.+N` itself, or from here to an address below 2 ^ 32
-abbrev pub distance_to : ℕ → ℕ → ℕ
-distance_to here target = (target + 2 ^ 32 - here) % 2 ^ 32
+abbrev pub distance : ℕ → Base → ℤ → Result ℕ SyntaxFault
+distance here (bases.Here v) z = in_range (negsuc 2147483647) (pos 2147483647) Target z
+distance here base z = based base z >>= in_range (pos 0) (pos 4294967295) Target >>= λ target. Ok ((target + 2 ^ 32 - here) % 2 ^ 32)
 
-abbrev pub is_here : Base → Bool
-is_here (bases.Here v) = true
-is_here _ = false
-
-unfoldable pub distance : ℕ → Expression → Result ℕ SyntaxFault
-distance here e =
-    if is_here e.base then in_range (negsuc 2147483647) (pos 2147483647) Target (offset_of e)
-    else (based e.base (offset_of e) >>= in_range (pos 0) (pos 4294967295) Target >>= λ target. Ok (distance_to here target))
-
--- a quarter of a signed word
-abbrev pub quarter : ℕ → ℕ
-quarter w = if nat_lt w (2 ^ 31) then w / 4 else w / 4 + 3 * 2 ^ 30
-
--- a multiple of 4 less than so many bytes before, or after, the instruction
+-- a multiple of 4 less than so many bytes before, or after, the instruction, in words
 abbrev pub reached : ℕ → ℕ → Result ℕ SyntaxFault
-reached reach w = if w % 4 == 0 && (nat_lt w reach || nat_le (2 ^ 32 - reach) w) then Ok (quarter w) else Err Target
+reached reach w = if w % 4 == 0 && (nat_lt w reach || nat_le (2 ^ 32 - reach) w) then Ok (w / 4) else Err Target
 
+-- the words to a target (appendix B, "Branch on Integer Condition Codes" and "Call and Link")
 unfoldable pub displacement : ℕ → ℕ → Expression → Result ℕ SyntaxFault
-displacement reach here e = distance here e >>= reached reach
+displacement reach here e = distance here e.base (offset_of e) >>= reached reach
 
 -- ---- what operands fill
 
--- a register or an expression behind its own
-unfoldable pub after_expression : Expression → List Word → Option (Address × List Word)
-after_expression e rest =
-    either (after_sign 43 rest) (λ more. either (register_first more) (λ x. Some (addresses.Offset x.0 e, x.1)) None)
-    (Some (addresses.Absolute e, rest))
-
--- a number as the second operand
-abbrev pub immediate : Range → Expression → Result ℕ SyntaxFault
-immediate range e = word_in range e >>= λ n. Ok (spell_operand (operands.Immediate n))
-
--- a register alone is added to %g0, and so is a number
-abbrev pub sum_of : Range → Address → Result ℕ SyntaxFault
-sum_of range (addresses.Register r) = Ok (sum_bits r (operands.Register 0))
-sum_of range (addresses.Both r q) = Ok (sum_bits r (operands.Register q))
-sum_of range (addresses.Offset r e) = word_in range e >>= λ n. Ok (sum_bits r (operands.Immediate n))
-sum_of range (addresses.Absolute e) = word_in range e >>= λ n. Ok (sum_bits 0 (operands.Immediate n))
-
--- two registers, the second %g0 where it is left out
-abbrev pub pair_of : Address → Option (ℕ × ℕ)
-pair_of (addresses.Register r) = Some (r, 0)
-pair_of (addresses.Both r q) = Some (r, q)
-pair_of _ = None
-
-abbrev pub Reading : Type 0
-Reading = Option (Result ℕ SyntaxFault × List Word)
+abbrev pub Filled : Type 0
+Filled = Result ℕ SyntaxFault
 
 -- both are filled in, or the first fault
-abbrev pub added : Result ℕ SyntaxFault → Result ℕ SyntaxFault → Result ℕ SyntaxFault
+abbrev pub added : Filled → Filled → Filled
 added x y = x >>= λ a. y >>= λ b. Ok (plus a b)
 
-abbrev pub join : Result ℕ SyntaxFault → Option (Result ℕ SyntaxFault) → Option (Result ℕ SyntaxFault)
-join x (Some y) = Some (added x y)
-join x None = None
+-- a number as the second operand
+abbrev pub immediate : Range → Expression → Result Operand SyntaxFault
+immediate range e = word_in range e >>= λ n. Ok (operands.Immediate n)
 
-abbrev pub register_at : Field → List Word → Reading
-register_at f ws = either (register_first ws) (λ x. Some (Ok (x.0 * scale f), x.1)) None
+abbrev pub sum_of : ℕ → Result Operand SyntaxFault → Filled
+sum_of rs1 o = o >>= λ operand2. Ok (sum_bits rs1 operand2)
 
-abbrev pub state : List Word → Reading
-state ws = either (special_first ws) (λ x. Some (Ok (code_of x.0 * 2 ^ 19), x.1)) None
+abbrev pub space_bits : ℕ → ℕ → Expression → Filled
+space_bits rs1 rs2 e = word_in ranges.Space e >>= λ asi. Ok (elsewhere_bits rs1 rs2 (asi % 2 ^ 8))
+
+-- a register behind `+`, else %g0
+abbrev pub added_register : Reading ℕ
+added_register = after 43 register_first or_else gives 0
 
 -- what the symbols are worth, and the line
 module _ (values : List ℕ → Option ℕ) (line : List ℕ) where
-  unfoldable pub expression : List Word → Option (Expression × List Word)
-  expression ws =
-      either (number_first ws) (λ x. Some (plain bases.Number x.0, x.1))
-      (either (number_after 45 ws) (λ x. Some (less bases.Number x.0, x.1))
-      (either (name_first ws) (λ x. Some (named_expression x.0.0 (values (bytes_between line x.0.1 x.0.2)) x.1))
-      None))
+  unfoldable pub expression : Reading Expression
+  expression (words.Number n ∷ ws) = Some (plain bases.Number n, ws)
+  expression (words.Name kind i j ∷ ws) = named_expression kind (values (bytes_between line i j)) ws
+  expression ws = negative bases.Number ws
 
-  -- reg, reg + reg, reg + expression, reg - number
-  unfoldable pub after_register : ℕ → List Word → Option (Address × List Word)
-  after_register r rest =
-      either (after_sign 43 rest)
-      (λ more.
-      either (register_first more) (λ x. Some (addresses.Both r x.0, x.1))
-      (either (expression more) (λ x. Some (addresses.Offset r x.0, x.1))
-      None))
-      (either (after_sign 45 rest) (λ more. either (number_first more) (λ x. Some (addresses.Offset r (less bases.Number x.0), x.1)) None)
-      (Some (addresses.Register r, rest)))
+  unfoldable pub second : Range → Reading (Result Operand SyntaxFault)
+  second range = register_first giving (λ r. Ok (operands.Register r)) or_else expression giving immediate range
 
-  -- such a one, expression, expression + reg
-  unfoldable pub address : List Word → Option (Address × List Word)
-  address ws =
-      either (register_first ws) (λ x. after_register x.0 x.1)
-      (either (expression ws) (λ x. after_expression x.0 x.1)
-      None)
+  -- such a one behind `+`, a number behind `-`, else %g0
+  unfoldable pub added_second : Range → Reading (Result Operand SyntaxFault)
+  added_second range = after 43 (second range) or_else negative bases.Number giving immediate range or_else gives (Ok (operands.Register 0))
 
-  -- an address in brackets
-  abbrev pub bracketed : List Word → Option (Address × List Word)
-  bracketed ws = either (after_sign 91 ws) (λ inner. either (address inner) (λ x. either (after_sign 93 x.1) (λ rest. Some (x.0, rest)) None) None) None
-
-  unfoldable pub second : Range → List Word → Reading
-  second range ws =
-      either (register_first ws) (λ x. Some (Ok (spell_operand (operands.Register x.0)), x.1))
-      (either (expression ws) (λ x. Some (immediate range x.0, x.1))
-      None)
-
-  unfoldable pub sum : Range → List Word → Reading
-  sum range ws = either (address ws) (λ x. Some (sum_of range x.0, x.1)) None
-
-  unfoldable pub memory : List Word → Reading
-  memory ws = either (bracketed ws) (λ x. Some (sum_of ranges.Signed x.0, x.1)) None
-
-  -- behind the brackets stands a space
-  abbrev pub space : ℕ → ℕ → List Word → Reading
-  space rs1 rs2 ws = either (expression ws) (λ x. Some (word_in ranges.Space x.0 >>= λ asi. Ok (elsewhere_bits rs1 rs2 (asi % 2 ^ 8)), x.1)) None
-
-  unfoldable pub elsewhere : List Word → Reading
-  elsewhere ws = either (bracketed ws) (λ x. either (pair_of x.0) (λ p. space p.0 p.1 x.1) None) None
-
-  unfoldable pub number : Range → List Word → Reading
-  number range ws = either (expression ws) (λ x. Some (word_in range x.0 >>= λ n. Ok (n % 2 ^ width range), x.1)) None
+  -- a register and such a one; an expression, and a register behind it
+  unfoldable pub address : Range → Reading Filled
+  address range =
+      (register_first and_then λ r. added_second range giving sum_of r)
+      or_else (expression and_then λ e. added_register giving λ r. sum_of r (immediate range e))
 
 -- and where the statement stands
 module _ (values : List ℕ → Option ℕ) (here : ℕ) (line : List ℕ) where
-  -- less than so many bytes away, in half as many words
-  unfoldable pub target : ℕ → Bool → List Word → Reading
-  target reach annul ws =
-      either (expression values line ws) (λ x. Some (displacement reach here x.0 >>= λ d. Ok (annul_bit annul + d % (reach / 2)), x.1)) None
+  -- its words in a field of the bits that reach so far
+  unfoldable pub target : ℕ → Bool → Reading Filled
+  target reach annuls = expression values line giving λ e. displacement reach here e >>= λ d. Ok (annul_bit annuls + d % (reach / 2))
 
-  abbrev pub branch : List Word → Reading
-  branch ws = either (after_annul ws) (λ rest. target (2 ^ 23) true rest) (target (2 ^ 23) false ws)
+  unfoldable pub read : Part → Reading Filled
+  read (parts.Register f) = register_first giving λ r. Ok (r * scale f)
+  read parts.State = special_first giving λ s. Ok (code_of s * 2 ^ 19)
+  read (parts.Second range) = second values line range giving λ o. o >>= λ operand2. Ok (spell_operand operand2)
+  read (parts.Address range) = address values line range
+  read parts.Memory = after 91 (address values line ranges.Signed) and_then λ x. after 93 (gives x)
+  read parts.Elsewhere = after 91 register_first and_then λ rs1. added_register and_then λ rs2. after 93 (expression values line) giving space_bits rs1 rs2
+  read (parts.Number range) = expression values line giving λ e. word_in range e >>= λ n. Ok (n % 2 ^ width range)
+  read parts.Call = target (2 ^ 31) false
+  read parts.Branch = (after 44 annul_first or_else gives false) and_then target (2 ^ 23)
 
-  unfoldable pub read : Part → List Word → Reading
-  read (parts.Register f) ws = register_at f ws
-  read parts.State ws = state ws
-  read (parts.Second range) ws = second values line range ws
-  read (parts.Address range) ws = sum values line range ws
-  read parts.Memory ws = memory values line ws
-  read parts.Elsewhere ws = elsewhere values line ws
-  read (parts.Number range) ws = number values line range ws
-  read parts.Call ws = target (2 ^ 31) false ws
-  read parts.Branch ws = branch ws
+  -- operands with commas between them, to the end
 
-  -- ---- operands with commas between them, to the end
+  abbrev pub behind : List Part → Reading Filled
+  behind [] = end giving λ _. Ok 0
+  behind (p ∷ ps) = after 44 (read p) and_then λ x. behind ps giving added x
 
-  abbrev pub rest_of : Reading → (List Word → Option (Result ℕ SyntaxFault)) → Option (Result ℕ SyntaxFault)
-  rest_of o next = either o (λ x. join x.0 (next x.1)) None
-
-  abbrev pub behind : List Part → List Word → Option (Result ℕ SyntaxFault)
-  behind [] ws = ends ws (Some (Ok 0)) None
-  behind (p ∷ ps) ws = either (after_sign 44 ws) (λ more. rest_of (read p more) (behind ps)) None
-
-  abbrev pub operands_of : List Part → List Word → Option (Result ℕ SyntaxFault)
-  operands_of [] ws = ends ws (Some (Ok 0)) None
-  operands_of (p ∷ ps) ws = rest_of (read p ws) (behind ps)
+  abbrev pub operands_of : List Part → Reading Filled
+  operands_of [] = end giving λ _. Ok 0
+  operands_of (p ∷ ps) = read p and_then λ x. behind ps giving added x

@@ -1,85 +1,66 @@
 -- What each token of a statement is: a register, a name, a number, a sign.
-use Rattle.std.specs.Prelude.{ℕ, ◌+◌, ◌-◌, ◌*◌, Bool, ◌&&◌, ◌||◌, ◌==◌, nat_lt, nat_le, if◌then◌else◌, List, [], length, drop, map, slice_index, slice_range, Option, Some, None, codes}
+use Rattle.std.specs.Prelude.{ℕ, ◌+◌, ◌-◌, ◌*◌, ◌&&◌, nat_lt, nat_le, if◌then◌else◌, List, [], ◌∷◌, length, take, drop, map, slice_index, slice_range, Option, Some, None, codes}
+use Rattle.std.specs.List.{find}
+use Rattle.std.specs.Option.{option_map, option_or, unwrap_or}
+use Rattle.std.specs.Char.{is_ascii_digit}
 use Rattle.std.specs.Str.{bytes_eq}
 use Rattle.sbx_text.specs.declared.Token.{Token}
 use Rattle.sbx_text.specs.declared.Kind.{Kind}
 use Rattle.sbx_text.specs.declared.Kind.TheVariants as kinds
 use Rattle.v8_forms.specs.declared.part.Special.{Special}
-use Rattle.v8_forms.specs.declared.part.Special.TheVariants as specials
-use Rattle.v8_syntax.specs.declared.word.Word.{Word}
+use Rattle.v8_forms.specs.declared.part.Special.TheVariants.{Y, Psr, Wim, Tbr}
+pub use Rattle.v8_syntax.specs.declared.word.Word.{Word}
 use Rattle.v8_syntax.specs.declared.word.Word.TheVariants as words
-use Rattle.v8_syntax.specs.declared.word.NameKind.{NameKind}
+pub use Rattle.v8_syntax.specs.declared.word.NameKind.{NameKind}
 use Rattle.v8_syntax.specs.declared.word.NameKind.TheVariants as names
 
 -- the bytes of a line from one place up to another, and none where the line has no such bytes
 abbrev pub bytes_between : List ℕ → ℕ → ℕ → List ℕ
 bytes_between line start stop = if nat_le start stop && nat_le stop (length line) then slice_range line start stop else []
 
+abbrev pub either : {A B : Type 0} → Option A → (A → B) → B → B
+either (Some x) f other = f x
+either None f other = other
+
+-- what stands beside a name in a table
+abbrev pub beside : {A : Type 0} → List ℕ → List (List ℕ × A) → Option A
+beside name rows = option_map (λ row. row.1) (find (λ row. bytes_eq name row.0) rows)
+
 -- ---- registers (appendix A, "Registers")
 
-abbrev pub is_decimal : ℕ → Bool
-is_decimal b = nat_le 48 b && nat_le b 57
+-- the first register of each letter, and how many there are: globals, outs, locals, ins, and all
+abbrev pub groups : List (List ℕ × (ℕ × ℕ))
+groups = (codes "g", (0, 8)) ∷ (codes "o", (8, 8)) ∷ (codes "l", (16, 8)) ∷ (codes "i", (24, 8)) ∷ (codes "r", (0, 32)) ∷ []
 
-abbrev pub register_numbered : ℕ → Option ℕ
-register_numbered n = if nat_lt n 32 then Some n else None
+-- a number of one digit or two, with no 0 in front
+abbrev pub small_number : List ℕ → Option ℕ
+small_number (a ∷ []) = if is_ascii_digit a then Some (a - 48) else None
+small_number (a ∷ b ∷ []) = if is_ascii_digit a && is_ascii_digit b && nat_lt 48 a then Some (10 * (a - 48) + (b - 48)) else None
+small_number _ = None
 
--- globals, outs, locals, ins, eight of each
-abbrev pub grouped : ℕ → ℕ → Option ℕ
-grouped a b =
-    if nat_lt b 48 || nat_lt 55 b then None
-    else (if a == 103 then register_numbered (b - 48)
-    else (if a == 111 then register_numbered (8 + (b - 48))
-    else (if a == 108 then register_numbered (16 + (b - 48))
-    else (if a == 105 then register_numbered (24 + (b - 48))
-    else None))))
+-- the register of a letter by a number
+abbrev pub grouped : ℕ × ℕ → ℕ → Option ℕ
+grouped group n = if nat_lt n group.1 then Some (group.0 + n) else None
 
--- `sp`, `fp`, `r` and a digit, or a group and a digit
-abbrev pub two_letters : ℕ → ℕ → Option ℕ
-two_letters a b =
-    if a == 115 && b == 112 then register_numbered 14
-    else (if a == 102 && b == 112 then register_numbered 30
-    else (if a == 114 && is_decimal b then register_numbered (b - 48)
-    else grouped a b))
-
--- `r` and two digits, the first not 0
-abbrev pub three_letters : ℕ → ℕ → ℕ → Option ℕ
-three_letters a b c = if a == 114 && is_decimal b && is_decimal c && nat_lt 48 b then register_numbered (10 * (b - 48) + (c - 48)) else None
-
+-- `sp`, `fp`, or a letter and a number
 abbrev pub register_named : List ℕ → Option ℕ
 register_named name =
-    if length name == 2 then two_letters (slice_index name 0) (slice_index name 1)
-    else (if length name == 3 then three_letters (slice_index name 0) (slice_index name 1) (slice_index name 2)
-    else None)
+    option_or (beside name ((codes "sp", 14) ∷ (codes "fp", 30) ∷ []))
+    (either (beside (take 1 name) groups) (λ group. either (small_number (drop 1 name)) (grouped group) None) None)
 
 -- the state registers that have a name here
-abbrev pub special_named : List ℕ → Option Special
-special_named name =
-    if bytes_eq name (codes "y") then Some specials.Y
-    else (if bytes_eq name (codes "psr") then Some specials.Psr
-    else (if bytes_eq name (codes "wim") then Some specials.Wim
-    else (if bytes_eq name (codes "tbr") then Some specials.Tbr
-    else None)))
+abbrev pub specials : List (List ℕ × Special)
+specials = (codes "y", Y) ∷ (codes "psr", Psr) ∷ (codes "wim", Wim) ∷ (codes "tbr", Tbr) ∷ []
 
 -- ---- words
 
-abbrev pub special_word : Option Special → Word
-special_word (Some s) = words.Special s
-special_word None = words.Unknown
-
-abbrev pub register_word : Option ℕ → List ℕ → Word
-register_word (Some r) name = words.Register r
-register_word None name = special_word (special_named name)
-
 -- what stands behind a `%`
 abbrev pub percent_word : List ℕ → Word
-percent_word name = register_word (register_named name) name
+percent_word name = unwrap_or (option_or (option_map words.Register (register_named name)) (option_map words.Special (beside name specials))) words.Unknown
 
 -- `a` annuls, `.` is the place, and another name is a symbol
 abbrev pub name_kind : List ℕ → NameKind
-name_kind name =
-    if bytes_eq name (codes "a") then names.Annul
-    else (if bytes_eq name (codes ".") then names.Place
-    else names.Plain)
+name_kind name = unwrap_or (beside name ((codes "a", names.Annul) ∷ (codes ".", names.Place) ∷ [])) names.Plain
 
 abbrev pub word_at : List ℕ → ℕ → ℕ → Kind → Word
 word_at line start stop kinds.Name = words.Name (name_kind (bytes_between line start stop)) start stop

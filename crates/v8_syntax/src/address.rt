@@ -1,125 +1,153 @@
-// Addresses, and the bits that they fill.
+// Second operands and addresses, and the bits that they fill.
 ghost use Rattle.std.specs.Prelude.{◌≡◌, ℕ, ◌+◌, ◌*◌, ◌%◌, ◌^◌, ◌<◌, ◌≤◌, List, MatchOption, Some, None};
-ghost use Rattle.v8_formats.specs.Spelling.{spell_operand};
 ghost use Rattle.v8_syntax.specs.Words.{words_of};
-ghost use Rattle.v8_forms.specs.Text.{sum_bits};
-ghost use Rattle.v8_syntax.specs.Operands.{address, after_expression, after_register, bracketed, immediate, pair_of, sum_of};
+ghost use Rattle.v8_forms.specs.declared.part.Part.TheVariants as parts;
+ghost use Rattle.v8_syntax.specs.Operands.{added_register, added_second, address, after, immediate, read, second, space_bits, sum_of};
 
 use crate::expression::{
-    Base, Expression, Read, after_sign, less, number_first, read_expression, register_first,
+    Base, Expression, Read, after_sign, less, number_after, read_expression, register_first,
     word_in,
 };
 use crate::fault::SyntaxFault;
 use crate::symbols::Symbols;
 use sbx_text::Token;
 use v8_formats::Operand;
-use v8_forms::{Range, operand_bits, sum_bits};
+use v8_forms::{Range, elsewhere_bits, sum_bits};
 use v8_word::Reg;
 
-/// An address, or a register or an expression alone.
-#[derive(Clone, Copy)]
-pub enum Address {
-    Register(Reg),
-    Both(Reg, Reg),
-    Offset(Reg, Expression),
-    Absolute(Expression),
+/// What an operand fills in the word, or why it doesn't fit.
+pub type Filled = Result<u32, SyntaxFault>;
+
+/// A second operand, or why its number doesn't fit.
+pub type Fitted = Result<Operand, SyntaxFault>;
+
+fn immediate(range: Range, expression: Expression) -> Fitted
+    ensures { result ≡ immediate range expression }
+{
+    Ok(Operand::Immediate(word_in(range, expression)?))
 }
 
-#[tactic(auto, unfolding(crate::specs::Operands::after_register))]
-fn after_register<'t, S: Symbols>(
-    register: Reg,
+fn sum_of(rs1: Reg, operand2: Fitted) -> Filled
+    ensures { result ≡ sum_of rs1 operand2 }
+{
+    Ok(sum_bits(rs1, &operand2?))
+}
+
+/// A register behind `+`, else %g0.
+fn added_register<'t>(line: &[u8], tokens: &'t [Token]) -> (Reg, &'t [Token])
+    ensures { added_register (words_of line.now tokens.now) ≡ Some (result.0, words_of line.now result.1.now) }
+{
+    if let Some(more) = after_sign(b'+', line, tokens)
+        && let Some((register, rest)) = register_first(line, more)
+    {
+        (register, rest)
+    } else {
+        (Reg::G0, tokens)
+    }
+}
+
+/// A register, or a number of the range.
+#[tactic(auto, unfolding(crate::specs::Operands::second))]
+pub fn read_second<'t, S: Symbols>(
+    range: Range,
     symbols: &S,
     line: &[u8],
     tokens: &'t [Token],
-) -> Read<'t, Address>
-    ensures { MatchOption result (after_register (S.values symbols.now) line.now register (words_of line.now tokens.now) ≡ None) (λ x. after_register (S.values symbols.now) line.now register (words_of line.now tokens.now) ≡ Some (x.0, words_of line.now x.1.now)) }
-{
-    if let Some(more) = after_sign(b'+', line, tokens) {
-        if let Some((second, rest)) = register_first(line, more) {
-            return Some((Address::Both(register, second), rest));
-        }
-        let (offset, rest) = read_expression(symbols, line, more)?;
-        return Some((Address::Offset(register, offset), rest));
-    }
-    match after_sign(b'-', line, tokens) {
-        Some(more) => {
-            let (number, rest) = number_first(line, more)?;
-            Some((Address::Offset(register, less(Base::Number, number)), rest))
-        }
-        None => Some((Address::Register(register), tokens)),
-    }
-}
-
-#[tactic(auto, unfolding(crate::specs::Operands::after_expression))]
-fn after_expression<'t>(offset: Expression, line: &[u8], tokens: &'t [Token]) -> Read<'t, Address>
-    ensures { MatchOption result (after_expression offset (words_of line.now tokens.now) ≡ None) (λ x. after_expression offset (words_of line.now tokens.now) ≡ Some (x.0, words_of line.now x.1.now)) }
-{
-    match after_sign(b'+', line, tokens) {
-        Some(more) => match register_first(line, more) {
-            Some((register, rest)) => Some((Address::Offset(register, offset), rest)),
-            None => None,
-        },
-        None => Some((Address::Absolute(offset), tokens)),
-    }
-}
-
-/// An address.
-#[tactic(auto, unfolding(crate::specs::Operands::address))]
-pub fn read_address<'t, S: Symbols>(
-    symbols: &S,
-    line: &[u8],
-    tokens: &'t [Token],
-) -> Read<'t, Address>
-    ensures { MatchOption result (address (S.values symbols.now) line.now (words_of line.now tokens.now) ≡ None) (λ x. address (S.values symbols.now) line.now (words_of line.now tokens.now) ≡ Some (x.0, words_of line.now x.1.now)) }
+) -> Read<'t, Fitted>
+    ensures { MatchOption result (second (S.values symbols.now) line.now range (words_of line.now tokens.now) ≡ None) (λ x. second (S.values symbols.now) line.now range (words_of line.now tokens.now) ≡ Some (x.0, words_of line.now x.1.now)) }
 {
     if let Some((register, rest)) = register_first(line, tokens) {
-        return after_register(register, symbols, line, rest);
+        return Some((Ok(Operand::Register(register)), rest));
     }
-    let (offset, rest) = read_expression(symbols, line, tokens)?;
-    after_expression(offset, line, rest)
+    let (value, rest) = read_expression(symbols, line, tokens)?;
+    Some((immediate(range, value), rest))
+}
+
+fn second_behind_plus<'t, S: Symbols>(
+    range: Range,
+    symbols: &S,
+    line: &[u8],
+    tokens: &'t [Token],
+) -> Read<'t, Fitted>
+    ensures { MatchOption result (after 43 (second (S.values symbols.now) line.now range) (words_of line.now tokens.now) ≡ None) (λ x. after 43 (second (S.values symbols.now) line.now range) (words_of line.now tokens.now) ≡ Some (x.0, words_of line.now x.1.now)) }
+{
+    read_second(range, symbols, line, after_sign(b'+', line, tokens)?)
+}
+
+/// What is added to a register: a second operand behind `+`, a number behind `-`, else %g0.
+#[tactic(auto, unfolding(crate::specs::Operands::added_second))]
+fn added_second<'t, S: Symbols>(
+    range: Range,
+    symbols: &S,
+    line: &[u8],
+    tokens: &'t [Token],
+) -> (Fitted, &'t [Token])
+    ensures { added_second (S.values symbols.now) line.now range (words_of line.now tokens.now) ≡ Some (result.0, words_of line.now result.1.now) }
+{
+    if let Some((operand2, rest)) = second_behind_plus(range, symbols, line, tokens) {
+        return (operand2, rest);
+    }
+    match number_after(b'-', line, tokens) {
+        Some((number, rest)) => (immediate(range, less(Base::Number, number)), rest),
+        None => (Ok(Operand::Register(Reg::G0)), tokens),
+    }
+}
+
+/// A register and what is added to it; or a number, which is added to %g0 or to a register behind it.
+#[tactic(auto, unfolding(crate::specs::Operands::address))]
+pub fn read_address<'t, S: Symbols>(
+    range: Range,
+    symbols: &S,
+    line: &[u8],
+    tokens: &'t [Token],
+) -> Read<'t, Filled>
+    ensures { MatchOption result (address (S.values symbols.now) line.now range (words_of line.now tokens.now) ≡ None) (λ x. address (S.values symbols.now) line.now range (words_of line.now tokens.now) ≡ Some (x.0, words_of line.now x.1.now)) }
+{
+    if let Some((rs1, more)) = register_first(line, tokens) {
+        let (operand2, rest) = added_second(range, symbols, line, more);
+        return Some((sum_of(rs1, operand2), rest));
+    }
+    let (value, more) = read_expression(symbols, line, tokens)?;
+    let (rs1, rest) = added_register(line, more);
+    Some((sum_of(rs1, immediate(range, value)), rest))
 }
 
 /// An address in brackets.
-pub fn bracketed<'t, S: Symbols>(symbols: &S, line: &[u8], tokens: &'t [Token]) -> Read<'t, Address>
-    ensures { MatchOption result (bracketed (S.values symbols.now) line.now (words_of line.now tokens.now) ≡ None) (λ x. bracketed (S.values symbols.now) line.now (words_of line.now tokens.now) ≡ Some (x.0, words_of line.now x.1.now)) }
+#[tactic(auto, unfolding(crate::specs::Operands::read))]
+pub fn read_memory<'t, S: Symbols>(
+    symbols: &S,
+    line: &[u8],
+    tokens: &'t [Token],
+) -> Read<'t, Filled>
+    ensures { MatchOption result (read (S.values symbols.now) (S.place symbols.now) line.now parts.Memory (words_of line.now tokens.now) ≡ None) (λ x. read (S.values symbols.now) (S.place symbols.now) line.now parts.Memory (words_of line.now tokens.now) ≡ Some (x.0, words_of line.now x.1.now)) }
 {
     let inner = after_sign(b'[', line, tokens)?;
-    match read_address(symbols, line, inner) {
-        Some((address, after)) => match after_sign(b']', line, after) {
-            Some(rest) => Some((address, rest)),
-            None => None,
-        },
-        None => None,
-    }
+    let (sum, behind) = read_address(Range::Signed, symbols, line, inner)?;
+    let rest = after_sign(b']', line, behind)?;
+    Some((sum, rest))
 }
 
-/// A number as the second operand.
-pub fn immediate(range: Range, expression: Expression) -> Result<u32, SyntaxFault>
-    ensures { result ≡ immediate range expression }
+fn space_bits(rs1: Reg, rs2: Reg, space: Expression) -> Filled
+    ensures { result ≡ space_bits rs1 rs2 space }
 {
-    Ok(operand_bits(&Operand::Immediate(word_in(range, expression)?)))
+    word_in(Range::Space, space).map(|asi| elsewhere_bits(rs1, rs2, asi & 0xff))
 }
 
-/// What an address fills: a register alone is added to %g0, and so is a number.
-pub fn sum_of(range: Range, address: &Address) -> Result<u32, SyntaxFault>
-    ensures { result ≡ sum_of range address.now }
+/// Two registers in brackets, and a space.
+#[tactic(auto, unfolding(crate::specs::Operands::read))]
+pub fn read_elsewhere<'t, S: Symbols>(
+    symbols: &S,
+    line: &[u8],
+    tokens: &'t [Token],
+) -> Read<'t, Filled>
+    ensures { MatchOption result (read (S.values symbols.now) (S.place symbols.now) line.now parts.Elsewhere (words_of line.now tokens.now) ≡ None) (λ x. read (S.values symbols.now) (S.place symbols.now) line.now parts.Elsewhere (words_of line.now tokens.now) ≡ Some (x.0, words_of line.now x.1.now)) }
 {
-    let (rs1, operand2) = match address {
-        Address::Register(rs1) => (*rs1, Operand::Register(Reg::G0)),
-        Address::Both(rs1, rs2) => (*rs1, Operand::Register(*rs2)),
-        Address::Offset(rs1, offset) => (*rs1, Operand::Immediate(word_in(range, *offset)?)),
-        Address::Absolute(offset) => (Reg::G0, Operand::Immediate(word_in(range, *offset)?)),
+    let inner = after_sign(b'[', line, tokens)?;
+    let Some((rs1, more)) = register_first(line, inner) else {
+        return None;
     };
-    Ok(sum_bits(rs1, &operand2))
-}
-
-/// Two registers, the second %g0 where it is left out.
-pub fn pair_of(address: &Address) -> Option<(Reg, Reg)>
-    ensures { result ≡ pair_of address.now }
-{
-    match address {
-        Address::Register(rs1) => Some((*rs1, Reg::G0)),
-        Address::Both(rs1, rs2) => Some((*rs1, *rs2)),
-        Address::Offset(..) | Address::Absolute(_) => None,
-    }
+    let (rs2, behind) = added_register(line, more);
+    let after = after_sign(b']', line, behind)?;
+    let (space, rest) = read_expression(symbols, line, after)?;
+    Some((space_bits(rs1, rs2, space), rest))
 }

@@ -1,7 +1,7 @@
 // Expressions, and the values of these in their ranges.
-ghost use Rattle.std.specs.Prelude.{◌≡◌, ℕ, ◌+◌, ◌-◌, ◌*◌, ◌/◌, ◌%◌, ◌^◌, ◌<◌, ◌≤◌, pos, negsuc, ℤ, ◌≤ℤ◌, int_le, List, MatchOption, Some, None};
+ghost use Rattle.std.specs.Prelude.{◌≡◌, ℕ, ◌+◌, ◌-◌, ◌*◌, ◌/◌, ◌%◌, ◌^◌, ◌<◌, ◌≤◌, pos, negsuc, ℤ, ◌≤ℤ◌, int_le, List, true, MatchOption, Some, None};
 ghost use Rattle.v8_syntax.specs.Words.{words_of};
-ghost use Rattle.v8_syntax.specs.Operands.{after_sign, based, displacement, distance, distance_to, expression, in_range, is_here, less, moved, name_first, named_expression, number_after, number_first, offset_of, plain, quarter, reached, register_first, special_first, symbol_value, word_in, word_of_number};
+ghost use Rattle.v8_syntax.specs.Operands.{after, after_sign, annul_first, based, displacement, distance, expression, in_range, less, moved, named_expression, number_first, offset_of, plain, reached, register_first, special_first, word_in, word_of_number};
 
 use crate::fault::SyntaxFault;
 use crate::symbols::Symbols;
@@ -69,18 +69,19 @@ pub fn special_first<'t>(line: &[u8], tokens: &'t [Token]) -> Read<'t, Special>
     }
 }
 
-/// A name by its kind and its bytes' place, and what follows it.
-pub fn name_first<'t>(line: &[u8], tokens: &'t [Token]) -> Read<'t, (NameKind, usize, usize)>
-    ensures { MatchOption result (name_first (words_of line.now tokens.now) ≡ None) (λ x. name_first (words_of line.now tokens.now) ≡ Some (x.0, words_of line.now x.1.now)) }
+/// What follows `a`, where it annuls.
+pub fn annul_first<'t>(line: &[u8], tokens: &'t [Token]) -> Option<&'t [Token]>
+    ensures { MatchOption result (annul_first (words_of line.now tokens.now) ≡ None) (λ rest. annul_first (words_of line.now tokens.now) ≡ Some (true, words_of line.now rest.now)) }
 {
     match front(line, tokens) {
-        Some((Word::Name(kind, start, stop), rest)) => Some(((kind, start, stop), rest)),
+        Some((Word::Name(NameKind::Annul, _, _), rest)) => Some(rest),
         _ => None,
     }
 }
 
-fn number_after<'t>(sign: u8, line: &[u8], tokens: &'t [Token]) -> Read<'t, u64>
-    ensures { MatchOption result (number_after sign (words_of line.now tokens.now) ≡ None) (λ x. number_after sign (words_of line.now tokens.now) ≡ Some (x.0, words_of line.now x.1.now)) }
+/// A number behind a sign, and what follows it.
+pub fn number_after<'t>(sign: u8, line: &[u8], tokens: &'t [Token]) -> Read<'t, u64>
+    ensures { MatchOption result (after sign number_first (words_of line.now tokens.now) ≡ None) (λ x. after sign number_first (words_of line.now tokens.now) ≡ Some (x.0, words_of line.now x.1.now)) }
 {
     number_first(line, after_sign(sign, line, tokens)?)
 }
@@ -121,7 +122,7 @@ fn named_expression<'t>(
     line: &[u8],
     tokens: &'t [Token],
 ) -> (Expression, &'t [Token])
-    ensures { (result.0, words_of line.now result.1.now) ≡ named_expression kind value (words_of line.now tokens.now) }
+    ensures { named_expression kind value (words_of line.now tokens.now) ≡ Some (result.0, words_of line.now result.1.now) }
 {
     if let Some((number, rest)) = number_after(b'+', line, tokens) {
         return (plain(moved(kind, value), number), rest);
@@ -141,15 +142,18 @@ pub fn read_expression<'t, S: Symbols>(
 ) -> Read<'t, Expression>
     ensures { MatchOption result (expression (S.values symbols.now) line.now (words_of line.now tokens.now) ≡ None) (λ x. expression (S.values symbols.now) line.now (words_of line.now tokens.now) ≡ Some (x.0, words_of line.now x.1.now)) }
 {
-    if let Some((number, rest)) = number_first(line, tokens) {
-        return Some((plain(Base::Number, number), rest));
+    match front(line, tokens) {
+        Some((Word::Number(number), rest)) => Some((plain(Base::Number, number), rest)),
+        Some((Word::Name(kind, start, stop), rest)) => {
+            let value = symbols.value(bytes_between(line, start, stop));
+            Some(named_expression(kind, value, line, rest))
+        }
+        Some((Word::Sign(b'-'), more)) => {
+            let (number, rest) = number_first(line, more)?;
+            Some((less(Base::Number, number), rest))
+        }
+        _ => None,
     }
-    if let Some((number, rest)) = number_after(b'-', line, tokens) {
-        return Some((less(Base::Number, number), rest));
-    }
-    let ((kind, start, stop), rest) = name_first(line, tokens)?;
-    let value = symbols.value(bytes_between(line, start, stop));
-    Some(named_expression(kind, value, line, rest))
 }
 
 fn offset_of(expression: Expression) -> i128
@@ -164,17 +168,6 @@ fn offset_of(expression: Expression) -> i128
     }
 }
 
-fn symbol_value(symbol: Option<u32>, offset: i128) -> Result<i128, SyntaxFault>
-    requires low { negsuc 18446744073709551615 ≤ℤ offset }
-    requires high { offset ≤ℤ pos 18446744073709551615 }
-    ensures { result ≡ symbol_value symbol offset }
-{
-    match symbol {
-        Some(word) => Ok(i128::from(word) + offset),
-        None => Err(SyntaxFault::UnknownSymbol),
-    }
-}
-
 fn based(base: Base, offset: i128) -> Result<i128, SyntaxFault>
     requires low { negsuc 18446744073709551615 ≤ℤ offset }
     requires high { offset ≤ℤ pos 18446744073709551615 }
@@ -182,8 +175,8 @@ fn based(base: Base, offset: i128) -> Result<i128, SyntaxFault>
 {
     match base {
         Base::Number => Ok(offset),
-        Base::Symbol(word) => symbol_value(word, offset),
-        Base::Here(word) => symbol_value(word, offset),
+        Base::Symbol(Some(word)) | Base::Here(Some(word)) => Ok(i128::from(word) + offset),
+        Base::Symbol(None) | Base::Here(None) => Err(SyntaxFault::UnknownSymbol),
     }
 }
 
@@ -225,16 +218,9 @@ pub fn word_in(range: Range, expression: Expression) -> Result<u32, SyntaxFault>
     )
 }
 
-fn distance_to(here: u32, target: u32) -> u32
-    ensures { result ≡ distance_to here target }
-{
-    target.wrapping_sub(here)
-}
-
 /// How many bytes from the instruction a target lies, as a word.
-#[tactic(auto, unfolding(crate::specs::Operands::distance))]
 fn distance(here: u32, expression: Expression) -> Result<u32, SyntaxFault>
-    ensures { result ≡ distance here expression }
+    ensures { result ≡ distance here expression.base (offset_of expression) }
 {
     match expression.base {
         Base::Here(_) => in_range(
@@ -246,18 +232,8 @@ fn distance(here: u32, expression: Expression) -> Result<u32, SyntaxFault>
         Base::Number | Base::Symbol(_) => {
             let place = based(expression.base, offset_of(expression))?;
             let target = in_range(0, 0xffff_ffff, SyntaxFault::Target, place)?;
-            Ok(distance_to(here, target))
+            Ok(target.wrapping_sub(here))
         }
-    }
-}
-
-fn quarter(word: u32) -> u32
-    ensures { result ≡ quarter word }
-{
-    if word < 0x8000_0000 {
-        word / 4
-    } else {
-        word / 4 + 0xc000_0000
     }
 }
 
@@ -266,7 +242,7 @@ fn reached(reach: u32, word: u32) -> Result<u32, SyntaxFault>
     ensures { result ≡ reached reach word }
 {
     if word % 4 == 0 && (word < reach || 0u32.wrapping_sub(reach) <= word) {
-        Ok(quarter(word))
+        Ok(word / 4)
     } else {
         Err(SyntaxFault::Target)
     }

@@ -1,57 +1,66 @@
 // Statements read as instructions.
 ghost use Rattle.std.specs.Prelude.{◌≡◌, ℕ, ◌+◌, ◌*◌, ◌/◌, ◌%◌, ◌^◌, ◌<◌, List, Option, MatchOption, MatchResult, [], ◌∷◌, map, Ok, Err, Some, None};
-ghost use Rattle.v8_formats.specs.Table.{meaning};
 ghost use Rattle.v8_forms.specs.Forms.{form_of, forms};
 ghost use Rattle.v8_syntax.specs.Words.{words_of};
-ghost use Rattle.v8_syntax.specs.Statements.{count_of, first_of, high_word, instructions, is_symbolic, low_word, named_length, named_meaning, no_symbol, set, set_operands, set_words, source_meaning, statement, statement_length, value_length};
+ghost use Rattle.v8_syntax.specs.Statements.{count_of, first_of, is_symbolic, named_meaning, no_symbol, or, set, set_instructions, set_operands, sethi, source_meaning, statement_length};
 
 use crate::expression::{Base, Expression, after_sign, read_expression, register_first, word_in};
 use crate::fault::SyntaxFault;
 use crate::names::named;
 use crate::operands::operands_of;
 use crate::symbols::Symbols;
-use crate::word::{bytes_between, is_same};
+use crate::word::{Word, bytes_between, front, is_same};
 use arrayvec::ArrayVec;
-use sbx_text::{Kind, Token};
-use v8_formats::{Instr, decode};
+use sbx_text::Token;
+use v8_formats::{Instr, Operand, Three, Upper, decode};
 use v8_forms::{Range, Row, filled, forms};
 use v8_word::Reg;
 
-/// The words of a statement.
-#[derive(Clone, Copy)]
-pub enum Words {
-    Single(u32),
-    Pair(u32, u32),
+/// One instruction, or two.
+type Instructions = ArrayVec<Instr, 2>;
+
+fn list_of_one<T: Copy + Default>(first: T) -> ArrayVec<T, 2>
+    ensures { result.items ≡ first ∷ [] }
+{
+    let mut list = ArrayVec::new();
+    list.push(first);
+    list
+}
+
+fn list_of_two<T: Copy + Default>(first: T, second: T) -> ArrayVec<T, 2>
+    ensures { result.items ≡ first ∷ second ∷ [] }
+{
+    let mut list = ArrayVec::new();
+    list.push(first);
+    list.push(second);
+    list
 }
 
 /// SETHI of a word's high bits.
-fn high_word(word: u32, rd: Reg) -> u32
-    ensures { result ≡ high_word word rd }
+fn sethi(word: u32, rd: Reg) -> Instr
+    ensures { result ≡ sethi word rd }
 {
-    0x100_0000 + u32::from(rd.number()) * 0x200_0000 + word / 0x400
+    let imm22 = word / 0x400;
+    Instr::Sethi(Upper { rd, imm22 })
 }
 
 /// OR of a register and a number.
-fn low_word(rs1: Reg, number: u32, rd: Reg) -> u32
-    ensures { result ≡ low_word rs1 number rd }
+fn or(rs1: Reg, number: u32, rd: Reg) -> Instr
+    ensures { result ≡ or rs1 number rd }
 {
-    0x8010_2000
-        + u32::from(rd.number()) * 0x200_0000
-        + u32::from(rs1.number()) * 0x4000
-        + number % 0x2000
+    let operand2 = Operand::Immediate(number);
+    Instr::Or(Three { rd, rs1, operand2 })
 }
 
-fn set_words(symbolic: bool, word: u32, rd: Reg) -> Words
-    ensures { result ≡ set_words symbolic word rd }
+fn set_instructions(symbolic: bool, word: u32, rd: Reg) -> Instructions
+    ensures { result.items ≡ set_instructions symbolic word rd }
 {
-    if symbolic {
-        Words::Pair(high_word(word, rd), low_word(rd, word % 0x400, rd))
-    } else if word < 4096 || word >= 0xffff_f000 {
-        Words::Single(0x8010_2000 + u32::from(rd.number()) * 0x200_0000 + word % 0x2000)
-    } else if word % 0x400 == 0 {
-        Words::Single(high_word(word, rd))
+    if !symbolic && (word < 4096 || word >= 0xffff_f000) {
+        list_of_one(or(Reg::G0, word, rd))
+    } else if !symbolic && word % 0x400 == 0 {
+        list_of_one(sethi(word, rd))
     } else {
-        Words::Pair(high_word(word, rd), low_word(rd, word % 0x400, rd))
+        list_of_two(sethi(word, rd), or(rd, word % 0x400, rd))
     }
 }
 
@@ -66,7 +75,7 @@ fn is_symbolic(base: Base) -> bool
 
 #[tactic(auto, unfolding(crate::specs::Statements::set_operands))]
 fn set_operands<S: Symbols>(symbols: &S, line: &[u8], tokens: &[Token]) -> Option<(Expression, Reg)>
-    ensures { result ≡ set_operands (S.values symbols.now) line.now (words_of line.now tokens.now) }
+    ensures { MatchOption result (set_operands (S.values symbols.now) line.now (words_of line.now tokens.now) ≡ None) (λ x. set_operands (S.values symbols.now) line.now (words_of line.now tokens.now) ≡ Some (x, [])) }
 {
     let (value, after) = read_expression(symbols, line, tokens)?;
     let more = after_sign(b',', line, after)?;
@@ -77,14 +86,14 @@ fn set_operands<S: Symbols>(symbols: &S, line: &[u8], tokens: &[Token]) -> Optio
 }
 
 #[tactic(auto, unfolding(crate::specs::Statements::set))]
-fn set<S: Symbols>(symbols: &S, line: &[u8], tokens: &[Token]) -> Result<Words, SyntaxFault>
-    ensures { result ≡ set (S.values symbols.now) line.now (words_of line.now tokens.now) }
+fn set<S: Symbols>(symbols: &S, line: &[u8], tokens: &[Token]) -> Result<Instructions, SyntaxFault>
+    ensures { MatchResult result (λ v. set (S.values symbols.now) line.now (words_of line.now tokens.now) ≡ Ok v.items) (λ f. set (S.values symbols.now) line.now (words_of line.now tokens.now) ≡ Err f) }
 {
     let Some((value, rd)) = set_operands(symbols, line, tokens) else {
         return Err(SyntaxFault::Shape);
     };
     let word = word_in(Range::Whole, value)?;
-    Ok(set_words(is_symbolic(value.base), word, rd))
+    Ok(set_instructions(is_symbolic(value.base), word, rd))
 }
 
 /// The word of the first of some forms that has the name and that the operands fit, else the fault.
@@ -111,58 +120,20 @@ fn first_of<S: Symbols>(
 }
 
 #[tactic(auto, unfolding(crate::specs::Statements::named_meaning))]
-fn named_words<S: Symbols>(
+fn named_meaning<S: Symbols>(
     name: &[u8],
     symbols: &S,
     line: &[u8],
     tokens: &[Token],
-) -> Result<Words, SyntaxFault>
-    ensures { result ≡ named_meaning (S.values symbols.now) (S.place symbols.now) line.now name.now (words_of line.now tokens.now) }
+) -> Result<Instructions, SyntaxFault>
+    ensures { MatchResult result (λ v. named_meaning (S.values symbols.now) (S.place symbols.now) line.now name.now (words_of line.now tokens.now) ≡ Ok v.items) (λ f. named_meaning (S.values symbols.now) (S.place symbols.now) line.now name.now (words_of line.now tokens.now) ≡ Err f) }
 {
     if is_same(name, b"set") {
         return set(symbols, line, tokens);
     }
     let fault = SyntaxFault::UnknownMnemonic;
-    Ok(Words::Single(first_of(fault, forms(), name, symbols, line, tokens)?))
-}
-
-fn statement<S: Symbols>(symbols: &S, line: &[u8], tokens: &[Token]) -> Result<Words, SyntaxFault>
-    ensures { result ≡ statement (S.values symbols.now) (S.place symbols.now) line.now tokens.now }
-{
-    let Some((first, rest)) = tokens.split_first() else {
-        return Err(SyntaxFault::UnknownMnemonic);
-    };
-    let Token { kind, start, stop } = *first;
-    match kind {
-        Kind::Name => named_words(bytes_between(line, start, stop), symbols, line, rest),
-        Kind::Percent | Kind::Number(_) | Kind::Sign => Err(SyntaxFault::UnknownMnemonic),
-    }
-}
-
-fn list_of_one<T: Copy + Default>(first: T) -> ArrayVec<T, 2>
-    ensures { result.items ≡ first ∷ [] }
-{
-    let mut list = ArrayVec::new();
-    list.push(first);
-    list
-}
-
-fn list_of_two<T: Copy + Default>(first: T, second: T) -> ArrayVec<T, 2>
-    ensures { result.items ≡ first ∷ second ∷ [] }
-{
-    let mut list = ArrayVec::new();
-    list.push(first);
-    list.push(second);
-    list
-}
-
-fn instructions(words: &Words) -> ArrayVec<Instr, 2>
-    ensures { result.items ≡ instructions words.now }
-{
-    match words {
-        Words::Single(word) => list_of_one(decode(*word)),
-        Words::Pair(first, second) => list_of_two(decode(*first), decode(*second)),
-    }
+    let word = first_of(fault, forms(), name, symbols, line, tokens)?;
+    Ok(list_of_one(decode(word)))
 }
 
 /// The instructions of a statement, one or two: the mnemonic and operands that `tokens` are in `line` (appendix A).
@@ -177,8 +148,12 @@ pub fn parse_instr<S: Symbols>(
 ) -> Result<ArrayVec<Instr, 2>, SyntaxFault>
     ensures { MatchResult result (λ v. source_meaning (S.values symbols.now) (S.place symbols.now) line.now tokens.now ≡ Ok v.items) (λ f. source_meaning (S.values symbols.now) (S.place symbols.now) line.now tokens.now ≡ Err f) }
 {
-    let words = statement(symbols, line, tokens)?;
-    Ok(instructions(&words))
+    match front(line, tokens) {
+        Some((Word::Name(_, start, stop), rest)) => {
+            named_meaning(bytes_between(line, start, stop), symbols, line, rest)
+        }
+        _ => Err(SyntaxFault::UnknownMnemonic),
+    }
 }
 
 /// No symbol's word is known yet.
@@ -190,7 +165,7 @@ impl Symbols for Unresolved {
     ghost place = { λ _. 0 };
 
     fn value(&self, _name: &[u8]) -> Option<u32> {
-        Some(0)
+        None
     }
 
     fn here(&self) -> u32 {
@@ -198,36 +173,14 @@ impl Symbols for Unresolved {
     }
 }
 
-fn count_of(words: &Words) -> usize
-    ensures { result ≡ count_of words.now }
+/// How many instructions `set` takes.
+fn set_length(line: &[u8], tokens: &[Token]) -> usize
+    ensures { result ≡ count_of (set no_symbol line.now (words_of line.now tokens.now)) }
 {
-    match words {
-        Words::Single(_) => 1,
-        Words::Pair(..) => 2,
-    }
-}
-
-fn value_length(value: Expression, rd: Reg) -> usize
-    ensures { result ≡ value_length value rd }
-{
-    if is_symbolic(value.base) {
-        return 2;
-    }
-    match word_in(Range::Whole, value) {
-        Ok(word) => count_of(&set_words(false, word, rd)),
+    match set(&Unresolved, line, tokens) {
+        Ok(list) => list.len(),
+        Err(SyntaxFault::UnknownSymbol) => 2,
         Err(_) => 1,
-    }
-}
-
-fn named_length(name: &[u8], line: &[u8], tokens: &[Token]) -> usize
-    ensures { result ≡ named_length line.now name.now (words_of line.now tokens.now) }
-{
-    if !is_same(name, b"set") {
-        return 1;
-    }
-    match set_operands(&Unresolved, line, tokens) {
-        Some((value, rd)) => value_length(value, rd),
-        None => 1,
     }
 }
 
@@ -236,12 +189,14 @@ fn named_length(name: &[u8], line: &[u8], tokens: &[Token]) -> usize
 pub fn length_of(line: &[u8], tokens: &[Token]) -> usize
     ensures { result ≡ statement_length line.now tokens.now }
 {
-    let Some((first, rest)) = tokens.split_first() else {
-        return 1;
-    };
-    let Token { kind, start, stop } = *first;
-    match kind {
-        Kind::Name => named_length(bytes_between(line, start, stop), line, rest),
-        Kind::Percent | Kind::Number(_) | Kind::Sign => 1,
+    match front(line, tokens) {
+        Some((Word::Name(_, start, stop), rest)) => {
+            if is_same(bytes_between(line, start, stop), b"set") {
+                set_length(line, rest)
+            } else {
+                1
+            }
+        }
+        _ => 1,
     }
 }

@@ -1,7 +1,7 @@
 // What each token of a statement is.
-ghost use Rattle.std.specs.Prelude.{◌≡◌, ℕ, ◌+◌, ◌-◌, ◌*◌, ◌<◌, ◌≤◌, List, Option, MatchOption, [], ◌∷◌, slice_index, drop};
+ghost use Rattle.std.specs.Prelude.{◌≡◌, ℕ, ◌+◌, ◌-◌, ◌*◌, ◌<◌, ◌≤◌, List, Option, IfSome, MatchOption, [], ◌∷◌, slice_index, drop};
 ghost use Rattle.std.specs.Str.{bytes_eq};
-ghost use Rattle.v8_syntax.specs.Words.{bytes_between, is_decimal, register_numbered, grouped, two_letters, three_letters, register_named, special_named, percent_word, name_kind, word_of, words_of};
+ghost use Rattle.v8_syntax.specs.Words.{beside, bytes_between, groups, small_number, register_named, specials, percent_word, name_kind, word_of, words_of};
 
 use sbx_text::{Kind, Token};
 use v8_forms::Special;
@@ -44,48 +44,31 @@ pub fn is_same(left: &[u8], right: &[u8]) -> bool
     left == right
 }
 
-fn is_decimal(byte: u8) -> bool
-    ensures { result ≡ is_decimal byte }
+/// The first register of a group, and how many there are.
+fn group(letter: u8) -> Option<(u8, u8)>
+    ensures value { result ≡ beside (letter ∷ []) groups }
+    ensures bound { IfSome result (λ g. g.0 + g.1 ≤ 32) }
 {
-    byte >= b'0' && byte <= b'9'
-}
-
-fn grouped(group: u8, digit: u8) -> Option<Reg>
-    ensures { result ≡ grouped group digit }
-{
-    if digit < b'0' || digit > b'7' {
-        return None;
-    }
-    match group {
-        b'g' => Reg::new(digit - b'0'),
-        b'o' => Reg::new(8 + (digit - b'0')),
-        b'l' => Reg::new(16 + (digit - b'0')),
-        b'i' => Reg::new(24 + (digit - b'0')),
+    match letter {
+        b'g' => Some((0, 8)),
+        b'o' => Some((8, 8)),
+        b'l' => Some((16, 8)),
+        b'i' => Some((24, 8)),
+        b'r' => Some((0, 32)),
         _ => None,
     }
 }
 
-fn two_letters(first: u8, second: u8) -> Option<Reg>
-    ensures { result ≡ two_letters first second }
+/// A number of one digit or two, with no 0 in front.
+fn small_number(digits: &[u8]) -> Option<u8>
+    ensures { result ≡ small_number digits.now }
 {
-    if first == b's' && second == b'p' {
-        Some(Reg::SP)
-    } else if first == b'f' && second == b'p' {
-        Some(Reg::FP)
-    } else if first == b'r' && is_decimal(second) {
-        Reg::new(second - b'0')
-    } else {
-        grouped(first, second)
-    }
-}
-
-fn three_letters(first: u8, second: u8, third: u8) -> Option<Reg>
-    ensures { result ≡ three_letters first second third }
-{
-    if first == b'r' && is_decimal(second) && is_decimal(third) && second > b'0' {
-        Reg::new(10 * (second - b'0') + (third - b'0'))
-    } else {
-        None
+    match digits {
+        [one] if one.is_ascii_digit() => Some(*one - b'0'),
+        [ten, one] if ten.is_ascii_digit() && one.is_ascii_digit() && *ten > b'0' => {
+            Some(10 * (*ten - b'0') + (*one - b'0'))
+        }
+        _ => None,
     }
 }
 
@@ -94,17 +77,24 @@ fn three_letters(first: u8, second: u8, third: u8) -> Option<Reg>
 pub fn register_named(name: &[u8]) -> Option<Reg>
     ensures { result ≡ register_named name.now }
 {
-    if name.len() == 2 {
-        two_letters(name[0], name[1])
-    } else if name.len() == 3 {
-        three_letters(name[0], name[1], name[2])
+    if is_same(name, b"sp") {
+        return Some(Reg::SP);
+    }
+    if is_same(name, b"fp") {
+        return Some(Reg::FP);
+    }
+    let (letter, digits) = name.split_first()?;
+    let (first, count) = group(*letter)?;
+    let number = small_number(digits)?;
+    if number < count {
+        Reg::new(first + number)
     } else {
         None
     }
 }
 
 fn special_named(name: &[u8]) -> Option<Special>
-    ensures { result ≡ special_named name.now }
+    ensures { result ≡ beside name.now specials }
 {
     if is_same(name, b"y") {
         Some(Special::Y)
