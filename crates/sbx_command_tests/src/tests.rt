@@ -4,8 +4,8 @@ mod chain;
 mod sources;
 mod stops;
 mod streams;
+mod words;
 
-use arrayvec::ArrayVec;
 use sbx_command::{
     Ended, Job, ReadFault, Windows, command, decimal, read_whole, turns, window_count,
 };
@@ -13,7 +13,7 @@ use std::alloc::Global;
 use std::io::{self, Read, Write};
 
 /// Gives a byte a call, and fails at call `fails`, counted from 1.
-#[derive(Drop)]
+#[derive(Clone, Copy)]
 struct Reader<'a> {
     bytes: &'a [u8],
     calls: usize,
@@ -50,11 +50,13 @@ impl Read for Reader<'_> {
     }
 }
 
-/// Keeps what is written, and fails at call `fails`, counted from 1, flushes among the calls. Its room is its own, so
-/// that no refused growth is its. It knows whether it was flushed behind the last write.
-#[derive(Drop)]
+/// Keeps what is written, up to `most` bytes a call, and fails at call `fails`, counted from 1, flushes among the calls. Its
+/// room is its own, so that no refused growth is its. It knows whether it was flushed behind the last write.
+#[derive(Clone, Copy)]
 struct Writer {
-    kept: ArrayVec<u8, 1024>,
+    kept: [u8; 1024],
+    count: usize,
+    most: usize,
     calls: usize,
     fails: usize,
     flushed: bool,
@@ -63,11 +65,18 @@ struct Writer {
 impl Writer {
     fn new(fails: usize) -> Writer {
         Writer {
-            kept: ArrayVec::new(),
+            kept: [0; 1024],
+            count: 0,
+            most: usize::MAX,
             calls: 0,
             fails,
             flushed: false,
         }
+    }
+
+    /// What was written.
+    fn text(&self) -> &[u8] {
+        self.kept.get(..self.count).unwrap_or(&self.kept)
     }
 
     fn call(&mut self) -> io::Result<()> {
@@ -77,15 +86,30 @@ impl Writer {
         }
         Ok(())
     }
+
+    /// Keeps bytes where there is room for all of them, and says whether there is.
+    fn keep(&mut self, bytes: &[u8]) -> bool {
+        let count = self.count.saturating_add(bytes.len());
+        match self.kept.get_mut(self.count..count) {
+            Some(room) if room.len() == bytes.len() => {
+                room.copy_from_slice(bytes);
+                self.count = count;
+                true
+            }
+            _ => false,
+        }
+    }
 }
 
 impl Write for Writer {
     fn write(&mut self, buf: &[u8]) -> io::Result<usize> {
         self.flushed = false;
         self.call()?;
-        match self.kept.try_extend_from_slice(buf) {
-            Ok(()) => Ok(buf.len()),
-            Err(_) => Err(io::Error::from(io::ErrorKind::OutOfMemory)),
+        let bytes = buf.get(..self.most).unwrap_or(buf);
+        if self.keep(bytes) {
+            Ok(bytes.len())
+        } else {
+            Err(io::Error::from(io::ErrorKind::OutOfMemory))
         }
     }
 
@@ -163,7 +187,7 @@ struct Case<'a> {
 }
 
 /// What a command told: how it ended, and its two outputs.
-#[derive(Drop)]
+#[derive(Clone, Copy)]
 struct Told {
     ended: Ended,
     out: Writer,
@@ -171,19 +195,29 @@ struct Told {
 }
 
 impl Told {
-    /// One try of a job on a file.
-    fn of(alloc: Global, job: &Job<'_>, file: &[u8], fails: [usize; 3]) -> Told {
-        let [file_fails, input_fails, out_fails] = fails;
-        let mut file = Reader::new(file, file_fails);
-        let mut input = Reader::new(b"abc", input_fails);
-        let mut out = Writer::new(out_fails);
+    /// One try of a job on a file and an input, to a writer.
+    fn over(
+        alloc: Global,
+        job: &Job<'_>,
+        mut file: Reader<'_>,
+        mut input: Reader<'_>,
+        mut out: Writer,
+    ) -> Told {
         let mut err = Writer::new(0);
         let ended = command(alloc, job, &mut file, &mut input, &mut out, &mut err);
         Told { ended, out, err }
     }
 
+    /// One try of a job on a file, at calls that fail.
+    fn of(alloc: Global, job: &Job<'_>, file: &[u8], fails: [usize; 3]) -> Told {
+        let [file_fails, input_fails, out_fails] = fails;
+        let file = Reader::new(file, file_fails);
+        let input = Reader::new(b"abc", input_fails);
+        Told::over(alloc, job, file, input, Writer::new(out_fails))
+    }
+
     fn is_want_of_memory(&self) -> bool {
-        self.ended.status == 5 && self.err.kept.as_slice() == MEMORY
+        self.ended.status == 5 && self.err.text() == MEMORY
     }
 }
 
@@ -195,8 +229,7 @@ fn answer_of(alloc: Global, job: &Job<'_>, file: &[u8], fails: [usize; 3]) -> To
         return first;
     }
     let second = Told::of(alloc, job, file, fails);
-    let whole = second.out.kept.as_slice();
-    if whole.starts_with(first.out.kept.as_slice()) {
+    if second.out.text().starts_with(first.out.text()) {
         second
     } else {
         first
@@ -213,8 +246,8 @@ fn is_answered(alloc: Global, case: &Case<'_>) -> bool {
     status == case.status
         && is_whole
         && (status > 1 || told.out.flushed)
-        && told.out.kept.as_slice() == case.out
-        && told.err.kept.as_slice() == case.err
+        && told.out.text() == case.out
+        && told.err.text() == case.err
 }
 
 /// What is read of a reader that fails at a call. Where a growth was refused, it is read once more.
@@ -574,11 +607,11 @@ fn ends_with_the_exit_word(rt: HostRuntime) {
 /// Whether a whole trace of the image in the file is written, and nothing else.
 fn is_traced_to_the_end(alloc: Global, file: &[u8]) -> bool {
     let told = answer_of(alloc, &TRACE, file, [0, 0, 0]);
-    let lines = told.out.kept.as_slice();
+    let lines = told.out.text();
     told.ended.status == 0
         && lines.starts_with(TWO_TURNS)
         && lines.ends_with(LAST_TURN)
-        && told.err.kept.is_empty()
+        && told.err.text().is_empty()
 }
 
 /// A whole trace ends with the exit; the image need not be one that is accepted.

@@ -1,8 +1,8 @@
 //! The same programs in version 3, with depths declared.
+use crate::calls::judged;
 use crate::runs::{CHAINED, ECHOES, Row, accepted_of, runs_everywhere};
 use crate::verdicts::is_shown;
 use sbx_image::{Image, Items, Parts};
-use sbx_run::verify;
 use std::alloc::Global;
 
 /// The parts of an image in version 3: from the second function on the depths fall by one each, from a number that the first would have.
@@ -48,7 +48,7 @@ fn is_so_with(alloc: Global, row: &Row<'_>, first: u16, deepest: u16) -> bool {
 
 /// Whether an image is refused with this line.
 fn is_refused(alloc: Global, image: Image, told: &str) -> bool {
-    match verify(alloc, image) {
+    match judged(alloc, image) {
         Ok(_accepted) => false,
         Err((_back, refusal)) => is_shown(alloc, &refusal, told),
     }

@@ -1,10 +1,11 @@
 //! Rows of runs over streams.
 ghost use Rattle.std.specs.Prelude.{◌≤◌};
 
+use crate::calls::finished_on;
 use crate::runs::accepted_of;
 use crate::sources::{ECHO, THREE, assembled};
 use crate::streams::{Sink, Source};
-use sbx_stream::{Accepted, Finished, RunFault, run_accepted, run_stream};
+use sbx_stream::{Accepted, Finished, RunFault, run_stream};
 use std::alloc::Global;
 
 /// A source, what a reader and a writer do, and what comes of it. The reader gives the input, and then ends, or is broken; the writer
@@ -76,8 +77,8 @@ fn gave<const N: usize>(
 ) -> bool
     requires { (4 ≤ N) × (N ≤ 32) }
 {
-    match run_accepted::<N>(alloc, accepted, row.input) {
-        Ok(alone) => {
+    match finished_on::<N>(alloc, accepted, row.input) {
+        Some(alone) => {
             row.fault.is_none()
                 && finished.status == row.status
                 && finished.turns == row.turns
@@ -89,7 +90,7 @@ fn gave<const N: usize>(
                 && alone.pages == finished.pages
                 && alone.output.as_slice() == row.written
         }
-        Err(_fault) => false,
+        None => false,
     }
 }
 
@@ -98,7 +99,7 @@ fn asked(reader: &Source<'_>, writer: &Sink, row: &Row<'_>) -> bool {
     reader.reads == row.reads
         && reader.asked == row.reads
         && writer.writes == row.writes
-        && writer.kept.as_slice() == row.written
+        && writer.took(row.written)
         && writer.flushes == 0
 }
 
@@ -107,7 +108,7 @@ fn runs_on<const N: usize>(alloc: Global, accepted: &Accepted, row: &Row<'_>) ->
     requires { (4 ≤ N) × (N ≤ 32) }
 {
     let mut reader = Source::new(row.input, row.reader_breaks);
-    let mut writer = Sink::new(alloc, row.room, row.writer_breaks);
+    let mut writer = Sink::new(row.room, row.writer_breaks);
     let so = match run_stream::<N, Source<'_>, Sink>(alloc, accepted, &mut reader, &mut writer) {
         Ok(finished) => gave::<N>(alloc, accepted, &finished, row),
         Err(fault) => row.fault == Some(fault),

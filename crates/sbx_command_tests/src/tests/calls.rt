@@ -22,18 +22,16 @@ const LINES: [&[u8]; 3] = [b"file\n", b"input\n", b"output\n"];
 
 /// Whether what a job tells with a failed call is this line, and what it has put out is the front of what it puts out otherwise.
 fn is_stop(told: &Told, ample: &Told, line: &[u8]) -> bool {
-    let whole = ample.out.kept.as_slice();
-    told.ended.status == 4
-        && told.err.kept.as_slice() == line
-        && whole.starts_with(told.out.kept.as_slice())
+    let whole = ample.out.text();
+    told.ended.status == 4 && told.err.text() == line && whole.starts_with(told.out.text())
 }
 
 /// Whether a job tells what it tells without a failed call.
 fn is_like(told: &Told, ample: &Told) -> bool {
     told.ended.status == 0
         && told.out.flushed
-        && told.out.kept.as_slice() == ample.out.kept.as_slice()
-        && told.err.kept.is_empty()
+        && told.out.text() == ample.out.text()
+        && told.err.text().is_empty()
 }
 
 /// The calls that fail, where one of the file, the input or the output is to.

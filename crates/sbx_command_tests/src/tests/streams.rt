@@ -60,7 +60,7 @@ fn echoes_up_to_a_fault(rt: HostRuntime) {
 }
 
 /// Gives `y` without end, a byte a call, but only where it has heard as many bytes as it gave.
-#[derive(Drop)]
+#[derive(Clone, Copy)]
 struct Partner<'a> {
     given: usize,
     heard: &'a Cell<usize>,
@@ -81,7 +81,7 @@ impl Read for Partner<'_> {
 }
 
 /// Hears what is put out, a call at once.
-#[derive(Drop)]
+#[derive(Clone, Copy)]
 struct Ear<'a> {
     heard: &'a Cell<usize>,
 }
