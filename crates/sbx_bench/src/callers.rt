@@ -25,11 +25,10 @@ const FRAME: u32 = 96;
 fn add_caller(words: &mut Vec<u32>, callers: u16, end: &[u32; 2]) -> Result<(), AllocError> {
     words.extend_from_slice(&OPENING)?;
     for call in 0..5 {
-        words.push(CALL + 16 * u32::from(callers) - (3 + 2 * call))?;
-        words.push(NOP)?;
+        let call = CALL + 16 * u32::from(callers) - (3 + 2 * call);
+        words.extend_from_slice(&[call, NOP])?;
     }
-    words.push(NOP)?;
-    words.extend_from_slice(end)
+    words.extend_from_slice(&[NOP, end[0], end[1]])
 }
 
 /// The words of so many callers and of the last function. The first caller ends the run.

@@ -87,17 +87,23 @@ impl Writer {
         Ok(())
     }
 
+    /// Keeps a byte, if there is room.
+    fn push(&mut self, byte: u8) {
+        if self.count < 1024 {
+            self.kept[self.count] = byte;
+            self.count += 1;
+        }
+    }
+
     /// Keeps bytes where there is room for all of them, and says whether there is.
     fn keep(&mut self, bytes: &[u8]) -> bool {
-        let count = self.count.saturating_add(bytes.len());
-        match self.kept.get_mut(self.count..count) {
-            Some(room) if room.len() == bytes.len() => {
-                room.copy_from_slice(bytes);
-                self.count = count;
-                true
-            }
-            _ => false,
+        if bytes.len() > 1024usize.saturating_sub(self.count) {
+            return false;
         }
+        for byte in bytes {
+            self.push(*byte);
+        }
+        true
     }
 }
 

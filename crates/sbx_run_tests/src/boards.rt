@@ -252,18 +252,34 @@ fn finds_on_a_board(alloc: Global, image: &Image, accepted: &Accepted) -> bool {
     }
 }
 
-/// Whether an image does that is refused.
+/// Whether an image is refused, and does that all the same.
 fn finds_though_refused(alloc: Global, image: Image, accepted: &Accepted) -> bool {
-    finds_on_a_board(alloc, &image, accepted) && judged(alloc, image).is_err()
+    match judged(alloc, image) {
+        Ok(_accepted) => false,
+        Err((image, _refusal)) => finds_on_a_board(alloc, &image, accepted),
+    }
+}
+
+/// Whether the image that reads does that after an accepted one.
+fn finds_after(alloc: Global, accepted: &Accepted) -> bool {
+    match READS.image(alloc) {
+        Some(image) => finds_though_refused(alloc, image, accepted),
+        None => false,
+    }
+}
+
+/// Whether it does after an image that has to be accepted.
+fn finds_after_accepted(alloc: Global, leaves: Image) -> bool {
+    match accepted_of(alloc, leaves) {
+        Some(accepted) => finds_after(alloc, &accepted),
+        None => false,
+    }
 }
 
 fn finds_what_is_left(alloc: Global) -> bool {
-    let Some(leaves) = LEAVES.image(alloc) else {
-        return false;
-    };
-    match (accepted_of(alloc, leaves), READS.image(alloc)) {
-        (Some(accepted), Some(image)) => finds_though_refused(alloc, image, &accepted),
-        _ => false,
+    match LEAVES.image(alloc) {
+        Some(leaves) => finds_after_accepted(alloc, leaves),
+        None => false,
     }
 }
 

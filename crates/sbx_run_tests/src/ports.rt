@@ -4,7 +4,7 @@ use crate::streams::{Sink, Source};
 use sbx_image::Image;
 use sbx_port::{Mailbox, carry};
 use std::alloc::{AllocError, Global};
-use v8_board::{Board, Ending, Port};
+use v8_board::{Board, Ending, Outcome, Port};
 use v8_mmu::PortFault;
 
 /// Whether a port that was given nothing fails, one that was gives its byte once, and one that has ended tells so each time.
@@ -45,32 +45,31 @@ struct Row<'a> {
     turns: u64,
 }
 
-/// Whether a board's run of the image over streams is what the row says.
-fn runs_so(board: &mut Board<4, Mailbox>, image: &Image, row: &Row<'_>) -> bool {
-    board.load(image);
-    let mut reader = Source::new(row.input, false);
-    let mut writer = Sink::new(5000, false);
-    let is_whole = carry(board, row.limit, &mut reader, &mut writer).is_ok();
-    let told = board.outcome();
-    is_whole
-        && told.ending == row.ending
+/// Whether what is told of a run, and what its streams were asked, is what the row says.
+fn is_told(told: &Outcome, reader: &Source<'_>, writer: &Sink, row: &Row<'_>) -> bool {
+    told.ending == row.ending
         && told.turns == row.turns
         && reader.reads == row.reads
         && writer.took(row.written)
 }
 
-/// Whether the run on a new board is.
-fn runs_on_a_board(alloc: Global, image: &Image, row: &Row<'_>) -> bool {
-    match Board::new(alloc, Mailbox::new()) {
-        Ok(mut board) => runs_so(&mut board, image, row),
-        Err(AllocError) => false,
-    }
+/// Whether the image's run over streams on a board is whole, and what the row says.
+fn runs_so(alloc: Global, image: &Image, row: &Row<'_>) -> bool {
+    let mut board: Board<4, Mailbox> = match Board::new(alloc, Mailbox::new()) {
+        Ok(board) => board,
+        Err(AllocError) => return false,
+    };
+    board.load(image);
+    let mut reader = Source::new(row.input, false);
+    let mut writer = Sink::new(5000, false);
+    let is_whole = carry(&mut board, row.limit, &mut reader, &mut writer).is_ok();
+    is_whole && is_told(&board.outcome(), &reader, &writer, row)
 }
 
 /// Whether the row's run is what it says.
 fn is_so(alloc: Global, row: &Row<'_>) -> bool {
     match assembled(alloc, row.source.as_bytes()) {
-        Some(image) => runs_on_a_board(alloc, &image, row),
+        Some(image) => runs_so(alloc, &image, row),
         None => false,
     }
 }
