@@ -1,6 +1,6 @@
 //! Images of functions that call each other.
 
-use crate::pieces::{CODE, EXIT, bare, framed, leaf, whole};
+use crate::pieces::{CODE, EXIT, bare, framed, leaf, one, whole};
 use sbx_image::{Function, Parts};
 use std::alloc::{AllocError, Global};
 
@@ -44,7 +44,7 @@ fn words(alloc: Global, callers: u16) -> Result<Vec<u32>, AllocError> {
 
 /// A leaf function of one block.
 fn plain(alloc: Global, entry: u32, budget: u32) -> Result<Function, AllocError> {
-    let blocks = vec![in alloc; bare(alloc, entry, i64::from(budget))]?;
+    let blocks = one(alloc, bare(alloc, entry, i64::from(budget)))?;
     Ok(leaf(alloc, entry, u64::from(budget), blocks))
 }
 

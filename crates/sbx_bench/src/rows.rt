@@ -1,6 +1,6 @@
 //! Images of one function, of rows of words.
 
-use crate::pieces::{CODE, EXIT, bare, framed, leaf, whole};
+use crate::pieces::{CODE, EXIT, bare, framed, leaf, one, whole};
 use sbx_image::{Block, Cell, Function, Items, Parts, Range, Term};
 use std::alloc::{AllocError, Global};
 
@@ -54,14 +54,14 @@ fn add_straight(words: &mut Vec<u32>, rows: u16) -> Result<(), AllocError> {
 
 /// An image's parts, of these words and this function alone.
 fn alone(alloc: Global, words: Vec<u32>, function: Function) -> Result<Parts, AllocError> {
-    whole(alloc, words, vec![in alloc; function]?)
+    whole(alloc, words, one(alloc, function)?)
 }
 
 /// A function of one block, of so many times 16 words.
 pub fn straight(alloc: Global, rows: u16) -> Result<Parts, AllocError> {
     let mut words = Vec::new(alloc);
     add_straight(&mut words, rows)?;
-    let blocks = vec![in alloc; bare(alloc, CODE, i64::from(BUDGET))]?;
+    let blocks = one(alloc, bare(alloc, CODE, i64::from(BUDGET)))?;
     alone(alloc, words, leaf(alloc, CODE, u64::from(BUDGET), blocks))
 }
 
@@ -165,7 +165,7 @@ fn row_blocks(
     rows: u16,
     is_annotated: bool,
 ) -> Result<Vec<Block>, AllocError> {
-    let mut blocks = vec![in alloc; bare(alloc, CODE, i64::from(BUDGET))]?;
+    let mut blocks = one(alloc, bare(alloc, CODE, i64::from(BUDGET)))?;
     for done in 0..=rows {
         let address = CODE + 4 * (u32::from(first) + 15 * u32::from(done));
         let fuel = 64 * (i64::from(rows) - i64::from(done) + 1);

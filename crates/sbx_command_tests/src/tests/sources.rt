@@ -50,7 +50,11 @@ fn is_assembled(alloc: Global, (file, fails, status, out, err): End) -> bool {
 #[test]
 fn assembles(rt: HostRuntime) {
     for end in ENDS {
-        assert!(rt; is_assembled(rt.alloc(), end), "at {end:?}");
+        let [file, input, output] = end.1;
+        assert!(rt;
+            is_assembled(rt.alloc(), end),
+            "at {file}, {input}, {output}"
+        );
     }
 }
 

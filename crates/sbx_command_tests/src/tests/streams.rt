@@ -55,7 +55,8 @@ fn is_echoed(alloc: Global, ([input, output], status, out, err): End) -> bool {
 #[test]
 fn echoes_up_to_a_fault(rt: HostRuntime) {
     for end in ENDS {
-        assert!(rt; is_echoed(rt.alloc(), end), "at {end:?}");
+        let [input, output] = end.0;
+        assert!(rt; is_echoed(rt.alloc(), end), "at {input}, {output}");
     }
 }
 
