@@ -4,6 +4,7 @@ use crate::streams::{Sink, Source};
 use sbx_image::Image;
 use sbx_port::{Mailbox, carry};
 use std::alloc::{AllocError, Global};
+use std::process::Abort;
 use v8_board::{Board, Ending, Outcome, Port};
 use v8_mmu::PortFault;
 
@@ -87,9 +88,16 @@ const fn cut(source: &'static str, limit: u64) -> Row<'static> {
     }
 }
 
+/// Each row is so.
+fn are_so(rt: &impl Abort, alloc: Global, rows: &[Row<'_>]) {
+    for row in rows {
+        assert!(rt; is_so(alloc, row), "{} {}", row.limit, row.turns);
+    }
+}
+
 #[test]
 fn boards_run_up_to_a_limit(rt: HostRuntime) {
-    for row in &[
+    let rows = [
         cut(ECHO, 0),
         cut(ENDLESS, 10),
         Row {
@@ -109,7 +117,6 @@ fn boards_run_up_to_a_limit(rt: HostRuntime) {
             turns: 16,
             ..cut(GREETING, u64::MAX)
         },
-    ] {
-        assert!(rt; is_so(rt.alloc(), row), "{} {}", row.limit, row.turns);
-    }
+    ];
+    are_so(&rt, rt.alloc(), &rows);
 }

@@ -10,6 +10,7 @@ use crate::sources::{
 use sbx_image::Image;
 use sbx_run::{Accepted, Ending, Finished, PageUse, Raw, budget, run_windows};
 use std::alloc::{AllocError, Global};
+use std::process::Abort;
 use std::test::Fail;
 use v8_word::TrapType;
 
@@ -338,11 +339,16 @@ fn are_so(alloc: Global) -> bool {
         && is_so(alloc, &CHAINED)
 }
 
+/// Each row is so.
+fn are_all_so(rt: &impl Abort, alloc: Global, rows: &[Row<'_>]) {
+    for row in rows {
+        assert!(rt; is_so(alloc, row), "{} {}", row.budget, row.turns);
+    }
+}
+
 #[test]
 fn runs_accepted_images(rt: HostRuntime) {
-    for row in &ROWS {
-        assert!(rt; is_so(rt.alloc(), row), "{:?}", row.output);
-    }
+    are_all_so(&rt, rt.alloc(), &ROWS);
     assert!(rt; are_so(rt.alloc()));
 }
 

@@ -7,6 +7,7 @@ use crate::sources::{ECHO, THREE, assembled};
 use crate::streams::{Sink, Source};
 use sbx_stream::{Accepted, Finished, RunFault, run_stream};
 use std::alloc::Global;
+use std::process::Abort;
 
 /// A source, what a reader and a writer do, and what comes of it. The reader gives the input, and then ends, or is broken; the writer
 /// takes so many bytes, and then takes none, or is broken.
@@ -133,20 +134,26 @@ fn is_so(alloc: Global, row: &Row<'_>) -> bool {
     }
 }
 
-#[test]
-fn streams_are_echoed(rt: HostRuntime) {
-    for row in &[
-        echo(b"", b"", 14, 1),
-        echo(b"abc", b"abc", 62, 4),
-        echo(&LONG, &LONG[..1000], 16006, 1000),
-    ] {
-        assert!(rt; is_so(rt.alloc(), row), "{}", row.turns);
+/// Each row is so.
+fn are_so(rt: &impl Abort, alloc: Global, rows: &[Row<'_>]) {
+    for row in rows {
+        assert!(rt; is_so(alloc, row), "{} {}", row.reads, row.writes);
     }
 }
 
 #[test]
+fn streams_are_echoed(rt: HostRuntime) {
+    let rows = [
+        echo(b"", b"", 14, 1),
+        echo(b"abc", b"abc", 62, 4),
+        echo(&LONG, &LONG[..1000], 16006, 1000),
+    ];
+    are_so(&rt, rt.alloc(), &rows);
+}
+
+#[test]
 fn broken_streams_end_runs(rt: HostRuntime) {
-    for row in &[
+    let rows = [
         Row {
             reader_breaks: true,
             ..broken(RunFault::Reader, b"ab", b"ab", 3, 2)
@@ -168,9 +175,8 @@ fn broken_streams_end_runs(rt: HostRuntime) {
             room: 0,
             ..broken(RunFault::Writer, b"abc", b"", 1, 1)
         },
-    ] {
-        assert!(rt; is_so(rt.alloc(), row), "{} {}", row.reads, row.writes);
-    }
+    ];
+    are_so(&rt, rt.alloc(), &rows);
 }
 
 #[test]

@@ -7,6 +7,7 @@ use crate::sources::{
 use sbx_image::Image;
 use sbx_run::Refusal;
 use std::alloc::{AllocError, Global};
+use std::process::Abort;
 
 /// How a source of these pieces and links is refused.
 type Row = (
@@ -232,11 +233,16 @@ pub(crate) fn is_shown(alloc: Global, refusal: &Refusal, told: &str) -> bool {
     }
 }
 
+/// Whether an image that came back is the other, and the refusal is shown as this line.
+fn is_back(alloc: Global, back: &Image, refusal: &Refusal, other: &Image, told: &str) -> bool {
+    back.words() == other.words() && is_shown(alloc, refusal, told)
+}
+
 /// Whether the image is refused with this line, and comes back, as the other.
 fn is_refused(alloc: Global, image: Image, other: &Image, told: &str) -> bool {
     match judged(alloc, image) {
         Ok(_accepted) => false,
-        Err((back, refusal)) => { back.words() == other.words() && is_shown(alloc, &refusal, told) }
+        Err((back, refusal)) => is_back(alloc, &back, &refusal, other, told),
     }
 }
 
@@ -258,11 +264,16 @@ fn is_told(alloc: Global, row: &Row) -> bool {
     }
 }
 
+/// Each row is told.
+fn are_told(rt: &impl Abort, alloc: Global, rows: &[Row]) {
+    for row in rows {
+        assert!(rt; is_told(alloc, row), "{}", row.0);
+    }
+}
+
 #[test]
 fn tells_the_first_fault(rt: HostRuntime) {
-    for row in &ROWS {
-        assert!(rt; is_told(rt.alloc(), row), "{}", row.0);
-    }
+    are_told(&rt, rt.alloc(), &ROWS);
 }
 
 /// Images of one word each, of no instruction, or of one with a bit that it doesn't use.
