@@ -4,6 +4,7 @@ use sbx_image::{
     write,
 };
 use std::alloc::{AllocError, Global};
+use std::process::Abort;
 
 /// The image that writes `Hi`: exit and put, six words, one leaf with one block.
 const HELLO: [u8; 86] = [
@@ -70,24 +71,26 @@ const WORDS: [u32; 6] = [
     0x91D0_2000,
 ];
 
-/// Whether each block is the one of `HELLO`.
+/// Whether the one block is that of `HELLO`.
 fn are_blocks_of_hello(blocks: &[Block]) -> bool {
-    blocks.len() == 1
-        && blocks
-            .iter()
-            .all(|block| block.address == 0x40000 && block.fuel == 16)
+    match blocks {
+        [block] => block.address == 0x40000 && block.fuel == 16,
+        _ => false,
+    }
 }
 
-/// Whether each function is the one of `HELLO`.
+/// Whether the one function is that of `HELLO`.
 fn are_functions_of_hello(functions: &[Function]) -> bool {
-    functions.len() == 1
-        && functions.iter().all(|function| {
+    match functions {
+        [function] => {
             function.kind == Kind::Leaf
                 && function.entry == 0x40000
                 && function.budget == 16
                 && function.depth == 0
                 && are_blocks_of_hello(function.blocks.as_slice())
-        })
+        }
+        _ => false,
+    }
 }
 
 /// Whether each reader of an image gives what `HELLO` says.
@@ -103,19 +106,30 @@ fn is_hello(image: &Image) -> bool {
         && are_functions_of_hello(image.functions())
 }
 
-#[test]
-fn reads_the_fields(rt: HostRuntime) {
-    let is_read = match read(rt.alloc(), &HELLO) {
+/// Whether `HELLO` is read so.
+fn is_hello_read(alloc: Global) -> bool {
+    match read(alloc, &HELLO) {
         Ok(image) => is_hello(&image),
         Err(_) => false,
-    };
-    assert!(rt; is_read);
+    }
+}
+
+#[test]
+fn reads_the_fields(rt: HostRuntime) {
+    assert!(rt; is_hello_read(rt.alloc()));
 }
 
 #[test]
 fn writes_what_was_read(rt: HostRuntime) {
     assert!(rt; is_written_back(rt.alloc(), &HELLO), "HELLO");
     assert!(rt; is_written_back(rt.alloc(), &CALLS), "CALLS");
+}
+
+/// Whether a byte more than `HELLO` is told.
+fn is_trailing_told(alloc: Global) -> bool {
+    let mut longer = [0u8; 87];
+    longer[..86].copy_from_slice(&HELLO);
+    is_told(alloc, &longer, Some(ImageFault::Trailing))
 }
 
 #[test]
@@ -126,12 +140,7 @@ fn tells_the_end_of_the_bytes(rt: HostRuntime) {
             "at {end}"
         );
     }
-    let mut longer = [0u8; 87];
-    longer[..86].copy_from_slice(&HELLO);
-    assert!(rt;
-        is_told(rt.alloc(), &longer, Some(ImageFault::Trailing)),
-        "a byte more"
-    );
+    assert!(rt; is_trailing_told(rt.alloc()), "a byte more");
 }
 
 /// Bytes of `CALLS` that are replaced from a place on, and the fault that they get; none where they are an image.
@@ -221,39 +230,45 @@ const OF_BLOCKS: [Change; 25] = [
     (151, &[0, 0, 0, 1], None),
 ];
 
-/// `CALLS` with the bytes from a place on replaced.
-fn changed(place: usize, change: &[u8]) -> [u8; 212] {
-    let mut bytes = CALLS;
+/// Replaces the bytes from a place on.
+fn replace(bytes: &mut [u8], place: usize, change: &[u8]) {
     for (old, new) in bytes.iter_mut().skip(place).zip(change) {
         *old = *new;
     }
-    bytes
 }
 
 /// Whether `CALLS` gets the fault of a change.
-fn is_change_told(alloc: Global, (place, change, wanted): Change) -> bool {
-    is_told(alloc, &changed(place, change), wanted)
+fn is_change_told(alloc: Global, change: &Change) -> bool {
+    let mut bytes = CALLS;
+    replace(&mut bytes, change.0, change.1);
+    is_told(alloc, &bytes, change.2)
+}
+
+/// Asserts that `CALLS` gets the fault of each change.
+fn are_changes_told(rt: &impl Abort, alloc: Global, changes: &[Change]) {
+    for change in changes {
+        assert!(rt;
+            is_change_told(alloc, change),
+            "at {} {:?}",
+            change.0,
+            change.1
+        );
+    }
 }
 
 #[test]
 fn tells_the_first_bad_field_of_the_header(rt: HostRuntime) {
-    for change in OF_HEADER {
-        assert!(rt; is_change_told(rt.alloc(), change), "at {change:?}");
-    }
+    are_changes_told(&rt, rt.alloc(), &OF_HEADER);
 }
 
 #[test]
 fn tells_the_first_bad_field_of_functions(rt: HostRuntime) {
-    for change in OF_FUNCTIONS {
-        assert!(rt; is_change_told(rt.alloc(), change), "at {change:?}");
-    }
+    are_changes_told(&rt, rt.alloc(), &OF_FUNCTIONS);
 }
 
 #[test]
 fn tells_the_first_bad_field_of_blocks(rt: HostRuntime) {
-    for change in OF_BLOCKS {
-        assert!(rt; is_change_told(rt.alloc(), change), "at {change:?}");
-    }
+    are_changes_told(&rt, rt.alloc(), &OF_BLOCKS);
 }
 
 /// Whether parts with so many pages and words get the fault, and come back as they are.
@@ -300,19 +315,32 @@ const PARTS: [(u16, u16, u32, Option<ImageFault>); 7] = [
     (8, 17, 0x40004, Some(ImageFault::Service)),
 ];
 
+/// Whether the parts of `CALLS` get the fault where these are so.
+fn are_parts_told(
+    alloc: Global,
+    services: u16,
+    pages: u16,
+    entry: u32,
+    wanted: Option<ImageFault>,
+) -> bool {
+    match read(alloc, &CALLS) {
+        Ok(image) => are_told(
+            changed_parts(image, services, pages, entry),
+            pages,
+            8,
+            wanted,
+        ),
+        Err(_) => false,
+    }
+}
+
 #[test]
 fn parts(rt: HostRuntime) {
-    for (services, pages, entry, wanted) in PARTS {
-        let is_right = match read(rt.alloc(), &CALLS) {
-            Ok(image) => are_told(
-                changed_parts(image, services, pages, entry),
-                pages,
-                8,
-                wanted,
-            ),
-            Err(_) => false,
-        };
-        assert!(rt; is_right, "at {services} {pages} {entry}");
+    for &(services, pages, entry, wanted) in &PARTS {
+        assert!(rt;
+            are_parts_told(rt.alloc(), services, pages, entry, wanted),
+            "at {services} {pages} {entry}"
+        );
     }
 }
 
@@ -337,7 +365,9 @@ const SLANTED: Range = Range {
 };
 
 /// How many params of a range, the frame, how many cells of that range, whether they go up, and the fault.
-const SMALL: [(usize, Range, u32, u16, bool, Option<ImageFault>); 17] = [
+type Small = (usize, Range, u32, u16, bool, Option<ImageFault>);
+
+const SMALL: [Small; 17] = [
     (0, GOOD, 4096, 0, true, None),
     (6, GOOD, 0, 64, true, None),
     (1, BAD, 0, 0, true, Some(ImageFault::Range)),
@@ -419,39 +449,37 @@ fn small_parts(alloc: Global, function: Function) -> Result<Parts, ImageFault> {
 }
 
 /// The parts of a row of `SMALL`.
-fn row_parts(
-    alloc: Global,
-    params: usize,
-    range: Range,
-    frame: u32,
-    cells: u16,
-    up: bool,
-) -> Result<Parts, ImageFault> {
-    let cells = small_cells(alloc, range, cells, up)?;
+fn row_parts(alloc: Global, row: &Small) -> Result<Parts, ImageFault> {
+    let (params, range, frame, count, up, _) = *row;
+    let cells = small_cells(alloc, range, count, up)?;
     let function = small_function(alloc, params, range, frame, cells)?;
     small_parts(alloc, function)
 }
 
-/// Whether the parts of a row get its fault. Where a growth was refused, they are made once more.
-fn is_row_told(
-    alloc: Global,
-    (params, range, frame, cells, up, wanted): (usize, Range, u32, u16, bool, Option<ImageFault>),
-) -> bool {
-    let first = row_parts(alloc, params, range, frame, cells, up);
-    let made = match first {
+/// The same. Where a growth was refused, they are made once more.
+fn made_row_parts(alloc: Global, row: &Small) -> Result<Parts, ImageFault> {
+    match row_parts(alloc, row) {
         Ok(parts) => Ok(parts),
-        Err(_) => row_parts(alloc, params, range, frame, cells, up),
-    };
-    match made {
-        Ok(parts) => are_told(parts, 1, 1, wanted),
+        Err(_) => row_parts(alloc, row),
+    }
+}
+
+/// Whether the parts of a row get its fault.
+fn is_row_told(alloc: Global, row: &Small) -> bool {
+    match made_row_parts(alloc, row) {
+        Ok(parts) => are_told(parts, 1, 1, row.5),
         Err(_) => false,
     }
 }
 
 #[test]
 fn parts_of_functions(rt: HostRuntime) {
-    for row in SMALL {
-        assert!(rt; is_row_told(rt.alloc(), row), "at {row:?}");
+    for row in &SMALL {
+        let (params, range, frame, cells, up, _) = *row;
+        assert!(rt;
+            is_row_told(rt.alloc(), row),
+            "at {params} {range:?} {frame} {cells} {up}"
+        );
     }
 }
 
@@ -477,22 +505,32 @@ const HELD: [(i64, i64, bool); 10] = [
     (i64::MIN, 0x80000, false),
 ];
 
+/// Whether an image has each of `HELD`, for readers and for writers.
+fn has_held(image: &Image) -> bool {
+    for &(low, high, wanted) in &HELD {
+        if image.holds(low, high, false) != wanted || image.holds(low, high, true) != wanted {
+            return false;
+        }
+    }
+    true
+}
+
 /// Whether an image gives what `CALLS` says of its data.
 fn has_data_of_calls(image: &Image) -> bool {
-    is_one_region(image.regions(), b"abcdefgh")
-        && image.byte_count() == 8
-        && HELD.iter().all(|&(low, high, wanted)| {
-            image.holds(low, high, false) == wanted && image.holds(low, high, true) == wanted
-        })
+    is_one_region(image.regions(), b"abcdefgh") && image.byte_count() == 8 && has_held(image)
+}
+
+/// Whether `CALLS` is read so.
+fn is_calls_read(alloc: Global) -> bool {
+    match read(alloc, &CALLS) {
+        Ok(image) => has_data_of_calls(&image),
+        Err(_) => false,
+    }
 }
 
 #[test]
 fn reads_the_data(rt: HostRuntime) {
-    let is_read = match read(rt.alloc(), &CALLS) {
-        Ok(image) => has_data_of_calls(&image),
-        Err(_) => false,
-    };
-    assert!(rt; is_read);
+    assert!(rt; is_calls_read(rt.alloc()));
 }
 
 /// The version, services, the bytes of each region and whether it may be written, and the fault.
@@ -596,36 +634,76 @@ fn parts_with_data(
     })
 }
 
-/// Whether an image has regions of these sizes, and is written as bytes that it is read from.
-fn has_regions(alloc: Global, image: &Image, sizes: &[(usize, bool)]) -> bool {
-    let are_right = image.regions().len() == sizes.len()
-        && image.regions().iter().zip(sizes).all(|(region, size)| region.bytes.len() == size.0
-            && region.writable == size.1);
+/// Parts with data. Where a growth was refused, they are made once more.
+fn made_with_data(
+    alloc: Global,
+    version: u16,
+    services: u16,
+    sizes: &[(usize, bool)],
+) -> Result<Parts, ImageFault> {
+    match parts_with_data(alloc, version, services, sizes) {
+        Ok(parts) => Ok(parts),
+        Err(_) => parts_with_data(alloc, version, services, sizes),
+    }
+}
+
+/// Whether a region has this size, and may be written or not.
+fn is_sized(region: &Region, size: &(usize, bool)) -> bool {
+    region.bytes.len() == size.0 && region.writable == size.1
+}
+
+/// Whether these are regions of these sizes.
+fn are_sized(regions: &[Region], sizes: &[(usize, bool)]) -> bool {
+    for number in 0..regions.len() {
+        match sizes.get(number) {
+            Some(size) if is_sized(&regions[number], size) => {}
+            _ => return false,
+        }
+    }
+    regions.len() == sizes.len()
+}
+
+/// Whether an image is written as bytes that it is read from.
+fn is_kept(alloc: Global, image: &Image) -> bool {
     match written(alloc, image) {
-        Ok(text) => are_right && is_written_back(alloc, text.as_slice()),
+        Ok(text) => is_written_back(alloc, text.as_slice()),
         Err(AllocError) => false,
     }
 }
 
-/// Whether parts with data get their fault. Where a growth was refused, they are made once more.
-fn are_data_told(alloc: Global, (version, services, sizes, wanted): Data) -> bool {
-    let made = match parts_with_data(alloc, version, services, sizes) {
-        Ok(parts) => Ok(parts),
-        Err(_) => parts_with_data(alloc, version, services, sizes),
-    };
-    let Ok(parts) = made else {
-        return false;
-    };
+/// Whether parts with data of these sizes get their fault; where they are an image, it has them, and is written and read.
+fn are_sizes_told(
+    alloc: Global,
+    parts: Parts,
+    sizes: &[(usize, bool)],
+    wanted: Option<ImageFault>,
+) -> bool {
     match Image::from_parts(parts) {
-        Ok(image) => wanted.is_none() && has_regions(alloc, &image, sizes),
+        Ok(image) => {
+            wanted.is_none() && are_sized(image.regions(), sizes) && is_kept(alloc, &image)
+        }
         Err((back, fault)) => wanted == Some(fault) && back.regions.len() == sizes.len(),
+    }
+}
+
+/// Whether the parts of a row get its fault.
+fn are_data_told(alloc: Global, &(version, services, sizes, wanted): &Data) -> bool {
+    match made_with_data(alloc, version, services, sizes) {
+        Ok(parts) => are_sizes_told(alloc, parts, sizes, wanted),
+        Err(_) => false,
     }
 }
 
 #[test]
 fn parts_of_data(rt: HostRuntime) {
-    for row in DATA {
-        assert!(rt; are_data_told(rt.alloc(), row), "at {row:?}");
+    for row in &DATA {
+        assert!(rt;
+            are_data_told(rt.alloc(), row),
+            "at {} {} {:?}",
+            row.0,
+            row.1,
+            row.2
+        );
     }
 }
 
@@ -648,32 +726,33 @@ const STARTS: [(&[(usize, bool)], &[u32]); 5] = [
 
 /// Whether the regions of an image begin at these addresses, and no region stands behind them.
 fn begin_at(image: &Image, starts: &[u32]) -> bool {
-    starts
-        .iter()
-        .enumerate()
-        .all(|(index, start)| image.region_start(index) == Some(*start))
-        && image.region_start(starts.len()).is_none()
-        && image.region_start(usize::MAX).is_none()
+    for index in 0..starts.len() {
+        if image.region_start(index) != Some(starts[index]) {
+            return false;
+        }
+    }
+    image.region_start(starts.len()).is_none() && image.region_start(usize::MAX).is_none()
 }
 
-/// Whether regions of these sizes begin at these addresses. Where a growth was refused, they are made once more.
-fn are_begun(alloc: Global, sizes: &[(usize, bool)], starts: &[u32]) -> bool {
-    let made = match parts_with_data(alloc, 2, 0, sizes) {
-        Ok(parts) => Ok(parts),
-        Err(_) => parts_with_data(alloc, 2, 0, sizes),
-    };
-    let Ok(parts) = made else {
-        return false;
-    };
+/// Whether the regions of these parts begin at these addresses.
+fn begin_as_parts(parts: Parts, starts: &[u32]) -> bool {
     match Image::from_parts(parts) {
         Ok(image) => begin_at(&image, starts),
         Err((_parts, _fault)) => false,
     }
 }
 
+/// Whether regions of these sizes begin at these addresses.
+fn are_begun(alloc: Global, sizes: &[(usize, bool)], starts: &[u32]) -> bool {
+    match made_with_data(alloc, 2, 0, sizes) {
+        Ok(parts) => begin_as_parts(parts, starts),
+        Err(_) => false,
+    }
+}
+
 #[test]
 fn regions_begin_with_pages(rt: HostRuntime) {
-    for (sizes, starts) in STARTS {
+    for &(sizes, starts) in &STARTS {
         assert!(rt; are_begun(rt.alloc(), sizes, starts), "{sizes:?}");
     }
 }
@@ -706,21 +785,21 @@ const OF_REGIONS: [Change; 13] = [
     (28, &[0, 0], None),
 ];
 
-/// `REGIONS` with the bytes from a place on replaced.
-fn with_regions(place: usize, change: &[u8]) -> [u8; 116] {
+/// Whether `REGIONS` gets the fault of a change.
+fn is_region_told(alloc: Global, change: &Change) -> bool {
     let mut bytes = REGIONS;
-    for (old, new) in bytes.iter_mut().skip(place).zip(change) {
-        *old = *new;
-    }
-    bytes
+    replace(&mut bytes, change.0, change.1);
+    is_told(alloc, &bytes, change.2)
 }
 
 #[test]
 fn regions_are_read(rt: HostRuntime) {
-    for (place, change, wanted) in OF_REGIONS {
+    for change in &OF_REGIONS {
         assert!(rt;
-            is_told(rt.alloc(), &with_regions(place, change), wanted),
-            "at {place}"
+            is_region_told(rt.alloc(), change),
+            "at {} {:?}",
+            change.0,
+            change.1
         );
     }
     assert!(rt; is_written_back(rt.alloc(), &REGIONS));
@@ -758,40 +837,46 @@ const OF_DEPTHS: [Change; 14] = [
     (191, &[1, 1], Some(ImageFault::Limit)),
 ];
 
-/// `DEEP` with the bytes from a place on replaced.
-fn with_depths(place: usize, change: &[u8]) -> [u8; 220] {
+/// Whether `DEEP` gets the fault of a change.
+fn is_depth_change_told(alloc: Global, change: &Change) -> bool {
     let mut bytes = DEEP;
-    for (old, new) in bytes.iter_mut().skip(place).zip(change) {
-        *old = *new;
+    replace(&mut bytes, change.0, change.1);
+    is_told(alloc, &bytes, change.2)
+}
+
+/// Whether `DEEP` that is cut off within the head of its first function is short.
+fn are_cuts_told(alloc: Global) -> bool {
+    for end in 80..92usize {
+        if !is_told(alloc, &DEEP[..end], Some(ImageFault::Short)) {
+            return false;
+        }
     }
-    bytes
+    true
 }
 
 #[test]
 fn depths_are_read(rt: HostRuntime) {
-    for (place, change, wanted) in OF_DEPTHS {
+    for change in &OF_DEPTHS {
         assert!(rt;
-            is_told(rt.alloc(), &with_depths(place, change), wanted),
-            "at {place} {change:?}"
+            is_depth_change_told(rt.alloc(), change),
+            "at {} {:?}",
+            change.0,
+            change.1
         );
     }
-    for end in 80..92usize {
-        assert!(rt;
-            is_told(rt.alloc(), &DEEP[..end], Some(ImageFault::Short)),
-            "at {end}"
-        );
-    }
-    assert!(rt; is_written_back(rt.alloc(), &DEEP));
+    assert!(rt; are_cuts_told(rt.alloc()) && is_written_back(rt.alloc(), &DEEP));
 }
 
 /// Whether the functions of an image have these depths, in turn.
 fn has_depths(image: &Image, depths: &[u16]) -> bool {
-    image.functions().len() == depths.len()
-        && image
-            .functions()
-            .iter()
-            .zip(depths)
-            .all(|(function, depth)| function.depth == *depth)
+    let functions = image.functions();
+    for number in 0..functions.len() {
+        match depths.get(number) {
+            Some(depth) if functions[number].depth == *depth => {}
+            _ => return false,
+        }
+    }
+    functions.len() == depths.len()
 }
 
 /// The parts of an image of version 1 as those of one of version 3, with the depths of `DEEP`.
@@ -806,24 +891,33 @@ fn deepened(image: Image) -> Parts {
     parts
 }
 
-/// Whether the image of some parts has the depths of `DEEP`, and is written as its bytes.
-fn are_parts_of_deep(alloc: Global, parts: Parts) -> bool {
-    let Ok(image) = Image::from_parts(parts) else {
-        return false;
-    };
-    match written(alloc, &image) {
-        Ok(text) => has_depths(&image, &DEPTHS_OF_DEEP) && text.as_slice() == DEEP.as_slice(),
+/// Whether an image has the depths of `DEEP`, and is written as its bytes.
+fn is_deep(alloc: Global, image: &Image) -> bool {
+    match written(alloc, image) {
+        Ok(text) => has_depths(image, &DEPTHS_OF_DEEP) && text.as_slice() == DEEP.as_slice(),
         Err(AllocError) => false,
+    }
+}
+
+/// Whether the image of some parts does.
+fn are_parts_of_deep(alloc: Global, parts: Parts) -> bool {
+    match Image::from_parts(parts) {
+        Ok(image) => is_deep(alloc, &image),
+        Err((_parts, _fault)) => false,
+    }
+}
+
+/// Whether `CALLS` with the depths of `DEEP` is written as that.
+fn is_deep_written(alloc: Global) -> bool {
+    match read(alloc, &CALLS) {
+        Ok(image) => are_parts_of_deep(alloc, deepened(image)),
+        Err(_) => false,
     }
 }
 
 #[test]
 fn depths_are_written(rt: HostRuntime) {
-    let is_written = match read(rt.alloc(), &CALLS) {
-        Ok(image) => are_parts_of_deep(rt.alloc(), deepened(image)),
-        Err(_) => false,
-    };
-    assert!(rt; is_written);
+    assert!(rt; is_deep_written(rt.alloc()));
 }
 
 /// The version, the depth of a function, the range of its one param, and the fault.
@@ -863,35 +957,55 @@ fn parts_with_depth(
     Ok(parts)
 }
 
-/// Whether an image has a function of this depth, and so has what is read of its bytes.
-fn keeps_depth(alloc: Global, image: &Image, depth: u16) -> bool {
-    let Ok(text) = written(alloc, image) else {
-        return false;
-    };
-    match read(alloc, text.as_slice()) {
-        Ok(again) => has_depths(image, &[depth]) && has_depths(&again, &[depth]),
+/// Whether a function of this depth is read from these bytes.
+fn is_depth_read(alloc: Global, bytes: &[u8], depth: u16) -> bool {
+    match read(alloc, bytes) {
+        Ok(image) => has_depths(&image, &[depth]),
         Err(_) => false,
     }
 }
 
-/// Whether parts with a depth get their fault. Where a growth was refused, they are made once more.
-fn is_depth_told(alloc: Global, (version, depth, range, wanted): Depth) -> bool {
-    let made = match parts_with_depth(alloc, version, depth, range) {
+/// Whether an image has a function of this depth, and so has what is read of its bytes.
+fn keeps_depth(alloc: Global, image: &Image, depth: u16) -> bool {
+    match written(alloc, image) {
+        Ok(text) => has_depths(image, &[depth]) && is_depth_read(alloc, text.as_slice(), depth),
+        Err(AllocError) => false,
+    }
+}
+
+/// The parts of a row. Where a growth was refused, they are made once more.
+fn made_with_depth(alloc: Global, row: &Depth) -> Result<Parts, ImageFault> {
+    match parts_with_depth(alloc, row.0, row.1, row.2) {
         Ok(parts) => Ok(parts),
-        Err(_) => parts_with_depth(alloc, version, depth, range),
-    };
-    let Ok(parts) = made else {
-        return false;
-    };
+        Err(_) => parts_with_depth(alloc, row.0, row.1, row.2),
+    }
+}
+
+/// Whether the parts of a row get its fault; where they are an image, it keeps its depth.
+fn are_depths_told(alloc: Global, parts: Parts, row: &Depth) -> bool {
     match Image::from_parts(parts) {
-        Ok(image) => wanted.is_none() && keeps_depth(alloc, &image, depth),
-        Err((back, fault)) => wanted == Some(fault) && back.version == version,
+        Ok(image) => row.3.is_none() && keeps_depth(alloc, &image, row.1),
+        Err((back, fault)) => row.3 == Some(fault) && back.version == row.0,
+    }
+}
+
+/// The same of a row alone.
+fn is_depth_told(alloc: Global, row: &Depth) -> bool {
+    match made_with_depth(alloc, row) {
+        Ok(parts) => are_depths_told(alloc, parts, row),
+        Err(_) => false,
     }
 }
 
 #[test]
 fn parts_of_depths(rt: HostRuntime) {
-    for row in DEPTHS {
-        assert!(rt; is_depth_told(rt.alloc(), row), "at {row:?}");
+    for row in &DEPTHS {
+        assert!(rt;
+            is_depth_told(rt.alloc(), row),
+            "at {} {} {:?}",
+            row.0,
+            row.1,
+            row.2
+        );
     }
 }

@@ -3,46 +3,60 @@ ghost use Rattle.std.specs.Prelude.{ℕ, ◌+◌, ◌*◌, ◌≤◌};
 
 use crate::images::raw_image;
 use crate::ports::Probe;
+use sbx_image::Image;
 use std::alloc::{AllocError, Global};
 use std::test::Fail;
 use v8_board::{Board, Ending, Outcome, PageUse};
+use v8_core::Turn;
 use v8_mmu::PortFault;
 use v8_word::Reg;
 
 /// A board of four windows over a port without input.
 pub(crate) type Tested = Board<4, Probe<'static>>;
 
-/// A new board whose port fails at this call.
-pub(crate) fn board(alloc: Global, fails: u64) -> Result<Tested, AllocError> {
-    let port = Probe {
-        left: b"",
-        kept: Vec::new(alloc),
-        calls: 0,
-        fails,
-        at_put: PortFault::Writer,
-        failures: 0,
-        last: PortFault::Reader,
-    };
+/// A new board over this port.
+pub(crate) fn board_over(alloc: Global, port: Probe<'static>) -> Result<Tested, AllocError> {
     Board::new(alloc, port)
+}
+
+/// A new board whose port has no input and fails at this call.
+pub(crate) fn board(alloc: Global, fails: u64) -> Result<Tested, AllocError> {
+    board_over(alloc, Probe::new(alloc, b"", fails, PortFault::Writer))
+}
+
+// The board's methods with long contracts are called here alone: each place that calls one costs the prover its whole contract.
+
+/// Loads a board with an image.
+pub(crate) fn load_image(board: &mut Tested, image: &Image) {
+    board.load(image);
 }
 
 /// Loads a board with these words.
 pub(crate) fn load(board: &mut Tested, alloc: Global, words: &[u32]) -> Result<(), Fail> {
     let image = raw_image(alloc, words)?;
-    board.load(&image);
+    load_image(board, &image);
     Ok(())
 }
 
-/// A board that was loaded with these words.
-pub(crate) fn loaded_with(alloc: Global, words: &[u32]) -> Result<Tested, Fail> {
-    let mut loaded = board(alloc, 0)?;
-    load(&mut loaded, alloc, words)?;
-    Ok(loaded)
+/// Loads two boards with an image.
+pub(crate) fn load_both(one: &mut Tested, other: &mut Tested, image: &Image) {
+    load_image(one, image);
+    load_image(other, image);
+}
+
+/// A run of at most 100 turns.
+pub(crate) fn run(board: &mut Tested) -> Result<Outcome, PortFault> {
+    board.run(100)
+}
+
+/// A turn.
+pub(crate) fn step(board: &mut Tested) -> Result<Turn, PortFault> {
+    board.step()
 }
 
 /// Whether a run of at most 100 turns ends so, and leaves this fault status.
 pub(crate) fn ends(board: &mut Tested, told: &Result<Outcome, PortFault>, status: u32) -> bool {
-    board.run(100) == *told && board.fault_status() == status
+    run(board) == *told && board.fault_status() == status
 }
 
 /// An outcome without underflows.
@@ -57,11 +71,11 @@ pub(crate) fn outcome(ending: Ending, turns: u64, overflows: u64) -> Outcome {
 
 /// Whether these pages of code, data and stack were referenced, and these modified.
 pub(crate) fn used(board: &Tested, referenced: [u64; 3], modified: [u64; 3]) -> bool {
-    board.page_use()
-        == (PageUse {
-            referenced,
-            modified,
-        })
+    let wanted = PageUse {
+        referenced,
+        modified,
+    };
+    board.page_use() == wanted
 }
 
 /// Whether the first code page was referenced, and no other page, and none modified.
@@ -87,12 +101,13 @@ pub(crate) fn registers(board: &Tested) -> [u32; 32] {
 
 /// A word of RAM; within the page tables without what R and M (hexadecimal 60) show.
 fn unmarked(board: &Tested, place: u64) -> Option<u32> {
-    let marks = if (0x2A00..0x2E00).contains(&place) {
+    let word = board.entry(place)?;
+    let marks = if 0x2A00 <= place && place < 0x2E00 {
         0x60
     } else {
         0
     };
-    board.entry(place).map(|word| word | marks)
+    Some(word | marks)
 }
 
 /// Whether two boards have the same words, so many from a place on, but for R and M.

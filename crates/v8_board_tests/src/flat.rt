@@ -28,9 +28,10 @@ fn is_same(first: &Place, second: &Place) -> bool {
 }
 
 fn are_same(first: &[Place], second: &[Place]) -> bool {
-    for (one, other) in first.iter().zip(second.iter()) {
-        if !is_same(one, other) {
-            return false;
+    for number in 0..first.len() {
+        match second.get(number) {
+            Some(other) if is_same(&first[number], other) => {}
+            _ => return false,
         }
     }
     true

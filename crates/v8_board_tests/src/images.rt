@@ -11,8 +11,8 @@ const AFTER_CODE: [u8; 42] = [
     0, 0, 0, 0, 0, 0, 0, 0, 0, 0,
 ];
 
-fn image_bytes(alloc: Global, words: &[u32], data: &[u8]) -> Result<Vec<u8>, AllocError> {
-    let mut bytes = Vec::new(alloc);
+/// Puts the bytes of an image of version 1.
+fn put_image(bytes: &mut Vec<u8>, words: &[u32], data: &[u8]) -> Result<(), AllocError> {
     // all services and one page of stack
     bytes.extend_from_slice(b"SBX8\x00\x01\x00\x07")?;
     bytes.extend_from_slice(&((words.len() % 0x1_0000) as u32).to_be_bytes())?;
@@ -22,25 +22,33 @@ fn image_bytes(alloc: Global, words: &[u32], data: &[u8]) -> Result<Vec<u8>, All
         bytes.extend_from_slice(&word.to_be_bytes())?;
     }
     bytes.extend_from_slice(data)?;
-    bytes.extend_from_slice(&AFTER_CODE)?;
-    Ok(bytes)
+    bytes.extend_from_slice(&AFTER_CODE)
+}
+
+/// The image of these bytes.
+pub(crate) fn image_of(alloc: Global, bytes: &[u8]) -> Result<Image, Fail> {
+    Ok(parse(alloc, bytes)?)
+}
+
+/// An image of raw words and data: one leaf function of one block, all services, and one page of stack.
+fn image_over(alloc: Global, words: &[u32], data: &[u8]) -> Result<Image, Fail> {
+    let mut bytes = Vec::new(alloc);
+    put_image(&mut bytes, words, data)?;
+    image_of(alloc, &bytes)
 }
 
 /// An image of raw words: one leaf function of one block, all services, and one page of stack.
 pub(crate) fn raw_image(alloc: Global, words: &[u32]) -> Result<Image, Fail> {
-    let bytes = image_bytes(alloc, words, &[])?;
-    Ok(parse(alloc, &bytes)?)
+    image_over(alloc, words, &[])
 }
 
 /// The same with eight bytes of data, all 0.
 pub(crate) fn data_image(alloc: Global, words: &[u32]) -> Result<Image, Fail> {
-    let bytes = image_bytes(alloc, words, &[0; 8])?;
-    Ok(parse(alloc, &bytes)?)
+    image_over(alloc, words, &[0; 8])
 }
 
-/// The same in version 2, with eight bytes of data that may be read alone, and on the next page eight that may be written.
-pub(crate) fn regions_image(alloc: Global, words: &[u32]) -> Result<Image, Fail> {
-    let mut bytes = Vec::new(alloc);
+/// Puts the bytes of an image of version 2.
+fn put_regions_image(bytes: &mut Vec<u8>, words: &[u32]) -> Result<(), AllocError> {
     bytes.extend_from_slice(b"SBX8\x00\x02\x00\x07")?;
     bytes.extend_from_slice(&((words.len() % 0x1_0000) as u32).to_be_bytes())?;
     // two regions, one page of stack, one function; then the length and the kind of each region
@@ -50,8 +58,14 @@ pub(crate) fn regions_image(alloc: Global, words: &[u32]) -> Result<Image, Fail>
         bytes.extend_from_slice(&word.to_be_bytes())?;
     }
     bytes.extend_from_slice(b"readonlywritable")?;
-    bytes.extend_from_slice(&AFTER_CODE)?;
-    Ok(parse(alloc, &bytes)?)
+    bytes.extend_from_slice(&AFTER_CODE)
+}
+
+/// The same in version 2, with eight bytes of data that may be read alone, and on the next page eight that may be written.
+pub(crate) fn regions_image(alloc: Global, words: &[u32]) -> Result<Image, Fail> {
+    let mut bytes = Vec::new(alloc);
+    put_regions_image(&mut bytes, words)?;
+    image_of(alloc, &bytes)
 }
 
 pub(crate) const SAVE: u32 = 0x9DE3_BFA0; // save %sp,-96,%sp

@@ -73,15 +73,49 @@ fn machine_of<'a, const N: usize>(
 /// Where code stands: PC, nPC and the condition codes.
 type Spot = (u32, u32, Icc);
 
-impl<const N: usize> Boards<'_, N> {
+/// What is shown of user code: where it stands, Y, and the registers of the current window.
+#[derive(Clone, Copy)]
+struct Shown {
+    spot: Spot,
+    y: u32,
+    registers: [u32; 32],
+}
+
+/// What the lockstep asks of boards, whatever their number of windows: so what it does itself is proved without their contracts.
+trait Stepping {
+    /// What they show, if user code has the turn.
+    fn shown(&self) -> Option<Shown>;
+
+    /// Whether they have put this out.
+    fn has_put(&self, output: &[u8]) -> bool;
+
     /// A turn of both, if it is the same: whether it is a step of the flat machine.
+    fn turn(&mut self) -> Option<bool>;
+
+    /// What the run has come to.
+    fn outcome(&self) -> Outcome;
+}
+
+impl<const N: usize> Stepping for Boards<'_, N> {
+    fn shown(&self) -> Option<Shown> {
+        let psr = self.board.psr();
+        if psr & 0x80 != 0 {
+            return None;
+        }
+        Some(Shown {
+            spot: (self.machine.pc(), self.machine.npc(), icc_of(psr)),
+            y: self.machine.y(),
+            registers: registers_of(&self.board),
+        })
+    }
+
+    fn has_put(&self, output: &[u8]) -> bool {
+        self.board.port().output() == output
+    }
+
     fn turn(&mut self) -> Option<bool> {
-        let Ok(one) = self.board.step() else {
-            return None;
-        };
-        let Ok(other) = self.machine.step() else {
-            return None;
-        };
+        let one = turn_of_board(&mut self.board)?;
+        let other = turn_of_machine(&mut self.machine)?;
         if one == other {
             Some(is_step(&one))
         } else {
@@ -89,36 +123,60 @@ impl<const N: usize> Boards<'_, N> {
         }
     }
 
-    /// Where they stand.
-    fn spot(&self) -> Spot {
-        (self.machine.pc(), self.machine.npc(), self.icc())
+    fn outcome(&self) -> Outcome {
+        self.board.outcome()
     }
+}
 
-    /// Whether user code has the turn.
-    fn is_user(&self) -> bool {
-        self.board.psr() & 0x80 == 0
+/// The condition codes.
+fn icc_of(psr: u32) -> Icc {
+    Icc {
+        n: psr & 0x80_0000 != 0,
+        z: psr & 0x40_0000 != 0,
+        v: psr & 0x20_0000 != 0,
+        c: psr & 0x10_0000 != 0,
     }
+}
 
-    /// The condition codes.
-    fn icc(&self) -> Icc {
-        let psr = self.board.psr();
-        Icc {
-            n: psr & 0x80_0000 != 0,
-            z: psr & 0x40_0000 != 0,
-            v: psr & 0x20_0000 != 0,
-            c: psr & 0x10_0000 != 0,
+/// The registers of the current window.
+fn registers_of<const N: usize>(board: &Board<N, SlicePort<'_>>) -> [u32; 32] {
+    let mut words = [0; 32];
+    for number in 0..32u8 {
+        if let Some(register) = Reg::new(number) {
+            words[usize::from(number)] = board.reg(register);
         }
+    }
+    words
+}
+
+fn turn_of_board<const N: usize>(board: &mut Board<N, SlicePort<'_>>) -> Option<Turn> {
+    match board.step() {
+        Ok(turn) => Some(turn),
+        Err(_fault) => None,
+    }
+}
+
+fn turn_of_machine<const N: usize>(
+    machine: &mut Machine<N, Memory<SlicePort<'_>>>,
+) -> Option<Turn> {
+    match machine.step() {
+        Ok(turn) => Some(turn),
+        Err(_fault) => None,
+    }
+}
+
+/// A flat machine at a start of the image, where each open word is `fill`.
+fn flat_of<'a>(alloc: Global, image: &Image, input: &'a [u8], fill: u32) -> Option<Plain<'a>> {
+    match Plain::new(alloc, image, input, fill) {
+        Ok(flat) => Some(flat),
+        Err(AllocError) => None,
     }
 }
 
 /// The two flat machines at a start of the image.
 fn flats_of<'a>(alloc: Global, image: &Image, input: &'a [u8]) -> Option<Flats<'a>> {
-    let Ok(zeros) = Plain::new(alloc, image, input, 0) else {
-        return None;
-    };
-    let Ok(ones) = Plain::new(alloc, image, input, u32::MAX) else {
-        return None;
-    };
+    let zeros = flat_of(alloc, image, input, 0)?;
+    let ones = flat_of(alloc, image, input, u32::MAX)?;
     Some(Flats { zeros, ones })
 }
 
@@ -138,19 +196,17 @@ fn is_theirs(word: u32, zeros: u32, ones: u32) -> bool {
 }
 
 impl Flats<'_> {
-    /// Whether both are at this place, with this output.
-    fn are_at(&self, spot: Spot, output: &[u8]) -> bool {
-        (spot_of(&self.zeros), spot_of(&self.ones)) == (spot, spot)
-            && self.zeros.output() == output
-            && self.ones.output() == output
+    /// Whether both are at this place.
+    fn are_at(&self, spot: Spot) -> bool {
+        spot_of(&self.zeros) == spot && spot_of(&self.ones) == spot
     }
 
-    /// Whether the registers of the board's current window are theirs.
-    fn have_registers<const N: usize>(&self, boards: &Boards<'_, N>) -> bool {
+    /// Whether these registers are theirs.
+    fn have_registers(&self, words: &[u32; 32]) -> bool {
         for number in 0..32u8 {
             if let Some(register) = Reg::new(number) {
                 let (zeros, ones) = (self.zeros.word(register), self.ones.word(register));
-                if !is_theirs(boards.board.reg(register), zeros, ones) {
+                if !is_theirs(words[usize::from(number)], zeros, ones) {
                     return false;
                 }
             }
@@ -158,11 +214,23 @@ impl Flats<'_> {
         true
     }
 
-    /// Whether the board stands where they do.
-    fn are_shown<const N: usize>(&self, boards: &Boards<'_, N>) -> bool {
-        self.are_at(boards.spot(), boards.board.port().output())
-            && is_theirs(boards.machine.y(), self.zeros.y(), self.ones.y())
-            && self.have_registers(boards)
+    /// Whether both stand where user code does.
+    fn are_so(&self, shown: &Shown) -> bool {
+        self.are_at(shown.spot)
+            && is_theirs(shown.y, self.zeros.y(), self.ones.y())
+            && self.have_registers(&shown.registers)
+    }
+
+    /// Whether boards stand where they do, and have put out the same, if user code has the turn.
+    fn are_shown<B: Stepping>(&self, boards: &B) -> bool {
+        match boards.shown() {
+            Some(shown) => {
+                self.are_so(&shown)
+                    && boards.has_put(self.zeros.output())
+                    && boards.has_put(self.ones.output())
+            }
+            None => true,
+        }
     }
 
     /// A step of both, if there is one.
@@ -191,13 +259,8 @@ fn is_step(turn: &Turn) -> bool {
 }
 
 /// Whether they are in step, and stay so for a turn.
-fn go_on<const N: usize>(
-    alloc: Global,
-    image: &Image,
-    boards: &mut Boards<'_, N>,
-    flats: &mut Flats<'_>,
-) -> bool {
-    if boards.is_user() && !flats.are_shown(boards) {
+fn go_on<B: Stepping>(alloc: Global, image: &Image, boards: &mut B, flats: &mut Flats<'_>) -> bool {
+    if !flats.are_shown(boards) {
         return false;
     }
     match boards.turn() {
@@ -208,10 +271,10 @@ fn go_on<const N: usize>(
 }
 
 /// Whether they stay in step for so many turns.
-fn stay_in_step<const N: usize>(
+fn stay_in_step<B: Stepping>(
     alloc: Global,
     image: &Image,
-    boards: &mut Boards<'_, N>,
+    boards: &mut B,
     flats: &mut Flats<'_>,
     turns: u64,
 ) -> bool {
@@ -235,28 +298,28 @@ fn told_of(row: &Row, windows: u32) -> Outcome {
 }
 
 /// Whether the boards, which have so many windows, and the flat machines stay in step, to the row's end.
-fn end_in_step<const N: usize>(
+fn end_in_step<B: Stepping>(
     alloc: Global,
     image: &Image,
     windows: u32,
     row: &Row,
-    boards: &mut Boards<'_, N>,
+    boards: &mut B,
     flats: &mut Flats<'_>,
 ) -> bool {
     let told = told_of(row, windows);
     stay_in_step(alloc, image, boards, flats, told.turns)
-        && boards.board.outcome() == told
+        && boards.outcome() == told
         && has_exited(&flats.zeros, row)
         && has_exited(&flats.ones, row)
 }
 
 /// The same of these boards, and of flat machines at a start.
-fn go_in_step<const N: usize>(
+fn go_in_step<B: Stepping>(
     alloc: Global,
     image: &Image,
     windows: u32,
     row: &Row,
-    boards: &mut Boards<'_, N>,
+    boards: &mut B,
 ) -> bool {
     match flats_of(alloc, image, row.input) {
         Some(flats) => {

@@ -8,16 +8,7 @@ use v8_word::Size;
 
 /// A memory over a port with this input.
 fn memory<'a>(alloc: Global, input: &'a [u8]) -> Result<Memory<Probe<'a>>, AllocError> {
-    let port = Probe {
-        left: input,
-        kept: Vec::new(alloc),
-        calls: 0,
-        fails: 0,
-        at_put: PortFault::Writer,
-        failures: 0,
-        last: PortFault::Reader,
-    };
-    Memory::new(alloc, port)
+    Memory::new(alloc, Probe::new(alloc, input, 0, PortFault::Writer))
 }
 
 /// Whether a load of the first register gives this word, and the port was then called so often.
@@ -65,27 +56,37 @@ fn loads_give_the_input_and_its_end(rt: HostRuntime) -> Result<(), Fail> {
     Ok(())
 }
 
+/// The place and the word of a store, how the device has then stopped, and what it has put out.
+type Stored = (u64, u32, Option<Stop>, &'static [u8]);
+
+const STORED: [Stored; 4] = [
+    (0x1_0000_0004, 0x1234_5648, None, b"H"),
+    (0x1_0000_0004, 0x69, None, b"Hi"),
+    (
+        0x1_0000_0008,
+        0x8000_0021,
+        Some(Stop::Exit(0x8000_0021)),
+        b"Hi",
+    ),
+    (0x1_0000_000C, 5, Some(Stop::Trapped), b"Hi"),
+];
+
+/// Whether each of these stores is done so, one after another.
+fn stores_each(memory: &mut Memory<Probe<'_>>) -> bool {
+    for (pa, word, stop, bytes) in &STORED {
+        let calls = bytes.len() as u64;
+        if !(stores(memory, *pa, *word, stop) && kept(memory, calls, bytes)) {
+            return false;
+        }
+    }
+    true
+}
+
 /// A store to the second register puts the low byte out, one to the third stops with its word, one to the fourth as trapped.
 #[test]
 fn stores_put_out_and_stop(rt: HostRuntime) -> Result<(), Fail> {
     let mut memory = memory(rt.alloc(), b"a")?;
-    for (pa, word, stop, bytes) in [
-        (0x1_0000_0004, 0x1234_5648, None, b"H".as_slice()),
-        (0x1_0000_0004, 0x69, None, b"Hi"),
-        (
-            0x1_0000_0008,
-            0x8000_0021,
-            Some(Stop::Exit(0x8000_0021)),
-            b"Hi",
-        ),
-        (0x1_0000_000C, 5, Some(Stop::Trapped), b"Hi"),
-    ] {
-        let calls = bytes.len() as u64;
-        assert!(rt;
-            stores(&mut memory, pa, word, &stop) && kept(&memory, calls, bytes),
-            "{word}"
-        );
-    }
+    assert!(rt; stores_each(&mut memory));
     Ok(())
 }
 

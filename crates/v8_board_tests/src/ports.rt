@@ -3,6 +3,7 @@ ghost use Rattle.std.specs.Prelude.{◌≡◌, ℕ};
 ghost use Rattle.v8_mmu.specs.Answers.{one_more};
 ghost use Rattle.v8_mmu.specs.Ram.{AreBytes};
 
+use std::alloc::Global;
 use v8_memory::Port;
 use v8_mmu::PortFault;
 use want::Want;
@@ -18,6 +19,21 @@ pub(crate) struct Probe<'a> {
     pub(crate) at_put: PortFault,
     pub(crate) failures: u64,
     pub(crate) last: PortFault,
+}
+
+impl<'a> Probe<'a> {
+    /// A port with this input that fails at this call.
+    pub(crate) fn new(alloc: Global, input: &'a [u8], fails: u64, at_put: PortFault) -> Self {
+        Probe {
+            left: input,
+            kept: Vec::new(alloc),
+            calls: 0,
+            fails,
+            at_put,
+            failures: 0,
+            last: PortFault::Reader,
+        }
+    }
 }
 
 impl Probe<'_> {

@@ -1,4 +1,6 @@
 //! Programs as words, and chains of 39 calls below the first function.
+ghost use Rattle.std.specs.Prelude.{◌<◌};
+
 use crate::images::{NOP, RESTORE, RET, SAVE};
 use std::alloc::{AllocError, Global};
 
@@ -253,69 +255,70 @@ const ROUNDS: [u32; 19] = [
     0x91D0_2000,
 ];
 
+/// The words of a chain's first function.
+fn first_of(shape: Shape) -> &'static [u32] {
+    match shape {
+        // call .+16; nop; mov 0,%o0; ta 0
+        Shape::Plain => &[SAVE, 0x4000_0004, NOP, 0x9010_2000, 0x91D0_2000],
+        Shape::Result => &[SAVE, 0x4000_0003, NOP, 0x91D0_2000],
+        Shape::Rounds | Shape::Products => &ROUNDS,
+    }
+}
+
+/// The words of a chain's last function.
+fn last_of(shape: Shape) -> &'static [u32] {
+    match shape {
+        // mov 33,%o0; ta 2; ret; restore
+        Shape::Plain | Shape::Result => &[SAVE, 0x9010_2021, 0x91D0_2002, RET, RESTORE],
+        // ret; restore %i0,1,%o0
+        Shape::Rounds | Shape::Products => &[SAVE, RET, 0x91EE_2001],
+    }
+}
+
+/// Puts the words of the function of a number between them.
+fn put_link(words: &mut Vec<u32>, shape: Shape, number: u32) -> Result<(), AllocError>
+    requires { number < 39 }
+{
+    match shape {
+        // call .+20; nop; mov 41,%l0; ret; restore %l0,1,%o0
+        Shape::Result if number == 1 => {
+            words.extend_from_slice(&[SAVE, 0x4000_0005, NOP, 0xA010_2029, RET, 0x91EC_2001])
+        }
+        // call .+16; nop; ret; restore
+        Shape::Plain | Shape::Result => {
+            words.extend_from_slice(&[SAVE, 0x4000_0004, NOP, RET, RESTORE])
+        }
+        // call .+16; xor %i0,number,%o0; ret; restore %o0,1,%o0
+        Shape::Rounds => words.extend_from_slice(&[
+            SAVE,
+            0x4000_0004,
+            0x901E_2000 | number,
+            RET,
+            0x91EA_2001,
+        ]),
+        // call .+16; umulcc %i0,1001+2*number,%o0; ret; restore %o0,1,%o0
+        Shape::Products => words.extend_from_slice(&[
+            SAVE,
+            0x4000_0004,
+            0x90D6_2000 | (1001 + 2 * number),
+            RET,
+            0x91EA_2001,
+        ]),
+    }
+}
+
+/// Puts the words of a chain.
+fn put_chain(words: &mut Vec<u32>, shape: Shape) -> Result<(), AllocError> {
+    words.extend_from_slice(first_of(shape))?;
+    for number in 1..39u32 {
+        put_link(words, shape, number)?;
+    }
+    words.extend_from_slice(last_of(shape))
+}
+
 /// The words of a chain.
 pub(crate) fn chain(alloc: Global, shape: Shape) -> Result<Vec<u32>, AllocError> {
     let mut words = Vec::new(alloc);
-    match shape {
-        // call .+16; nop; mov 0,%o0; ta 0
-        Shape::Plain => words.extend_from_slice(&[
-            SAVE,
-            0x4000_0004,
-            NOP,
-            0x9010_2000,
-            0x91D0_2000,
-        ])?,
-        Shape::Result => words.extend_from_slice(&[SAVE, 0x4000_0003, NOP, 0x91D0_2000])?,
-        Shape::Rounds | Shape::Products => words.extend_from_slice(&ROUNDS)?,
-    }
-    for number in 1..39u32 {
-        match shape {
-            // call .+20; nop; mov 41,%l0; ret; restore %l0,1,%o0
-            Shape::Result if number == 1 => words.extend_from_slice(&[
-                SAVE,
-                0x4000_0005,
-                NOP,
-                0xA010_2029,
-                RET,
-                0x91EC_2001,
-            ])?,
-            // call .+16; nop; ret; restore
-            Shape::Plain | Shape::Result => words.extend_from_slice(&[
-                SAVE,
-                0x4000_0004,
-                NOP,
-                RET,
-                RESTORE,
-            ])?,
-            // call .+16; xor %i0,number,%o0; ret; restore %o0,1,%o0
-            Shape::Rounds => words.extend_from_slice(&[
-                SAVE,
-                0x4000_0004,
-                0x901E_2000 | number,
-                RET,
-                0x91EA_2001,
-            ])?,
-            // call .+16; umulcc %i0,1001+2*number,%o0; ret; restore %o0,1,%o0
-            Shape::Products => words.extend_from_slice(&[
-                SAVE,
-                0x4000_0004,
-                0x90D6_2000 | (1001 + 2 * number),
-                RET,
-                0x91EA_2001,
-            ])?,
-        }
-    }
-    match shape {
-        // mov 33,%o0; ta 2; ret; restore
-        Shape::Plain | Shape::Result => words.extend_from_slice(&[
-            SAVE,
-            0x9010_2021,
-            0x91D0_2002,
-            RET,
-            RESTORE,
-        ])?,
-        // ret; restore %i0,1,%o0
-        Shape::Rounds | Shape::Products => words.extend_from_slice(&[SAVE, RET, 0x91EE_2001])?,
-    }
+    put_chain(&mut words, shape)?;
     Ok(words)
 }

@@ -117,9 +117,21 @@ fn is(raw: &Raw, run: &Run) -> bool {
     raw.outcome == wanted && raw.fault_status == run.status && raw.output.is_empty()
 }
 
+/// The raw run of an image on `N` windows.
+fn run_on<const N: usize>(
+    alloc: Global,
+    image: &Image,
+    input: &[u8],
+    limit: u64,
+) -> Result<Raw, Fail>
+    requires { (4 ≤ N) × (N ≤ 32) }
+{
+    Ok(run_raw::<N>(alloc, image, input, limit)?)
+}
+
 fn agrees(alloc: Global, run: &Run) -> Result<bool, Fail> {
     let image = raw_image(alloc, run.words)?;
-    let raw = run_raw::<4>(alloc, &image, b"", run.limit)?;
+    let raw = run_on::<4>(alloc, &image, b"", run.limit)?;
     Ok(is(&raw, run))
 }
 
@@ -146,16 +158,16 @@ fn echoes(raw: &Raw) -> bool {
 }
 
 /// The raw run of words at eight windows.
-fn run_words(alloc: Global, words: &[u32], input: &[u8]) -> Result<Raw, Fail> {
+fn run_words(alloc: Global, words: &[u32], input: &[u8], limit: u64) -> Result<Raw, Fail> {
     let image = raw_image(alloc, words)?;
-    Ok(run_raw::<8>(alloc, &image, input, 100)?)
+    run_on::<8>(alloc, &image, input, limit)
 }
 
 #[test]
 fn raw_runs_get_and_put(rt: HostRuntime) -> Result<(), Fail> {
-    let raw = run_words(rt.alloc(), &GREETING, b"")?;
+    let raw = run_words(rt.alloc(), &GREETING, b"", 100)?;
     assert!(rt; greets(&raw), "{raw:?}");
-    let raw = run_words(rt.alloc(), &[GET, PUT, GET, PUT, GET, EXIT], b"ab")?;
+    let raw = run_words(rt.alloc(), &[GET, PUT, GET, PUT, GET, EXIT], b"ab", 100)?;
     assert!(rt; echoes(&raw), "{raw:?}");
     Ok(())
 }
@@ -172,8 +184,7 @@ fn bytes_of(alloc: Global, count: u32) -> Result<Vec<u8>, AllocError> {
 /// A run of 37,748,736 turns of a loop of 12 turns that gets a byte and puts it out.
 fn long_echo(alloc: Global, input: &[u8]) -> Result<Raw, Fail> {
     // ta 1; ta 2; ba .-8; nop
-    let image = raw_image(alloc, &[GET, PUT, 0x10BF_FFFE, NOP])?;
-    Ok(run_raw::<8>(alloc, &image, input, 37_748_736)?)
+    run_words(alloc, &[GET, PUT, 0x10BF_FFFE, NOP], input, 37_748_736)
 }
 
 /// Whether a raw run of so many turns has put this out.
@@ -205,7 +216,7 @@ fn chain_run<const N: usize>(alloc: Global, shape: Shape) -> Result<Raw, Fail>
     requires { (4 ≤ N) × (N ≤ 32) }
 {
     let image = chain_image(alloc, shape)?;
-    Ok(run_raw::<N>(alloc, &image, b"", 10_000)?)
+    run_on::<N>(alloc, &image, b"", 10_000)
 }
 
 /// Whether a chain exits on `N` windows with this status, these counts, and `!` put out.
@@ -227,16 +238,22 @@ fn exits(raw: &Raw, status: u32, counts: (u64, u64, u64)) -> bool {
     told.ending == Ending::Exit(status) && (told.turns, told.overflows, told.underflows) == counts
 }
 
+/// Whether chains end so on each of these counts of windows.
+fn chains_end(alloc: Global) -> Result<bool, Fail> {
+    Ok(
+        chain_ends::<4>(alloc, Shape::Plain, 0, (2006, 38, 37))?
+            && chain_ends::<5>(alloc, Shape::Plain, 0, (1958, 37, 36))?
+            && chain_ends::<6>(alloc, Shape::Plain, 0, (1910, 36, 35))?
+            && chain_ends::<32>(alloc, Shape::Plain, 0, (662, 10, 9))?
+            && chain_ends::<4>(alloc, Shape::Result, 42, (2006, 38, 37))?,
+    )
+}
+
 /// Windows are stored and loaded where there are too few, and every function returns to its caller. Of the 40 SAVEs all but the first
 /// N - 2 overflow, and of the 39 RESTOREs all but the first N - 2 underflow; each takes 24 turns more, the trap and the handler's 23.
 #[test]
 fn chains_of_calls_return(rt: HostRuntime) -> Result<(), Fail> {
-    let alloc = rt.alloc();
-    assert!(rt; chain_ends::<4>(alloc, Shape::Plain, 0, (2006, 38, 37))?);
-    assert!(rt; chain_ends::<5>(alloc, Shape::Plain, 0, (1958, 37, 36))?);
-    assert!(rt; chain_ends::<6>(alloc, Shape::Plain, 0, (1910, 36, 35))?);
-    assert!(rt; chain_ends::<32>(alloc, Shape::Plain, 0, (662, 10, 9))?);
-    assert!(rt; chain_ends::<4>(alloc, Shape::Result, 42, (2006, 38, 37))?);
+    assert!(rt; chains_end(rt.alloc())?);
     Ok(())
 }
 
@@ -245,7 +262,7 @@ fn data_run<const N: usize>(alloc: Global, words: &[u32]) -> Result<Raw, Fail>
     requires { (4 ≤ N) × (N ≤ 32) }
 {
     let image = data_image(alloc, words)?;
-    Ok(run_raw::<N>(alloc, &image, b"", 100)?)
+    run_on::<N>(alloc, &image, b"", 100)
 }
 
 /// Whether a raw run over eight bytes of data exits with 0 after so many turns, references a page of code and one of data, and
@@ -266,13 +283,19 @@ fn marks<const N: usize>(
     Ok(exits(&raw, 0, (turns, 0, 0)) && raw.pages == used)
 }
 
+/// Whether pages are marked so on each of these counts of windows.
+fn marks_each(alloc: Global) -> Result<bool, Fail> {
+    Ok(
+        marks::<4>(alloc, &STORES_AFTER_A_LOAD, 7, [0, 1, 0])?
+            && marks::<8>(alloc, &STORES_AFTER_A_LOAD, 7, [0, 1, 0])?
+            && marks::<32>(alloc, &STORES_AFTER_A_LOAD, 7, [0, 1, 0])?
+            && marks::<4>(alloc, &LOADS, 6, [0, 0, 0])?,
+    )
+}
+
 /// A store after a load of its page marks that as modified, whatever the machine keeps of it.
 #[test]
 fn stores_mark_pages_that_were_loaded_from(rt: HostRuntime) -> Result<(), Fail> {
-    let alloc = rt.alloc();
-    assert!(rt; marks::<4>(alloc, &STORES_AFTER_A_LOAD, 7, [0, 1, 0])?);
-    assert!(rt; marks::<8>(alloc, &STORES_AFTER_A_LOAD, 7, [0, 1, 0])?);
-    assert!(rt; marks::<32>(alloc, &STORES_AFTER_A_LOAD, 7, [0, 1, 0])?);
-    assert!(rt; marks::<4>(alloc, &LOADS, 6, [0, 0, 0])?);
+    assert!(rt; marks_each(rt.alloc())?);
     Ok(())
 }

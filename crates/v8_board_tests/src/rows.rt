@@ -1,6 +1,7 @@
 //! Programs with what they give, worked out by hand or by other programs.
+use crate::images::image_of;
 use crate::programs::{CALLS, CHECKSUM, ECHO, INCREMENT, MULTIPLY, SIEVE, Shape, chain};
-use sbx_image::{Image, parse};
+use sbx_image::Image;
 use std::alloc::{AllocError, Global};
 use std::test::Fail;
 
@@ -189,14 +190,19 @@ impl Row {
         }
     }
 
+    /// The bytes of an image of the row's words.
+    fn spell(&self, alloc: Global, bytes: &mut Vec<u8>) -> Result<(), AllocError> {
+        bytes.extend_from_slice(b"SBX8\x00\x01\x00\x07")?;
+        self.spell_words(alloc, bytes)?;
+        bytes.extend_from_slice(&[0; 1024])?;
+        bytes.extend_from_slice(&AFTER_DATA)
+    }
+
     /// An image of the row's words: one leaf function of one block, all services, one page of stack, and 1,024 bytes of data.
     pub(crate) fn image(&self, alloc: Global) -> Result<Image, Fail> {
         let mut bytes = Vec::new(alloc);
-        bytes.extend_from_slice(b"SBX8\x00\x01\x00\x07")?;
-        self.spell_words(alloc, &mut bytes)?;
-        bytes.extend_from_slice(&[0; 1024])?;
-        bytes.extend_from_slice(&AFTER_DATA)?;
-        Ok(parse(alloc, &bytes)?)
+        self.spell(alloc, &mut bytes)?;
+        image_of(alloc, &bytes)
     }
 }
 

@@ -1,16 +1,16 @@
 //! Runs of raw words on a board.
 use crate::boards::{
-    Tested, are_alike_below_the_stack, board, ends, have, kept, load, loaded_with, outcome, used,
-    used_code_alone,
+    Tested, are_alike_below_the_stack, board, board_over, ends, have, kept, load, load_both,
+    load_image, outcome, run, used, used_code_alone,
 };
 use crate::images::{
-    EXIT, End, GET, GREETING, LOADS, NOP, PUT, SAVE, STORES_AFTER_A_LOAD, data_image,
+    EXIT, End, GET, GREETING, LOADS, NOP, PUT, SAVE, STORES_AFTER_A_LOAD, data_image, raw_image,
 };
 use crate::ports::Probe;
 use crate::programs::ECHO;
 use std::alloc::{AllocError, Global};
 use std::test::Fail;
-use v8_board::{Board, Ending, Port};
+use v8_board::{Ending, Port};
 use v8_mmu::PortFault;
 use v8_word::TrapType;
 use want::Want;
@@ -123,48 +123,47 @@ fn raw_words_end_as_worked_out(rt: HostRuntime) -> Result<(), Fail> {
     Ok(())
 }
 
+// mov 72,%o0 between the puts
+const GETS_AND_PUTS: [u32; 5] = [GET, PUT, 0x9010_2048, PUT, EXIT];
+
 /// Whether a run ends with this fault of the port, and the next one as if the port had not failed.
 fn goes_on(board: &mut Tested, fault: PortFault) -> bool {
     // 5 turns for each get and put, 1 for the OR, 3 for the exit
     let told = Ok(outcome(Ending::Exit(0x48), 19, 0));
-    board.run(100) == Err(fault)
+    run(board) == Err(fault)
         && board.port().failures() == 1
         && ends(board, &told, 0)
         && kept(board, b"\xFFH")
 }
 
+/// Whether a run whose port fails at this call does.
+fn goes_on_after(alloc: Global, fails: u64, fault: PortFault) -> Result<bool, Fail> {
+    let mut failing = board(alloc, fails)?;
+    load(&mut failing, alloc, &GETS_AND_PUTS)?;
+    Ok(goes_on(&mut failing, fault))
+}
+
 /// The port fails at its first, second or third call. The run goes on with that call, and ends as if the port had not failed.
 #[test]
 fn a_run_goes_on_after_each_failed_call(rt: HostRuntime) -> Result<(), Fail> {
-    let alloc = rt.alloc();
-    // mov 72,%o0 between the puts
-    let words = [GET, PUT, 0x9010_2048, PUT, EXIT];
     for (fails, fault) in [
         (1, PortFault::Reader),
         (2, PortFault::Writer),
         (3, PortFault::Writer),
     ] {
-        let mut failing = board(alloc, fails)?;
-        load(&mut failing, alloc, &words)?;
-        assert!(rt; goes_on(&mut failing, fault), "{fails}");
+        assert!(rt; goes_on_after(rt.alloc(), fails, fault)?, "{fails}");
     }
     Ok(())
 }
 
-/// A board with `abc` as its input, loaded with the loop, whose port fails so at its second put, and then never again.
-fn refusing(alloc: Global, fault: PortFault) -> Result<Tested, Fail> {
-    let port = Probe {
-        left: b"abc",
-        kept: Vec::new(alloc),
-        calls: 0,
-        fails: 4,
-        at_put: fault,
-        failures: 0,
-        last: PortFault::Reader,
-    };
-    let mut board = Board::new(alloc, port)?;
-    load(&mut board, alloc, &ECHO)?;
-    Ok(board)
+/// Whether the loop's run ends with this fault at its second put, and the next one as if there had been none.
+fn echoes_after(board: &mut Tested, fault: PortFault) -> bool {
+    let told = Ok(outcome(Ending::Exit(0), 62, 0));
+    run(board) == Err(fault)
+        && kept(board, b"a")
+        && ends(board, &told, 0)
+        && kept(board, b"abc")
+        && board.port().failures() == 1
 }
 
 /// A port that has no memory for a byte is asked for it again, and the run then ends as if there had been memory: each turn is counted
@@ -172,10 +171,10 @@ fn refusing(alloc: Global, fault: PortFault) -> Result<Tested, Fail> {
 #[test]
 fn a_run_goes_on_after_want_of_memory(rt: HostRuntime) -> Result<(), Fail> {
     let fault = PortFault::Memory(Want::from(AllocError));
-    let mut board = refusing(rt.alloc(), fault)?;
-    assert!(rt; board.run(100) == Err(fault) && kept(&board, b"a"));
-    assert!(rt; ends(&mut board, &Ok(outcome(Ending::Exit(0), 62, 0)), 0));
-    assert!(rt; kept(&board, b"abc") && board.port().failures() == 1);
+    let alloc = rt.alloc();
+    let mut board = board_over(alloc, Probe::new(alloc, b"abc", 4, fault))?;
+    load(&mut board, alloc, &ECHO)?;
+    assert!(rt; echoes_after(&mut board, fault));
     Ok(())
 }
 
@@ -195,25 +194,32 @@ fn keeps_what_was_loaded(loaded: &Tested, ran: &mut Tested) -> bool {
         && have(loaded, ran, 0x2CFC, (0x9F06, 0x9F66))
 }
 
+// of the three SAVEs the last overflows; then the greeting's words
+const OVERFLOWS: [u32; 9] = [
+    SAVE,
+    SAVE,
+    SAVE,
+    0x9010_2048,
+    PUT,
+    0x9010_2069,
+    PUT,
+    0x9010_2000,
+    EXIT,
+];
+
+/// Whether these words' run keeps what was loaded.
+fn is_kept(alloc: Global, words: &[u32]) -> Result<bool, Fail> {
+    let image = raw_image(alloc, words)?;
+    let mut loaded = board(alloc, 0)?;
+    let mut ran = board(alloc, 0)?;
+    load_both(&mut loaded, &mut ran, &image);
+    Ok(keeps_what_was_loaded(&loaded, &mut ran))
+}
+
 /// A run leaves the trap table, the handlers, the tables, the code and the data as they were loaded, but for R and M.
 #[test]
 fn a_run_changes_nothing_below_the_stack(rt: HostRuntime) -> Result<(), Fail> {
-    let alloc = rt.alloc();
-    // of the three SAVEs the last overflows; then the greeting's words
-    let words = [
-        SAVE,
-        SAVE,
-        SAVE,
-        0x9010_2048,
-        PUT,
-        0x9010_2069,
-        PUT,
-        0x9010_2000,
-        EXIT,
-    ];
-    let loaded = loaded_with(alloc, &words)?;
-    let mut ran = loaded_with(alloc, &words)?;
-    assert!(rt; keeps_what_was_loaded(&loaded, &mut ran));
+    assert!(rt; is_kept(rt.alloc(), &OVERFLOWS)?);
     Ok(())
 }
 
@@ -232,8 +238,10 @@ fn is_refused_its_spill(loaded: &Tested, ran: &mut Tested, status: u32) -> bool 
 
 /// Whether these words' run is.
 fn are_refused_their_spill(alloc: Global, words: &[u32], status: u32) -> Result<bool, Fail> {
-    let loaded = loaded_with(alloc, words)?;
-    let mut ran = loaded_with(alloc, words)?;
+    let image = raw_image(alloc, words)?;
+    let mut loaded = board(alloc, 0)?;
+    let mut ran = board(alloc, 0)?;
+    load_both(&mut loaded, &mut ran, &image);
     Ok(is_refused_its_spill(&loaded, &mut ran, status))
 }
 
@@ -266,7 +274,7 @@ fn exits_over_data(
     turns: u64,
     modified: [u64; 3],
 ) -> Result<bool, Fail> {
-    board.load(&data_image(alloc, words)?);
+    load_image(board, &data_image(alloc, words)?);
     Ok(exits_after(board, turns) && used(board, [1, 1, 0], modified))
 }
 
@@ -277,14 +285,20 @@ fn finds_no_data(board: &mut Tested, alloc: Global) -> Result<bool, Fail> {
     Ok(ends(board, &refused, 0x306) && used_code_alone(board))
 }
 
+/// Whether the images run so one after another.
+fn runs_each(board: &mut Tested, alloc: Global) -> Result<bool, Fail> {
+    Ok(
+        exits_over_data(board, alloc, &STORES_AFTER_A_LOAD, 7, [0, 1, 0])?
+            && finds_no_data(board, alloc)?
+            && exits_over_data(board, alloc, &LOADS, 6, [0, 0, 0])?,
+    )
+}
+
 /// A board that has run an image with a page of data is loaded with one without, whose load finds no page there, and with the first
 /// again, whose pages have no marks but its own.
 #[test]
 fn another_image_runs_on_its_own_pages(rt: HostRuntime) -> Result<(), Fail> {
-    let alloc = rt.alloc();
-    let mut board = board(alloc, 0)?;
-    assert!(rt; exits_over_data(&mut board, alloc, &STORES_AFTER_A_LOAD, 7, [0, 1, 0])?);
-    assert!(rt; finds_no_data(&mut board, alloc)?);
-    assert!(rt; exits_over_data(&mut board, alloc, &LOADS, 6, [0, 0, 0])?);
+    let mut board = board(rt.alloc(), 0)?;
+    assert!(rt; runs_each(&mut board, rt.alloc())?);
     Ok(())
 }

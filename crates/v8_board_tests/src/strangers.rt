@@ -1,7 +1,7 @@
 //! Code that nobody wrote: words by chance, whose runs stay contained.
 ghost use Rattle.std.specs.Prelude.{ℕ, ◌<◌, ◌≤◌};
 
-use crate::boards::{Tested, are_loaded_alike, board};
+use crate::boards::{Tested, are_loaded_alike, board, load_both, step};
 use crate::images::regions_image;
 use std::alloc::Global;
 use std::test::Fail;
@@ -131,7 +131,7 @@ fn are_allowed(board: &mut Tested, turns: u32) -> bool {
         if board.ending().is_some() {
             return true;
         }
-        match board.step() {
+        match step(board) {
             Ok(turn) if is_allowed(&turn) => {}
             _ => return false,
         }
@@ -146,9 +146,7 @@ fn is_contained(
     alloc: Global,
     words: &[u32],
 ) -> Result<bool, Fail> {
-    let image = regions_image(alloc, words)?;
-    watched.load(&image);
-    fresh.load(&image);
+    load_both(watched, fresh, &regions_image(alloc, words)?);
     Ok(are_allowed(watched, 500) && are_loaded_alike(watched, fresh))
 }
 

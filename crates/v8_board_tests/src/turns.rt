@@ -1,5 +1,5 @@
 //! Turns of a board, one by one.
-use crate::boards::{Tested, board, ends, kept, load, loaded_with, outcome, registers};
+use crate::boards::{Tested, board, ends, kept, load, outcome, registers, run, step};
 use crate::images::{GREETING, NOP, SAVE};
 use std::alloc::Global;
 use std::test::Fail;
@@ -10,7 +10,7 @@ use v8_word::TrapType;
 
 /// Whether the next turn is this, and leaves this fault status.
 fn steps(board: &mut Tested, event: &Event, status: u32) -> bool {
-    match board.step() {
+    match step(board) {
         Ok(turn) => turn.event == *event && board.fault_status() == status,
         Err(_fault) => false,
     }
@@ -19,7 +19,7 @@ fn steps(board: &mut Tested, event: &Event, status: u32) -> bool {
 /// Whether so many turns run.
 fn runs(board: &mut Tested, turns: u32) -> bool {
     for _ in 0..turns {
-        match board.step() {
+        match step(board) {
             Ok(turn) if turn.event == Event::Ran => {}
             _ => return false,
         }
@@ -29,7 +29,7 @@ fn runs(board: &mut Tested, turns: u32) -> bool {
 
 /// Whether a run tells so many turns in all.
 fn has_made(board: &mut Tested, turns: u64) -> bool {
-    match board.run(100) {
+    match run(board) {
         Ok(told) => told.turns == turns,
         Err(_fault) => false,
     }
@@ -63,7 +63,7 @@ fn is_made_again(board: &mut Tested, alloc: Global) -> Result<bool, Fail> {
     load(board, alloc, &GREETING)?;
     let told = Ok(outcome(Ending::Exit(0), 16, 0));
     Ok(
-        board.run(100) == Err(PortFault::Writer)
+        run(board) == Err(PortFault::Writer)
             && (board.psr(), board.wim()) == (0x83, 2)
             && board.entry(0x1_0000) == Some(0x9010_2048)
             && ends(board, &told, 0),
@@ -83,7 +83,7 @@ fn refuses(board: &mut Tested, before: u32, status: u32) -> bool {
     if !runs(board, before) {
         return false;
     }
-    match board.step() {
+    match step(board) {
         Ok(turn) => {
             let told = (turn.event, turn.access);
             told == (Event::Trapped(TrapType::new(0x09)), None) && board.fault_status() == status
@@ -117,7 +117,7 @@ fn refused_accesses_trap_in_their_turn(rt: HostRuntime) -> Result<(), Fail> {
 
 /// Whether the next turn is an annulled slot, which fetches and moves nothing.
 fn annuls(board: &mut Tested) -> bool {
-    match board.step() {
+    match step(board) {
         Ok(slot) => (slot.event, slot.word, slot.access) == (Event::Annulled, None, None),
         Err(_fault) => false,
     }
@@ -135,7 +135,7 @@ fn annuls_without_effect(board: &mut Tested) -> bool {
 
 /// Whether the next turn runs this word.
 fn runs_word(board: &mut Tested, word: u32) -> bool {
-    match board.step() {
+    match step(board) {
         Ok(turn) => (turn.event, turn.word) == (Event::Ran, Some(word)),
         Err(_fault) => false,
     }
@@ -187,7 +187,7 @@ fn state_of(board: &Tested) -> Shown {
 fn fails_without_effect(board: &mut Tested) -> bool {
     let before = state_of(board);
     board.port_mut().fails = 1;
-    board.step() == Err(PortFault::Writer)
+    step(board) == Err(PortFault::Writer)
         && state_of(board) == before
         && before.device_entry == Some(0x1000_001E)
         && kept(board, b"")
@@ -201,7 +201,7 @@ fn stores_in_the_device(board: &mut Tested) -> bool {
         size: Size::Word,
         store: true,
     };
-    match board.step() {
+    match step(board) {
         Ok(turn) => {
             (turn.event, turn.pc) == (Event::Ran, 0xF000_0824)
                 && turn.access == Some(moved)
@@ -214,7 +214,7 @@ fn stores_in_the_device(board: &mut Tested) -> bool {
 /// Whether so many turns are made.
 fn makes(board: &mut Tested, turns: u32) -> bool {
     for _ in 0..turns {
-        if board.step().is_err() {
+        if step(board).is_err() {
             return false;
         }
     }
@@ -222,18 +222,21 @@ fn makes(board: &mut Tested, turns: u32) -> bool {
 }
 
 /// Whether a store to the device fails once without effect, and then completes.
-fn stores_after_a_failure(board: &mut Tested) -> bool {
-    makes(board, 3)
-        && fails_without_effect(board)
-        && stores_in_the_device(board)
-        && kept(board, b"H")
-        && board.ending().is_none()
+fn stores_after_a_failure(board: &mut Tested, alloc: Global) -> Result<bool, Fail> {
+    load(board, alloc, &GREETING)?;
+    Ok(
+        makes(board, 3)
+            && fails_without_effect(board)
+            && stores_in_the_device(board)
+            && kept(board, b"H")
+            && board.ending().is_none(),
+    )
 }
 
 /// A store to the device whose port fails leaves everything as it was; the same store completes once the port works.
 #[test]
 fn failed_store_is_done_again(rt: HostRuntime) -> Result<(), Fail> {
-    let mut failing = loaded_with(rt.alloc(), &GREETING)?;
-    assert!(rt; stores_after_a_failure(&mut failing));
+    let mut failing = board(rt.alloc(), 0)?;
+    assert!(rt; stores_after_a_failure(&mut failing, rt.alloc())?);
     Ok(())
 }

@@ -1,4 +1,5 @@
 //! Worked examples of the manual's rules, and the words of GNU as (binutils 2.40) for the statements in the comments.
+use std::process::Abort;
 use v8_alu::{Division, Op, TaggedOp};
 use v8_formats::{Branch, decode};
 use v8_meaning::{
@@ -8,93 +9,136 @@ use v8_meaning::{
 };
 use v8_word::{Cond, Icc, Reg, Size};
 
+/// Whether addresses are sums that wrap, and targets are so many words on or back.
+fn are_places() -> bool {
+    address(0xffff_fff8, 16) == 8
+        && target(0x0004_0010, 0xffff_fffc) == 0x0004_0000
+        && target(0x0004_0000, 2) == 0x0004_0008
+        && following(0xffff_fffc) == 0
+}
+
 #[test]
 fn addresses_and_targets(rt: HostRuntime) {
-    assert!(rt; address(0xffff_fff8, 16) == 8);
-    assert!(rt; target(0x0004_0010, 0xffff_fffc) == 0x0004_0000);
-    assert!(rt; target(0x0004_0000, 2) == 0x0004_0008);
-    assert!(rt; following(0xffff_fffc) == 0);
-    assert!(rt; software_trap(0x100, 5).number() == 0x85);
-    assert!(rt; software_trap(0xffff_ffff, 0).number() == 0xff);
+    assert!(rt; are_places());
+    let (fifth, last) = (software_trap(0x100, 5), software_trap(0xffff_ffff, 0));
+    assert!(rt; (fifth.number(), last.number()) == (0x85, 0xff));
+}
+
+/// A condition, whether its branch has the annul bit, whether it is taken where Z is set, and whether it then annuls its slot.
+type Slot = (Cond, bool, bool, bool);
+
+const SLOTS: [Slot; 7] = [
+    (Cond::Always, true, true, true),
+    (Cond::Always, false, true, false),
+    (Cond::Never, true, false, true),
+    (Cond::Never, false, false, false),
+    (Cond::Equal, true, true, false),
+    (Cond::NotEqual, true, false, true),
+    (Cond::NotEqual, false, false, false),
+];
+
+/// Whether a branch is taken where Z is set, and annuls its slot there, as the row says.
+fn is_slot(slot: &Slot) -> bool {
+    let (cond, annul, taken, annuls_slot) = *slot;
+    let zero = Icc {
+        n: false,
+        z: true,
+        v: false,
+        c: false,
+    };
+    let branch = Branch {
+        annul,
+        cond,
+        displacement: 2,
+    };
+    is_taken(&branch, zero) == taken && annuls(&branch, zero) == annuls_slot
 }
 
 #[test]
 fn delay_slots(rt: HostRuntime) {
-    let zero = Icc {
-        z: true,
-        ..Icc::default()
-    };
-    // Whether the branch is taken where Z is set, and whether it then annuls its slot.
-    for (cond, annul, taken, annuls_slot) in [
-        (Cond::Always, true, true, true),
-        (Cond::Always, false, true, false),
-        (Cond::Never, true, false, true),
-        (Cond::Never, false, false, false),
-        (Cond::Equal, true, true, false),
-        (Cond::NotEqual, true, false, true),
-        (Cond::NotEqual, false, false, false),
-    ] {
-        let branch = Branch {
-            annul,
-            cond,
-            displacement: 2,
-        };
-        assert!(rt; is_taken(&branch, zero) == taken, "{cond:?} {annul}");
-        assert!(rt; annuls(&branch, zero) == annuls_slot, "{cond:?} {annul}");
+    for slot in &SLOTS {
+        assert!(rt; is_slot(slot), "{:?} {}", slot.0, slot.1);
     }
     assert!(rt; is_always(Cond::Always) && is_never(Cond::Never));
 }
 
+/// Whether loads widen what they read, with its sign or without.
+fn are_widened() -> bool {
+    Loading::SignedByte.word(0x80) == 0xffff_ff80
+        && Loading::UnsignedByte.word(0x80) == 0x80
+        && Loading::SignedHalf.word(0x7fff) == 0x7fff
+}
+
+/// Whether transfers move as many bytes as their names say.
+fn are_sized() -> bool {
+    Loading::SignedHalf.size() == Size::Half
+        && Transfer::Exchange(Exchange::Ones).size() == Size::Byte
+        && bytes_in(Size::Double) == 8
+}
+
+/// Whether a double word takes a pair of registers, the second of them odd.
+fn are_paired() -> bool {
+    odd_of(Reg::FP) == Reg::I7
+        && splits_pair(Size::Double, Reg::I7)
+        && !splits_pair(Size::Word, Reg::I7)
+}
+
 #[test]
 fn moved_bytes(rt: HostRuntime) {
-    assert!(rt; Loading::SignedByte.word(0x80) == 0xffff_ff80);
-    assert!(rt; Loading::UnsignedByte.word(0x80) == 0x80);
-    assert!(rt; Loading::SignedHalf.word(0x7fff) == 0x7fff);
-    assert!(rt; Loading::SignedHalf.size() == Size::Half);
-    assert!(rt; Transfer::Exchange(Exchange::Ones).size() == Size::Byte);
-    assert!(rt; bytes_in(Size::Double) == 8);
-    assert!(rt; odd_of(Reg::FP) == Reg::I7);
-    assert!(rt; Transfer::Store(Size::Word).writes_memory());
-    assert!(rt; splits_pair(Size::Double, Reg::I7) && !splits_pair(Size::Word, Reg::I7));
+    assert!(rt; are_widened());
+    assert!(rt; are_sized() && Transfer::Store(Size::Word).writes_memory());
+    assert!(rt; are_paired());
+}
+
+const ADMITTED: [u32; 11] = [
+    0x9c03_c01f, // add %o7,%i7,%sp
+    0x81c7_e008, // ret
+    0x81c3_e008, // retl
+    0x91d0_2000, // ta 0
+    0x91d0_207f, // ta 127
+    0x30bf_fff7, // ba,a .-36
+    0xf81a_6001, // ldd [%o1+1],%i4
+    0xdc7f_c00e, // swap [%i7+%sp],%sp
+    0x9de3_bfa0, // save %sp,-96,%sp
+    0x9f24_0000, // mulscc %l0,%g0,%o7
+    0x9140_0000, // mov %y,%o0
+];
+
+const REFUSED: [u32; 16] = [
+    0x20bf_ffff, // bn,a .-4
+    0x93d0_2048, // tne 72
+    0x91d0_0001, // ta %g1
+    0x93d0_6005, // tne %g1+5
+    0x81c2_3ffc, // jmpl %o0-4,%g0
+    0x9fc2_0000, // call %o0
+    0xc218_2001, // ldd [1],%g1
+    0xfe8b_dfff, // lduba [%o7+%i7] 255,%i7
+    0x8143_c000, // stbar
+    0x81da_0000, // flush %o0
+    0x81cc_a004, // rett %l2+4
+    0xa148_0000, // rd %psr,%l0
+    0x818c_0011, // wr %l0,%l1,%psr
+    0x0000_0000, // unimp 0
+    0x81a0_0000, // a floating-point operation
+    0xc180_0000, // a coprocessor load
+];
+
+/// Whether a word may stand in an image.
+fn is_word_admitted(word: u32) -> bool {
+    is_admitted(&operation_of(&decode(word)))
+}
+
+/// Asserts that each of these words may stand in an image, or that none may.
+fn are_admitted(rt: &impl Abort, words: &[u32], wanted: bool) {
+    for word in words {
+        assert!(rt; is_word_admitted(*word) == wanted, "{word:x}");
+    }
 }
 
 #[test]
 fn admitted_words(rt: HostRuntime) {
-    for word in [
-        0x9c03_c01fu32, // add %o7,%i7,%sp
-        0x81c7_e008, // ret
-        0x81c3_e008, // retl
-        0x91d0_2000, // ta 0
-        0x91d0_207f, // ta 127
-        0x30bf_fff7, // ba,a .-36
-        0xf81a_6001, // ldd [%o1+1],%i4
-        0xdc7f_c00e, // swap [%i7+%sp],%sp
-        0x9de3_bfa0, // save %sp,-96,%sp
-        0x9f24_0000, // mulscc %l0,%g0,%o7
-        0x9140_0000, // mov %y,%o0
-    ] {
-        assert!(rt; is_admitted(&operation_of(&decode(word))), "{word:x}");
-    }
-    for word in [
-        0x20bf_ffffu32, // bn,a .-4
-        0x93d0_2048, // tne 72
-        0x91d0_0001, // ta %g1
-        0x93d0_6005, // tne %g1+5
-        0x81c2_3ffc, // jmpl %o0-4,%g0
-        0x9fc2_0000, // call %o0
-        0xc218_2001, // ldd [1],%g1
-        0xfe8b_dfff, // lduba [%o7+%i7] 255,%i7
-        0x8143_c000, // stbar
-        0x81da_0000, // flush %o0
-        0x81cc_a004, // rett %l2+4
-        0xa148_0000, // rd %psr,%l0
-        0x818c_0011, // wr %l0,%l1,%psr
-        0x0000_0000, // unimp 0
-        0x81a0_0000, // a floating-point operation
-        0xc180_0000, // a coprocessor load
-    ] {
-        assert!(rt; !is_admitted(&operation_of(&decode(word))), "{word:x}");
-    }
+    are_admitted(&rt, &ADMITTED, true);
+    are_admitted(&rt, &REFUSED, false);
 }
 
 #[test]
@@ -203,151 +247,173 @@ fn identifier(operation: &Operation) -> Option<u8> {
     }
 }
 
+/// Words with the names of what they ask for.
+type Asked = (u32, &'static str);
+
 fn is_asked(word: u32, asked: &str) -> bool {
     name(&operation_of(&decode(word))) == asked
 }
 
-#[test]
-fn asks_for_results(rt: HostRuntime) {
-    for (word, asked) in [
-        (0x9c03_c01fu32, "add"), // add %o7,%i7,%sp
-        (0x9e44_0000, "addx"), // addx %l0,%g0,%o7
-        (0xa024_c001, "sub"), // sub %l3,%g1,%l0
-        (0xa665_c007, "subx"), // subx %l7,%g7,%l3
-        (0xae0e_0008, "and"), // and %i0,%o0,%l7
-        (0xb02f_0009, "andn"), // andn %i4,%o1,%i0
-        (0xb817_800d, "or"), // or %fp,%o5,%i4
-        (0xbc37_c00e, "orn"), // orn %i7,%sp,%fp
-        (0xbe18_000f, "xor"), // xor %g0,%o7,%i7
-        (0x8038_4010, "xnor"), // xnor %g1,%l0,%g0
-        (0x8251_c013, "umul"), // umul %g7,%l3,%g1
-        (0x8e5a_0017, "smul"), // smul %o0,%l7,%g7
-        (0x8329_c013, "sll"), // sll %g7,%l3,%g1
-        (0x9337_2000, "srl"), // srl %i4,0,%o1
-        (0xa73d_c007, "sra"), // sra %l7,%g7,%l3
-        (0x9072_4018, "udiv"), // udiv %o1,%i0,%o0
-        (0x927b_401c, "sdiv"), // sdiv %o5,%i4,%o1
-        (0xbe80_000f, "addcc"), // addcc %g0,%o7,%i7
-        (0x80c0_4010, "addxcc"), // addxcc %g1,%l0,%g0
-        (0x82a1_c013, "subcc"), // subcc %g7,%l3,%g1
-        (0x8ee2_0017, "subxcc"), // subxcc %o0,%l7,%g7
-        (0x908a_4018, "andcc"), // andcc %o1,%i0,%o0
-        (0x92ab_401c, "andncc"), // andncc %o5,%i4,%o1
-        (0x9a93_801e, "orcc"), // orcc %sp,%fp,%o5
-        (0x9cb3_c01f, "orncc"), // orncc %o7,%i7,%sp
-        (0x9e9c_0000, "xorcc"), // xorcc %l0,%g0,%o7
-        (0xa0bc_c001, "xnorcc"), // xnorcc %l3,%g1,%l0
-        (0xa6d5_c007, "umulcc"), // umulcc %l7,%g7,%l3
-        (0xaede_0008, "smulcc"), // smulcc %i0,%o0,%l7
-        (0x9b03_801e, "taddcc"), // taddcc %sp,%fp,%o5
-        (0xbd0f_c00e, "tsubcc"), // tsubcc %i7,%sp,%fp
-        (0x9f24_0000, "mulscc"), // mulscc %l0,%g0,%o7
-        (0xb0f7_0009, "udivcc"), // udivcc %i4,%o1,%i0
-        (0xb8ff_800d, "sdivcc"), // sdivcc %fp,%o5,%i4
-        (0x9d13_c01f, "taddcctv"), // taddcctv %o7,%i7,%sp
-        (0xbf18_000f, "tsubcctv"), // tsubcctv %g0,%o7,%i7
-    ] {
+/// Asserts that each word asks for what stands beside it.
+fn are_asked(rt: &impl Abort, rows: &[Asked]) {
+    for &(word, asked) in rows {
         assert!(rt; is_asked(word, asked), "{word:x}");
     }
 }
 
+const RESULTS: [Asked; 36] = [
+    (0x9c03_c01f, "add"), // add %o7,%i7,%sp
+    (0x9e44_0000, "addx"), // addx %l0,%g0,%o7
+    (0xa024_c001, "sub"), // sub %l3,%g1,%l0
+    (0xa665_c007, "subx"), // subx %l7,%g7,%l3
+    (0xae0e_0008, "and"), // and %i0,%o0,%l7
+    (0xb02f_0009, "andn"), // andn %i4,%o1,%i0
+    (0xb817_800d, "or"), // or %fp,%o5,%i4
+    (0xbc37_c00e, "orn"), // orn %i7,%sp,%fp
+    (0xbe18_000f, "xor"), // xor %g0,%o7,%i7
+    (0x8038_4010, "xnor"), // xnor %g1,%l0,%g0
+    (0x8251_c013, "umul"), // umul %g7,%l3,%g1
+    (0x8e5a_0017, "smul"), // smul %o0,%l7,%g7
+    (0x8329_c013, "sll"), // sll %g7,%l3,%g1
+    (0x9337_2000, "srl"), // srl %i4,0,%o1
+    (0xa73d_c007, "sra"), // sra %l7,%g7,%l3
+    (0x9072_4018, "udiv"), // udiv %o1,%i0,%o0
+    (0x927b_401c, "sdiv"), // sdiv %o5,%i4,%o1
+    (0xbe80_000f, "addcc"), // addcc %g0,%o7,%i7
+    (0x80c0_4010, "addxcc"), // addxcc %g1,%l0,%g0
+    (0x82a1_c013, "subcc"), // subcc %g7,%l3,%g1
+    (0x8ee2_0017, "subxcc"), // subxcc %o0,%l7,%g7
+    (0x908a_4018, "andcc"), // andcc %o1,%i0,%o0
+    (0x92ab_401c, "andncc"), // andncc %o5,%i4,%o1
+    (0x9a93_801e, "orcc"), // orcc %sp,%fp,%o5
+    (0x9cb3_c01f, "orncc"), // orncc %o7,%i7,%sp
+    (0x9e9c_0000, "xorcc"), // xorcc %l0,%g0,%o7
+    (0xa0bc_c001, "xnorcc"), // xnorcc %l3,%g1,%l0
+    (0xa6d5_c007, "umulcc"), // umulcc %l7,%g7,%l3
+    (0xaede_0008, "smulcc"), // smulcc %i0,%o0,%l7
+    (0x9b03_801e, "taddcc"), // taddcc %sp,%fp,%o5
+    (0xbd0f_c00e, "tsubcc"), // tsubcc %i7,%sp,%fp
+    (0x9f24_0000, "mulscc"), // mulscc %l0,%g0,%o7
+    (0xb0f7_0009, "udivcc"), // udivcc %i4,%o1,%i0
+    (0xb8ff_800d, "sdivcc"), // sdivcc %fp,%o5,%i4
+    (0x9d13_c01f, "taddcctv"), // taddcctv %o7,%i7,%sp
+    (0xbf18_000f, "tsubcctv"), // tsubcctv %g0,%o7,%i7
+];
+
+#[test]
+fn asks_for_results(rt: HostRuntime) {
+    are_asked(&rt, &RESULTS);
+}
+
+const STATES_AND_TRANSFERS: [Asked; 18] = [
+    (0x9140_0000, "rd %y"), // rd %y,%o0
+    (0xa148_0000, "rd %psr"), // rd %psr,%l0
+    (0xa150_0000, "rd %wim"), // rd %wim,%l0
+    (0x8f58_0000, "rd %tbr"), // rd %tbr,%g7
+    (0x8182_0009, "wr %y"), // wr %o0,%o1,%y
+    (0x818c_0011, "wr %psr"), // wr %l0,%l1,%psr
+    (0x819d_e000, "wr %tbr"), // wr %l7,0,%tbr
+    (0x2f3f_ffff, "sethi"), // sethi 4194303,%l7
+    (0x9de3_bfa0, "save"), // save %sp,-96,%sp
+    (0xa1ec_c001, "restore"), // restore %l3,%g1,%l0
+    (0x4000_0002, "call"), // call .+8
+    (0x1280_0002, "branch"), // bne .+8
+    (0x9fc2_0000, "jmpl"), // jmpl %o0,%o7
+    (0x81cc_a004, "rett"), // rett %l2+4
+    (0x91d0_207f, "trap"), // ta 127
+    (0x8143_c000, "nothing"), // stbar
+    (0x81da_0000, "nothing"), // flush %o0
+    (0x0000_0000, "illegal"), // unimp 0
+];
+
 #[test]
 fn asks_for_states_and_transfers(rt: HostRuntime) {
-    for (word, asked) in [
-        (0x9140_0000u32, "rd %y"), // rd %y,%o0
-        (0xa148_0000, "rd %psr"), // rd %psr,%l0
-        (0xa150_0000, "rd %wim"), // rd %wim,%l0
-        (0x8f58_0000, "rd %tbr"), // rd %tbr,%g7
-        (0x8182_0009, "wr %y"), // wr %o0,%o1,%y
-        (0x818c_0011, "wr %psr"), // wr %l0,%l1,%psr
-        (0x819d_e000, "wr %tbr"), // wr %l7,0,%tbr
-        (0x2f3f_ffff, "sethi"), // sethi 4194303,%l7
-        (0x9de3_bfa0, "save"), // save %sp,-96,%sp
-        (0xa1ec_c001, "restore"), // restore %l3,%g1,%l0
-        (0x4000_0002, "call"), // call .+8
-        (0x1280_0002, "branch"), // bne .+8
-        (0x9fc2_0000, "jmpl"), // jmpl %o0,%o7
-        (0x81cc_a004, "rett"), // rett %l2+4
-        (0x91d0_207f, "trap"), // ta 127
-        (0x8143_c000, "nothing"), // stbar
-        (0x81da_0000, "nothing"), // flush %o0
-        (0x0000_0000, "illegal"), // unimp 0
-    ] {
-        assert!(rt; is_asked(word, asked), "{word:x}");
-    }
+    are_asked(&rt, &STATES_AND_TRANSFERS);
     assert!(rt; matches!(operation_of(&decode(0x4000_0002)), Operation::Call(2)));
 }
 
 /// Of these GNU as gives no word here: words of the manual's opcodes (appendix F).
+const BESIDE: [Asked; 13] = [
+    (0x8192_0000, "wr %wim"), // wr %o0,%g0,%wim
+    (0x81a0_0000, "floating point"), // FPop1
+    (0x81a8_0000, "floating point"), // FPop2
+    (0x0180_0000, "floating point"), // FBfcc
+    (0xc100_0000, "floating point"), // a load
+    (0xc138_0000, "floating point"), // a store
+    (0x81b0_0000, "coprocessor"), // CPop1
+    (0x81b8_0000, "coprocessor"), // CPop2
+    (0x01c0_0000, "coprocessor"), // CBccc
+    (0xc180_0000, "coprocessor"), // a load
+    (0xc1b8_0000, "coprocessor"), // a store
+    (0x8048_0000, "illegal"), // no row
+    (0x8144_4000, "illegal"), // rd of an ancillary register
+];
+
 #[test]
 fn asks_for_what_appendix_f_has_beside(rt: HostRuntime) {
-    for (word, asked) in [
-        (0x8192_0000u32, "wr %wim"), // wr %o0,%g0,%wim
-        (0x81a0_0000, "floating point"), // FPop1
-        (0x81a8_0000, "floating point"), // FPop2
-        (0x0180_0000, "floating point"), // FBfcc
-        (0xc100_0000, "floating point"), // a load
-        (0xc138_0000, "floating point"), // a store
-        (0x81b0_0000, "coprocessor"), // CPop1
-        (0x81b8_0000, "coprocessor"), // CPop2
-        (0x01c0_0000, "coprocessor"), // CBccc
-        (0xc180_0000, "coprocessor"), // a load
-        (0xc1b8_0000, "coprocessor"), // a store
-        (0x8048_0000, "illegal"), // no row
-        (0x8144_4000, "illegal"), // rd of an ancillary register
-    ] {
-        assert!(rt; is_asked(word, asked), "{word:x}");
+    are_asked(&rt, &BESIDE);
+}
+
+const DATA: [Asked; 12] = [
+    (0xd207_0009, "ld"), // ld [%i4+%o1],%o1
+    (0xc20a_3801, "ldub"), // ldub [%o0-2047],%g1
+    (0xee11_e400, "lduh"), // lduh [%g7+1024],%l7
+    (0xde48_2000, "ldsb"), // ldsb [0],%o7
+    (0xc252_3ffb, "ldsh"), // ldsh [%o0-5],%g1
+    (0xfc1f_c000, "ldd"), // ldd [%i7],%fp
+    (0xc224_0000, "st"), // st %g1,[%l0]
+    (0xfc2e_2001, "stb"), // stb %fp,[%i0+1]
+    (0xde33_801e, "sth"), // sth %o7,[%sp+%fp]
+    (0xdc3f_fffc, "std"), // std %sp,[%i7-4]
+    (0xe668_2400, "ldstub"), // ldstub [1024],%l3
+    (0xdc7f_c00e, "swap"), // swap [%i7+%sp],%sp
+];
+
+/// Asserts that each of these words may stand in an image.
+fn are_data_admitted(rt: &impl Abort) {
+    for (word, _asked) in &DATA {
+        assert!(rt; is_word_admitted(*word), "{word:x}");
     }
 }
 
 #[test]
 fn asks_for_data(rt: HostRuntime) {
-    for (word, asked) in [
-        (0xd207_0009u32, "ld"), // ld [%i4+%o1],%o1
-        (0xc20a_3801, "ldub"), // ldub [%o0-2047],%g1
-        (0xee11_e400, "lduh"), // lduh [%g7+1024],%l7
-        (0xde48_2000, "ldsb"), // ldsb [0],%o7
-        (0xc252_3ffb, "ldsh"), // ldsh [%o0-5],%g1
-        (0xfc1f_c000, "ldd"), // ldd [%i7],%fp
-        (0xc224_0000, "st"), // st %g1,[%l0]
-        (0xfc2e_2001, "stb"), // stb %fp,[%i0+1]
-        (0xde33_801e, "sth"), // sth %o7,[%sp+%fp]
-        (0xdc3f_fffc, "std"), // std %sp,[%i7-4]
-        (0xe668_2400, "ldstub"), // ldstub [1024],%l3
-        (0xdc7f_c00e, "swap"), // swap [%i7+%sp],%sp
-    ] {
-        let operation = operation_of(&decode(word));
-        assert!(rt;
-            name(&operation) == asked && is_admitted(&operation),
-            "{word:x}"
-        );
-    }
+    are_asked(&rt, &DATA);
+    are_data_admitted(&rt);
 }
 
 /// Below the first six GNU as gives no word here: words of the manual's opcodes (appendix F).
+const ALTERNATES: [(u32, &str, u8); 12] = [
+    (0xfe8b_dfff, "ldub", 255), // lduba [%o7+%i7] 255,%i7
+    (0xf0ca_4418, "ldsb", 32), // ldsba [%o1+%i0] 32,%i0
+    (0xe098_4130, "ldd", 9), // ldda [%g1+%l0] 9,%l0
+    (0xdaff_816d, "swap", 11), // swapa [%fp+%o5] 11,%o5
+    (0xd0a9_c133, "stb", 9), // stba %o0,[%g7+%l3] 9
+    (0xc0bf_c16e, "std", 11), // stda %g0,[%i7+%sp] 11
+    (0xd282_0140, "ld", 10), // lda [%o0] 10,%o1
+    (0xd292_0140, "lduh", 10), // lduha [%o0] 10,%o1
+    (0xd2d2_0140, "ldsh", 10), // ldsha [%o0] 10,%o1
+    (0xd2a2_0140, "st", 10), // sta %o1,[%o0] 10
+    (0xd2b2_0140, "sth", 10), // stha %o1,[%o0] 10
+    (0xd2ea_0140, "ldstub", 10), // ldstuba [%o0] 10,%o1
+];
+
+/// Whether a word asks for this, in the alternate space of this identifier.
+fn is_asked_in(word: u32, asked: &str, asi: u8) -> bool {
+    let operation = operation_of(&decode(word));
+    identifier(&operation) == Some(asi) && name(&operation) == asked
+}
+
+/// Whether `lda` with an immediate, 8, is a load that names no space, and may not stand in an image.
+fn is_missing_its_space() -> bool {
+    let missing = operation_of(&decode(0xd282_2008));
+    identifier(&missing).is_none() && !is_admitted(&missing) && name(&missing) == "ld"
+}
+
 #[test]
 fn asks_for_alternate_spaces(rt: HostRuntime) {
-    for (word, asked, asi) in [
-        (0xfe8b_dfffu32, "ldub", 255u8), // lduba [%o7+%i7] 255,%i7
-        (0xf0ca_4418, "ldsb", 32), // ldsba [%o1+%i0] 32,%i0
-        (0xe098_4130, "ldd", 9), // ldda [%g1+%l0] 9,%l0
-        (0xdaff_816d, "swap", 11), // swapa [%fp+%o5] 11,%o5
-        (0xd0a9_c133, "stb", 9), // stba %o0,[%g7+%l3] 9
-        (0xc0bf_c16e, "std", 11), // stda %g0,[%i7+%sp] 11
-        (0xd282_0140, "ld", 10), // lda [%o0] 10,%o1
-        (0xd292_0140, "lduh", 10), // lduha [%o0] 10,%o1
-        (0xd2d2_0140, "ldsh", 10), // ldsha [%o0] 10,%o1
-        (0xd2a2_0140, "st", 10), // sta %o1,[%o0] 10
-        (0xd2b2_0140, "sth", 10), // stha %o1,[%o0] 10
-        (0xd2ea_0140, "ldstub", 10), // ldstuba [%o0] 10,%o1
-    ] {
-        let operation = operation_of(&decode(word));
-        assert!(rt;
-            name(&operation) == asked && identifier(&operation) == Some(asi),
-            "{word:x}"
-        );
+    for &(word, asked, asi) in &ALTERNATES {
+        assert!(rt; is_asked_in(word, asked, asi), "{word:x}");
     }
-    // lda with an immediate, 8
-    let missing = operation_of(&decode(0xd282_2008));
-    assert!(rt; name(&missing) == "ld" && identifier(&missing).is_none() && !is_admitted(&missing));
+    assert!(rt; is_missing_its_space());
 }

@@ -125,58 +125,100 @@ const REGS: MmuRegs = MmuRegs {
 /// Where the entries of address 0 lie, a level each.
 const PLACES: [u64; 4] = [0x2000, 0x2400, 0x2800, 0x2a00];
 
+/// What a walk tells.
+fn walked(bus: &Words<3072>, regs: &MmuRegs, va: u32, access: Access) -> Result<Found, MmuFault> {
+    walk(bus, regs, va, access)
+}
+
+/// What the search of a page's entry tells for a load of a user.
+fn page_of(bus: &Words<3072>, va: u32) -> Result<PageEntry, MmuFault> {
+    find_page(bus, &REGS, va, USER_LOAD)
+}
+
+/// Whether the entry of a level lies at this place, for address 0.
+fn is_place(level: usize, place: u64) -> bool {
+    match PLACES.get(level) {
+        Some(wanted) => place == *wanted,
+        None => false,
+    }
+}
+
 fn translates(bus: &Words<3072>, va: u32, pa: u64, level: usize) -> bool {
-    match walk(bus, &REGS, va, USER_LOAD) {
-        Ok(found) => {
-            found.pa == pa && found.level == level && found.places.get(level) == PLACES.get(level)
-        }
+    match walked(bus, &REGS, va, USER_LOAD) {
+        Ok(found) => found.pa == pa && found.level == level && ends_at(&found.places, level),
         Err(_) => false,
+    }
+}
+
+/// Whether the places of a path have that of this level.
+fn ends_at(places: &[u64; 4], level: usize) -> bool {
+    match places.get(level) {
+        Some(place) => is_place(level, *place),
+        None => false,
     }
 }
 
 fn finds(bus: &Words<3072>, va: u32, pa: u64, level: usize, word: u32) -> bool {
-    match find_page(bus, &REGS, va, USER_LOAD) {
+    match page_of(bus, va) {
         Ok(page) => {
-            page.pa == pa
-                && page.level == level
-                && page.word == word
-                && PLACES.get(level) == Some(&page.place)
+            page.pa == pa && page.level == level && page.word == word && is_place(level, page.place)
         }
         Err(_) => false,
     }
 }
 
+/// The words of the path of an address, its physical address, and the level of the page's entry.
+type Path = ([u32; 4], u32, u64, usize);
+
+const PATHS: [Path; 4] = [
+    ([0xf000_000e, 0, 0, 0], 0x1234_5678, 0xf_1234_5678, 0),
+    ([0x241, 0x1234_560e, 0, 0], 0x00ab_cdef, 0x1_23ab_cdef, 1),
+    (
+        [0x241, 0x281, 0x1234_560e, 0],
+        0x0003_ffff,
+        0x1_2347_ffff,
+        2,
+    ),
+    (
+        [0x241, 0x281, 0x2a1, 0x1234_560e],
+        0x0000_0abc,
+        0x1_2345_6abc,
+        3,
+    ),
+];
+
+/// Whether the page's entry is the word of its level.
+fn is_found(bus: &Words<3072>, path: &Path) -> bool {
+    let (words, va, pa, level) = *path;
+    match words.get(level) {
+        Some(word) => translates(bus, va, pa, level) && finds(bus, va, pa, level, *word),
+        None => false,
+    }
+}
+
+/// RAM in which these words stand where the entries of address 0 lie.
+fn ram_of_path(rt: &impl Abort, words: [u32; 4]) -> Words<3072> {
+    ram(
+        rt,
+        &[
+            (0x2000, words[0]),
+            (0x2400, words[1]),
+            (0x2800, words[2]),
+            (0x2a00, words[3]),
+        ],
+    )
+}
+
 #[test]
 fn translates_at_each_level(rt: HostRuntime) {
-    let rows: [([u32; 4], u32, u64); 4] = [
-        ([0xf000_000e, 0, 0, 0], 0x1234_5678, 0xf_1234_5678),
-        ([0x241, 0x1234_560e, 0, 0], 0x00ab_cdef, 0x1_23ab_cdef),
-        ([0x241, 0x281, 0x1234_560e, 0], 0x0003_ffff, 0x1_2347_ffff),
-        (
-            [0x241, 0x281, 0x2a1, 0x1234_560e],
-            0x0000_0abc,
-            0x1_2345_6abc,
-        ),
-    ];
-    for level in 0..4 {
-        let (words, va, pa) = rows[level];
-        let [context, first, second, third] = words;
-        let bus = ram(
-            &rt,
-            &[
-                (0x2000, context),
-                (0x2400, first),
-                (0x2800, second),
-                (0x2a00, third),
-            ],
-        );
-        let agrees = translates(&bus, va, pa, level) && finds(&bus, va, pa, level, words[level]);
-        assert!(rt; agrees, "at level {level}");
+    for path in &PATHS {
+        let bus = ram_of_path(&rt, path.0);
+        assert!(rt; is_found(&bus, path), "at level {}", path.3);
     }
 }
 
 fn leads_to(bus: &Words<3072>, regs: &MmuRegs, va: u32, pa: u64) -> bool {
-    match walk(bus, regs, va, USER_LOAD) {
+    match walked(bus, regs, va, USER_LOAD) {
         Ok(found) => found.pa == pa,
         Err(_) => false,
     }
@@ -197,57 +239,84 @@ fn wraps_table_addresses_at_36_bits(rt: HostRuntime) {
     assert!(rt; leads_to(&bus, &named, 0x1000_0000, 0x1_2300_0000));
 }
 
-fn refuses(bus: &Words<3072>, va: u32, fault: MmuFault) -> bool {
-    let walked = walk(bus, &REGS, va, USER_LOAD);
-    let found = find_page(bus, &REGS, va, USER_LOAD);
-    matches!(walked, Err(told) if told == fault) && matches!(found, Err(told) if told == fault)
+/// Whether a walk is refused with this fault.
+fn refuses_walk(bus: &Words<3072>, va: u32, fault: MmuFault) -> bool {
+    match walked(bus, &REGS, va, USER_LOAD) {
+        Ok(_) => false,
+        Err(told) => told == fault,
+    }
+}
+
+/// Whether the search of the page's entry is refused with this fault.
+fn refuses_page(bus: &Words<3072>, va: u32, fault: MmuFault) -> bool {
+    match page_of(bus, va) {
+        Ok(_) => false,
+        Err(told) => told == fault,
+    }
+}
+
+/// Words at their places, an address, and the type and the level of its fault.
+type Refused = ([(u64, u32); 4], u32, u8, usize);
+
+const REFUSED: [Refused; 6] = [
+    ([(0x2000, 0), (0, 0), (0, 0), (0, 0)], 0, 1, 0),
+    ([(0x2000, 3), (0, 0), (0, 0), (0, 0)], 0, 4, 0),
+    ([(0x2000, 0x0001_0001), (0, 0), (0, 0), (0, 0)], 0, 4, 1),
+    (
+        [
+            (0x2000, 0x241),
+            (0x2400, 0x281),
+            (0x2800, 0x2a1),
+            (0x2a00, 0x2b1),
+        ],
+        0,
+        4,
+        3,
+    ),
+    (
+        [
+            (0x2000, 0x241),
+            (0x27c0, 0x291),
+            (0x2900, 0x2d1),
+            (0x2d00, 0x1a),
+        ],
+        0xf000_0000,
+        3,
+        3,
+    ),
+    (
+        [
+            (0x2000, 0x241),
+            (0x2400, 0x281),
+            (0x2804, 0x2a1),
+            (0x2a00, 0x1012),
+        ],
+        0x0004_0000,
+        2,
+        3,
+    ),
+];
+
+/// Whether the row's address is refused with its fault, as users load.
+fn is_refused(bus: &Words<3072>, row: &Refused) -> bool {
+    let fault = MmuFault {
+        ft: row.2,
+        level: row.3,
+        at: 0,
+    };
+    refuses_walk(bus, row.1, fault) && refuses_page(bus, row.1, fault)
 }
 
 #[test]
 fn refuses_where_the_path_ends(rt: HostRuntime) {
-    let rows: [([(u64, u32); 4], u32, u8, usize); 6] = [
-        ([(0x2000, 0), (0, 0), (0, 0), (0, 0)], 0, 1, 0),
-        ([(0x2000, 3), (0, 0), (0, 0), (0, 0)], 0, 4, 0),
-        ([(0x2000, 0x0001_0001), (0, 0), (0, 0), (0, 0)], 0, 4, 1),
-        (
-            [
-                (0x2000, 0x241),
-                (0x2400, 0x281),
-                (0x2800, 0x2a1),
-                (0x2a00, 0x2b1),
-            ],
-            0,
-            4,
-            3,
-        ),
-        (
-            [
-                (0x2000, 0x241),
-                (0x27c0, 0x291),
-                (0x2900, 0x2d1),
-                (0x2d00, 0x1a),
-            ],
-            0xf000_0000,
-            3,
-            3,
-        ),
-        (
-            [
-                (0x2000, 0x241),
-                (0x2400, 0x281),
-                (0x2804, 0x2a1),
-                (0x2a00, 0x1012),
-            ],
-            0x0004_0000,
-            2,
-            3,
-        ),
-    ];
-    for (entries, va, ft, level) in rows {
-        let bus = ram(&rt, &entries);
+    for row in &REFUSED {
+        let bus = ram(&rt, &row.0);
         assert!(rt;
-            refuses(&bus, va, MmuFault { ft, level, at: 0 }),
-            "{ft} at {level} of {va}"
+            is_refused(&bus, row),
+            "{} at {} of {}",
+            row.2,
+            row.3,
+            row.1
         );
     }
 }
@@ -268,7 +337,7 @@ const FAULT_TYPES: [([u8; 4], [u8; 4]); 8] = [
 /// Whether an access has this access type, and this fault type on the page of address 1234, 0 where it is allowed.
 fn answers(bus: &Words<3072>, access: Access, ft: u8, at: u8) -> bool {
     let same_type = access.type_number() == at;
-    match walk(bus, &REGS, 0x1234, access) {
+    match walked(bus, &REGS, 0x1234, access) {
         Ok(_) => same_type && ft == 0,
         Err(fault) => same_type && fault.ft == ft && fault.at == at,
     }
@@ -277,17 +346,22 @@ fn answers(bus: &Words<3072>, access: Access, ft: u8, at: u8) -> bool {
 /// Whether the accesses of a user, or of the supervisor, have these fault types.
 fn allows(bus: &Words<3072>, user: bool, fault_types: [u8; 4]) -> bool {
     let [load, fetch, store, store_code] = fault_types;
-    let first = if user { 0 } else { 1 };
-    let mut all = true;
-    for (kind, ft, at) in [
-        (AccessKind::Load, load, 0),
-        (AccessKind::Fetch, fetch, 2),
-        (AccessKind::Store, store, 4),
-        (AccessKind::StoreCode, store_code, 6),
-    ] {
-        all &= answers(bus, Access { user, kind }, ft, at | first);
-    }
-    all
+    is_answered(bus, user, AccessKind::Load, load)
+        && is_answered(bus, user, AccessKind::Fetch, fetch)
+        && is_answered(bus, user, AccessKind::Store, store)
+        && is_answered(bus, user, AccessKind::StoreCode, store_code)
+}
+
+/// Whether an access of this kind has this fault type. Of the access types those of users are even (appendix H).
+fn is_answered(bus: &Words<3072>, user: bool, kind: AccessKind, ft: u8) -> bool {
+    let of_users = match kind {
+        AccessKind::Load => 0,
+        AccessKind::Fetch => 2,
+        AccessKind::Store => 4,
+        AccessKind::StoreCode => 6,
+    };
+    let at = if user { of_users } else { of_users | 1 };
+    answers(bus, Access { user, kind }, ft, at)
 }
 
 #[test]
@@ -327,13 +401,16 @@ fn marks(bus: &mut Words<3072>, word: u32, store: bool, marked: u32) -> bool {
     bus.entry(0x2a00) == Some(marked)
 }
 
+/// A page's entry, whether it is stored to, and the entry with its marks.
+const MARKS: [(u32, bool, u32); 3] = [
+    (0x1012, false, 0x1032),
+    (0x5006, true, 0x5066),
+    (0x5066, false, 0x5066),
+];
+
 #[test]
 fn marks_and_takes_marks_away(rt: HostRuntime) {
-    for (word, store, marked) in [
-        (0x1012, false, 0x1032),
-        (0x5006, true, 0x5066),
-        (0x5066, false, 0x5066),
-    ] {
+    for &(word, store, marked) in &MARKS {
         let mut bus = ram(&rt, &[(0x2a00, word)]);
         assert!(rt; marks(&mut bus, word, store, marked), "{word:x}");
     }

@@ -59,12 +59,9 @@ fn keeps_a_bit_a_window<const N: usize>(all: u32) -> bool
 
 #[test]
 fn goes_round_any_number_of_windows(rt: HostRuntime) {
-    assert!(rt; goes_round::<4>());
-    assert!(rt; goes_round::<8>());
-    assert!(rt; goes_round::<32>());
-    assert!(rt; keeps_a_bit_a_window::<4>(0xf));
-    assert!(rt; keeps_a_bit_a_window::<8>(0xff));
-    assert!(rt; keeps_a_bit_a_window::<32>(0xffff_ffff));
+    assert!(rt; goes_round::<4>() && keeps_a_bit_a_window::<4>(0xf));
+    assert!(rt; goes_round::<8>() && keeps_a_bit_a_window::<8>(0xff));
+    assert!(rt; goes_round::<32>() && keeps_a_bit_a_window::<32>(0xffff_ffff));
 }
 
 /// Whether a register reads the last of two words that are written to it.
@@ -97,16 +94,30 @@ fn traps_and_returns(file: &mut RegFile<4>) -> bool {
     agrees & (file.cwp() == 0)
 }
 
+/// Registers of each kind with a word that each of them then reads.
+const READ_BACK: [(u32, u32); 5] = [(0, 0), (1, 5), (8, 6), (16, 7), (31, 8)];
+
+/// Whether each of these registers reads its word.
+fn each_reads_back(file: &mut RegFile<4>) -> bool {
+    for &(number, word) in &READ_BACK {
+        if !reads_back(file, number, word) {
+            return false;
+        }
+    }
+    true
+}
+
+/// Whether a window that no mask forbids is gone to.
+fn goes_to_a_window(file: &mut RegFile<4>) -> bool {
+    file.set_cwp(2) && file.cwp() == 2
+}
+
 #[test]
 fn masks_forbid_windows_but_to_traps(rt: HostRuntime) {
     let mut file = RegFile::<4>::new();
-    for (number, word) in [(0u32, 0u32), (1, 5), (8, 6), (16, 7), (31, 8)] {
-        assert!(rt; reads_back(&mut file, number, word), "at {number}");
-    }
-    assert!(rt; masks_forbid(&mut file));
-    assert!(rt; traps_and_returns(&mut file));
-    let went = file.set_cwp(2);
-    assert!(rt; went && file.cwp() == 2);
+    assert!(rt; each_reads_back(&mut file));
+    assert!(rt; masks_forbid(&mut file) && traps_and_returns(&mut file));
+    assert!(rt; goes_to_a_window(&mut file));
 }
 
 #[test]
