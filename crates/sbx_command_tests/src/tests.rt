@@ -4,8 +4,8 @@ mod chain;
 mod sources;
 mod stops;
 mod streams;
+mod words;
 
-use arrayvec::ArrayVec;
 use sbx_command::{
     Ended, Job, ReadFault, Windows, command, decimal, read_whole, turns, window_count,
 };
@@ -13,7 +13,7 @@ use std::alloc::Global;
 use std::io::{self, Read, Write};
 
 /// Gives a byte a call, and fails at call `fails`, counted from 1.
-#[derive(Drop)]
+#[derive(Clone, Copy)]
 struct Reader<'a> {
     bytes: &'a [u8],
     calls: usize,
@@ -50,11 +50,13 @@ impl Read for Reader<'_> {
     }
 }
 
-/// Keeps what is written, and fails at call `fails`, counted from 1, flushes among the calls. Its room is its own, so
-/// that no refused growth is its. It knows whether it was flushed behind the last write.
-#[derive(Drop)]
+/// Keeps what is written, up to `most` bytes a call, and fails at call `fails`, counted from 1, flushes among the calls. Its
+/// room is its own, so that no refused growth is its. It knows whether it was flushed behind the last write.
+#[derive(Clone, Copy)]
 struct Writer {
-    kept: ArrayVec<u8, 1024>,
+    kept: [u8; 1024],
+    count: usize,
+    most: usize,
     calls: usize,
     fails: usize,
     flushed: bool,
@@ -63,11 +65,18 @@ struct Writer {
 impl Writer {
     fn new(fails: usize) -> Writer {
         Writer {
-            kept: ArrayVec::new(),
+            kept: [0; 1024],
+            count: 0,
+            most: usize::MAX,
             calls: 0,
             fails,
             flushed: false,
         }
+    }
+
+    /// What was written.
+    fn text(&self) -> &[u8] {
+        self.kept.get(..self.count).unwrap_or(&self.kept)
     }
 
     fn call(&mut self) -> io::Result<()> {
@@ -77,15 +86,36 @@ impl Writer {
         }
         Ok(())
     }
+
+    /// Keeps a byte, if there is room.
+    fn push(&mut self, byte: u8) {
+        if self.count < 1024 {
+            self.kept[self.count] = byte;
+            self.count += 1;
+        }
+    }
+
+    /// Keeps bytes where there is room for all of them, and says whether there is.
+    fn keep(&mut self, bytes: &[u8]) -> bool {
+        if bytes.len() > 1024usize.saturating_sub(self.count) {
+            return false;
+        }
+        for byte in bytes {
+            self.push(*byte);
+        }
+        true
+    }
 }
 
 impl Write for Writer {
     fn write(&mut self, buf: &[u8]) -> io::Result<usize> {
         self.flushed = false;
         self.call()?;
-        match self.kept.try_extend_from_slice(buf) {
-            Ok(()) => Ok(buf.len()),
-            Err(_) => Err(io::Error::from(io::ErrorKind::OutOfMemory)),
+        let bytes = buf.get(..self.most).unwrap_or(buf);
+        if self.keep(bytes) {
+            Ok(bytes.len())
+        } else {
+            Err(io::Error::from(io::ErrorKind::OutOfMemory))
         }
     }
 
@@ -163,7 +193,7 @@ struct Case<'a> {
 }
 
 /// What a command told: how it ended, and its two outputs.
-#[derive(Drop)]
+#[derive(Clone, Copy)]
 struct Told {
     ended: Ended,
     out: Writer,
@@ -171,19 +201,29 @@ struct Told {
 }
 
 impl Told {
-    /// One try of a job on a file.
-    fn of(alloc: Global, job: &Job<'_>, file: &[u8], fails: [usize; 3]) -> Told {
-        let [file_fails, input_fails, out_fails] = fails;
-        let mut file = Reader::new(file, file_fails);
-        let mut input = Reader::new(b"abc", input_fails);
-        let mut out = Writer::new(out_fails);
+    /// One try of a job on a file and an input, to a writer.
+    fn over(
+        alloc: Global,
+        job: &Job<'_>,
+        mut file: Reader<'_>,
+        mut input: Reader<'_>,
+        mut out: Writer,
+    ) -> Told {
         let mut err = Writer::new(0);
         let ended = command(alloc, job, &mut file, &mut input, &mut out, &mut err);
         Told { ended, out, err }
     }
 
+    /// One try of a job on a file, at calls that fail.
+    fn of(alloc: Global, job: &Job<'_>, file: &[u8], fails: [usize; 3]) -> Told {
+        let [file_fails, input_fails, out_fails] = fails;
+        let file = Reader::new(file, file_fails);
+        let input = Reader::new(b"abc", input_fails);
+        Told::over(alloc, job, file, input, Writer::new(out_fails))
+    }
+
     fn is_want_of_memory(&self) -> bool {
-        self.ended.status == 5 && self.err.kept.as_slice() == MEMORY
+        self.ended.status == 5 && self.err.text() == MEMORY
     }
 }
 
@@ -195,8 +235,7 @@ fn answer_of(alloc: Global, job: &Job<'_>, file: &[u8], fails: [usize; 3]) -> To
         return first;
     }
     let second = Told::of(alloc, job, file, fails);
-    let whole = second.out.kept.as_slice();
-    if whole.starts_with(first.out.kept.as_slice()) {
+    if second.out.text().starts_with(first.out.text()) {
         second
     } else {
         first
@@ -213,8 +252,8 @@ fn is_answered(alloc: Global, case: &Case<'_>) -> bool {
     status == case.status
         && is_whole
         && (status > 1 || told.out.flushed)
-        && told.out.kept.as_slice() == case.out
-        && told.err.kept.as_slice() == case.err
+        && told.out.text() == case.out
+        && told.err.text() == case.err
 }
 
 /// What is read of a reader that fails at a call. Where a growth was refused, it is read once more.
@@ -263,7 +302,8 @@ fn changed(place: usize, bytes: &[u8]) -> [u8; 86] {
 #[test]
 fn reads_within_a_bound(rt: HostRuntime) {
     for reading in READINGS {
-        assert!(rt; is_read(rt.alloc(), reading), "at {reading:?}");
+        let (_, most, fails, _) = reading;
+        assert!(rt; is_read(rt.alloc(), reading), "at {most}, {fails}");
     }
 }
 
@@ -301,7 +341,8 @@ const LIMITS: [(Option<&str>, Option<u64>); 6] = [
 #[test]
 fn reads_a_limit_of_turns(rt: HostRuntime) {
     for (text, wanted) in LIMITS {
-        assert!(rt; turns(text) == wanted, "at {text:?}");
+        let told = text.unwrap_or("none");
+        assert!(rt; turns(text) == wanted, "at {told}");
     }
 }
 
@@ -320,9 +361,10 @@ const COUNTS: [(Option<&str>, Option<u32>); 8] = [
 #[test]
 fn reads_a_count_of_windows(rt: HostRuntime) {
     for (text, wanted) in COUNTS {
+        let told = text.unwrap_or("none");
         assert!(rt;
             window_count(text).map(Windows::count) == wanted,
-            "at {text:?}"
+            "at {told}"
         );
     }
 }
@@ -330,9 +372,7 @@ fn reads_a_count_of_windows(rt: HostRuntime) {
 /// The sample and a byte after it.
 fn longer() -> [u8; 87] {
     let mut image = [0; 87];
-    for (new, old) in image.iter_mut().zip(HELLO) {
-        *new = old;
-    }
+    image[..86].copy_from_slice(&HELLO);
     image
 }
 
@@ -358,11 +398,17 @@ const RANGE: [u8; 95] = [
     0x04, 0x00, 0x00, 0x00, 0x00, 0x00, 0x00, 0x00, 0x00, 0x00, 0x00, 0x00, 0x00, 0x00, 0x10,
 ];
 
+/// The jobs that ask for an image.
+const IMAGE_JOBS: [Job<'static>; 3] = [VERIFY, RUN, LIST];
+
 /// Whether `verify`, `run` and `list` all answer with status 2 and the line.
 fn are_refused<'a>(alloc: Global, file: &'a [u8], line: &'a [u8]) -> bool {
-    is_answered(alloc, &refused(&VERIFY, file, line))
-        && is_answered(alloc, &refused(&RUN, file, line))
-        && is_answered(alloc, &refused(&LIST, file, line))
+    for job in &IMAGE_JOBS {
+        if !is_answered(alloc, &refused(job, file, line)) {
+            return false;
+        }
+    }
+    true
 }
 
 #[test]
@@ -385,13 +431,13 @@ fn refuses_what_is_longer(rt: HostRuntime) {
 /// Bytes of the sample that are replaced from a place on, and the line that tells of it.
 type Change = (usize, &'static [u8], &'static [u8]);
 
-/// Samples that are no image.
-const BAD: [Change; 5] = [
-    (0, &[0x54], b"image I2\n"),
-    (4, &[0, 4], b"image I3\n"),
-    (6, &[0, 8], b"image I4\n"),
-    (60, &[0, 0, 1, 0, 0, 0, 0, 0], b"image I5\n"),
-    (48, &[0, 4, 0, 4], b"image I7\n"),
+/// Samples that are no image, and how many bytes each has up to the end of its bad field.
+const BAD: [(Change, usize); 5] = [
+    ((0, &[0x54], b"image I2\n"), 4),
+    ((4, &[0, 4], b"image I3\n"), 6),
+    ((6, &[0, 8], b"image I4\n"), 8),
+    ((60, &[0, 0, 1, 0, 0, 0, 0, 0], b"image I5\n"), 68),
+    ((48, &[0, 4, 0, 4], b"image I7\n"), 52),
 ];
 
 /// Whether `verify`, `run` and `list` all refuse the changed sample.
@@ -401,13 +447,10 @@ fn is_change_refused(alloc: Global, (place, bytes, line): Change) -> bool {
 
 #[test]
 fn refuses_what_is_bad(rt: HostRuntime) {
-    for change in BAD {
-        assert!(rt; is_change_refused(rt.alloc(), change), "at {change:?}");
+    for (change, told) in BAD {
+        assert!(rt; is_change_refused(rt.alloc(), change), "after {told} bytes");
     }
 }
-
-/// The bytes of each of `BAD` up to the end of its bad field.
-const TOLD: [usize; 5] = [4, 6, 8, 68, 52];
 
 /// A job on a file whose reader fails at a call, and the status and the line that it has to end with.
 fn stopped<'a>(
@@ -437,7 +480,7 @@ fn is_told_after(alloc: Global, (place, bytes, line): Change, told: usize) -> bo
 
 #[test]
 fn reads_no_further_than_the_bad_field(rt: HostRuntime) {
-    for (change, told) in BAD.into_iter().zip(TOLD) {
+    for (change, told) in BAD {
         assert!(rt;
             is_told_after(rt.alloc(), change, told),
             "after {told} bytes"
@@ -476,7 +519,8 @@ fn is_rule_named(alloc: Global, (place, bytes, line): Change) -> bool {
 #[test]
 fn refuses_what_breaks_a_rule(rt: HostRuntime) {
     for change in RULES {
-        assert!(rt; is_rule_named(rt.alloc(), change), "at {change:?}");
+        let (place, _, _) = change;
+        assert!(rt; is_rule_named(rt.alloc(), change), "at {place}");
     }
 }
 
@@ -539,21 +583,24 @@ fn is_ended(alloc: Global, end: &End) -> bool {
 #[test]
 fn lists_and_verifies_up_to_a_fault(rt: HostRuntime) {
     for end in &LISTS_AND_VERDICTS {
-        assert!(rt; is_ended(rt.alloc(), end), "at {end:?}");
+        let [file, input, output] = end.1;
+        assert!(rt; is_ended(rt.alloc(), end), "at {file}, {input}, {output}");
     }
 }
 
 #[test]
 fn runs_up_to_a_fault(rt: HostRuntime) {
     for end in &RUNS {
-        assert!(rt; is_ended(rt.alloc(), end), "at {end:?}");
+        let [file, input, output] = end.1;
+        assert!(rt; is_ended(rt.alloc(), end), "at {file}, {input}, {output}");
     }
 }
 
 #[test]
 fn traces_up_to_a_fault(rt: HostRuntime) {
     for end in &TRACES {
-        assert!(rt; is_ended(rt.alloc(), end), "at {end:?}");
+        let [file, input, output] = end.1;
+        assert!(rt; is_ended(rt.alloc(), end), "at {file}, {input}, {output}");
     }
 }
 
@@ -574,11 +621,11 @@ fn ends_with_the_exit_word(rt: HostRuntime) {
 /// Whether a whole trace of the image in the file is written, and nothing else.
 fn is_traced_to_the_end(alloc: Global, file: &[u8]) -> bool {
     let told = answer_of(alloc, &TRACE, file, [0, 0, 0]);
-    let lines = told.out.kept.as_slice();
+    let lines = told.out.text();
     told.ended.status == 0
         && lines.starts_with(TWO_TURNS)
         && lines.ends_with(LAST_TURN)
-        && told.err.kept.is_empty()
+        && told.err.text().is_empty()
 }
 
 /// A whole trace ends with the exit; the image need not be one that is accepted.

@@ -17,34 +17,30 @@ const ROWS: [Row; 5] = [
     (ASM, SOURCE, [110, 0, 2]),
 ];
 
-/// What is told of a call that fails, of the file, the input and the output.
-const LINES: [&[u8]; 3] = [b"file\n", b"input\n", b"output\n"];
+/// What is told of a call that fails, of the file, the input and the output, by their numbers.
+const LINES: [(usize, &[u8]); 3] = [(0, b"file\n"), (1, b"input\n"), (2, b"output\n")];
 
 /// Whether what a job tells with a failed call is this line, and what it has put out is the front of what it puts out otherwise.
 fn is_stop(told: &Told, ample: &Told, line: &[u8]) -> bool {
-    let whole = ample.out.kept.as_slice();
-    told.ended.status == 4
-        && told.err.kept.as_slice() == line
-        && whole.starts_with(told.out.kept.as_slice())
+    let whole = ample.out.text();
+    told.ended.status == 4 && told.err.text() == line && whole.starts_with(told.out.text())
 }
 
 /// Whether a job tells what it tells without a failed call.
 fn is_like(told: &Told, ample: &Told) -> bool {
     told.ended.status == 0
         && told.out.flushed
-        && told.out.kept.as_slice() == ample.out.kept.as_slice()
-        && told.err.kept.is_empty()
+        && told.out.text() == ample.out.text()
+        && told.err.text().is_empty()
 }
 
 /// The calls that fail, where one of the file, the input or the output is to.
 fn failing(stream: usize, call: usize) -> [usize; 3] {
-    let mut fails = [0; 3];
-    for (number, place) in fails.iter_mut().enumerate() {
-        if number == stream {
-            *place = call;
-        }
+    match stream {
+        0 => [call, 0, 0],
+        1 => [0, call, 0],
+        _ => [0, 0, call],
     }
-    fails
 }
 
 /// Whether a job stops at each of so many calls of the file, the input or the output, and makes no further one.
@@ -66,7 +62,7 @@ fn stops_at_each(alloc: Global, row: &Row, ample: &Told, stream: usize, line: &[
 /// Whether a job is done where no call fails, and stops at each that fails.
 fn is_stopped_by_each(alloc: Global, row: &Row) -> bool {
     let ample = answer_of(alloc, &row.0, row.1, [0, 0, 0]);
-    for (stream, line) in LINES.into_iter().enumerate() {
+    for (stream, line) in LINES {
         if !stops_at_each(alloc, row, &ample, stream, line) {
             return false;
         }
@@ -77,6 +73,10 @@ fn is_stopped_by_each(alloc: Global, row: &Row) -> bool {
 #[test]
 fn each_failed_call_is_told(rt: HostRuntime) {
     for row in &ROWS {
-        assert!(rt; is_stopped_by_each(rt.alloc(), row), "at {:?}", row.0);
+        let [file, input, output] = row.2;
+        assert!(rt;
+            is_stopped_by_each(rt.alloc(), row),
+            "of {file}, {input}, {output} calls"
+        );
     }
 }

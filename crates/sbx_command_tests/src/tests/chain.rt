@@ -1,4 +1,5 @@
 //! A chain of calls that is deeper than any count of windows, from its source to its run and its trace.
+use super::Writer;
 use sbx_command::{Job, Windows, exit_status};
 use std::alloc::Global;
 use std::io::{self, Write};
@@ -32,43 +33,53 @@ const LAST: &[u8] = b".function f39,framed,96,96,57
 /// What the chain puts out.
 const PUT_OUT: &[u8] = b"!";
 
-/// Forty functions, each of which calls the next one.
-fn source(alloc: Global) -> io::Result<Vec<u8>> {
-    let mut text = Vec::new(alloc);
+/// Adds a function that calls the next one.
+fn push(text: &mut Vec<u8>, function: u64) -> io::Result<()> {
+    let below = 39u64.saturating_sub(function);
+    let room = below.saturating_mul(96).saturating_add(96);
+    let budget = below.saturating_mul(53).saturating_add(57);
+    let next = function.saturating_add(1);
+    write!(
+        text,
+        ".function f{function},framed,96,{room},{budget}\n.fuel {budget}\n save %sp,-96,%sp\n call f{next}\n nop\n ret\n restore\n"
+    )
+}
+
+/// Adds forty functions, each of which calls the next one.
+fn push_all(text: &mut Vec<u8>) -> io::Result<()> {
     text.write_all(FIRST)?;
     for function in 1..39u64 {
-        let below = 39 - function;
-        let room = 96 + 96 * below;
-        let budget = 57 + 53 * below;
-        write!(
-            text,
-            ".function f{function},framed,96,{room},{budget}\n.fuel {budget}\n save %sp,-96,%sp\n call f{}\n nop\n ret\n restore\n",
-            function + 1
-        )?;
+        push(text, function)?;
     }
-    text.write_all(LAST)?;
-    Ok(text)
+    text.write_all(LAST)
 }
 
 /// What a job on a file puts out without input, where its status is 0.
-fn done(alloc: Global, job: &Job<'_>, file: &[u8]) -> Option<Vec<u8>> {
-    let mut file = file;
+fn done(alloc: Global, job: &Job<'_>, mut file: &[u8]) -> Option<Vec<u8>> {
     let mut input: &[u8] = b"";
     let mut out = Vec::new(alloc);
-    let mut err = Vec::new(alloc);
+    let mut err = Writer::new(0);
     match exit_status(alloc, job, &mut file, &mut input, &mut out, &mut err) {
         0 => Some(out),
         _ => None,
     }
 }
 
+/// The chain's image, where all went well.
+fn image(alloc: Global) -> Option<Vec<u8>> {
+    let mut text = Vec::new(alloc);
+    match push_all(&mut text) {
+        Ok(()) => done(alloc, &ASM, text.as_slice()),
+        Err(_) => None,
+    }
+}
+
 /// What a job on the chain's image puts out, where all went well.
 fn tried(alloc: Global, job: &Job<'_>) -> Option<Vec<u8>> {
-    let Ok(source) = source(alloc) else {
-        return None;
-    };
-    let image = done(alloc, &ASM, source.as_slice())?;
-    done(alloc, job, image.as_slice())
+    match image(alloc) {
+        Some(image) => done(alloc, job, image.as_slice()),
+        None => None,
+    }
 }
 
 /// The same, once more where it wasn't well: a growth may have been refused.
@@ -135,6 +146,6 @@ fn is_alike(alloc: Global, traffic: Traffic) -> bool {
 #[test]
 fn runs_on_any_count_of_windows(rt: HostRuntime) {
     for traffic in TRAFFIC {
-        assert!(rt; is_alike(rt.alloc(), traffic), "at {traffic:?}");
+        assert!(rt; is_alike(rt.alloc(), traffic), "on {} windows", traffic.0);
     }
 }

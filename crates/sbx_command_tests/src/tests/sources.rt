@@ -1,8 +1,7 @@
 //! Sources that mean an image, and others.
-use super::{Case, HELLO, MEMORY, Reader, Writer, is_answered};
-use sbx_command::{Job, exit_status};
+use super::{Case, HELLO, Reader, Told, Writer, is_answered};
+use sbx_command::Job;
 use std::alloc::Global;
-use std::io::{self, Write};
 
 pub(super) const ASM: Job<'static> = Job::Asm {
     source: "a.s",
@@ -51,31 +50,28 @@ fn is_assembled(alloc: Global, (file, fails, status, out, err): End) -> bool {
 #[test]
 fn assembles(rt: HostRuntime) {
     for end in ENDS {
-        assert!(rt; is_assembled(rt.alloc(), end), "at {end:?}");
-    }
-}
-
-/// A writer in memory that has no room left.
-#[derive(Drop)]
-struct Full;
-
-impl Write for Full {
-    fn write(&mut self, _buf: &[u8]) -> io::Result<usize> {
-        Err(io::Error::from(io::ErrorKind::OutOfMemory))
-    }
-
-    fn flush(&mut self) -> io::Result<()> {
-        Ok(())
+        let [file, input, output] = end.1;
+        assert!(rt;
+            is_assembled(rt.alloc(), end),
+            "at {file}, {input}, {output}"
+        );
     }
 }
 
 /// Whether an assembly whose object finds no room ends as one for want of memory.
 fn is_full_told(alloc: Global) -> bool {
-    let mut file = Reader::new(SOURCE, 0);
-    let mut input = Reader::new(b"", 0);
-    let mut err = Writer::new(0);
-    let status = exit_status(alloc, &ASM, &mut file, &mut input, &mut Full, &mut err);
-    status == 5 && err.kept.as_slice() == MEMORY
+    let full = Writer {
+        count: 1024,
+        ..Writer::new(0)
+    };
+    let told = Told::over(
+        alloc,
+        &ASM,
+        Reader::new(SOURCE, 0),
+        Reader::new(b"", 0),
+        full,
+    );
+    told.is_want_of_memory()
 }
 
 #[test]

@@ -1,31 +1,7 @@
 //! The line of a stop over a writer that takes a byte a call, and fails at one.
-use arrayvec::ArrayVec;
+use super::Writer;
 use sbx_command::{Ended, Stop};
 use sbx_rules::{Cause, Refusal};
-use std::io::{self, Write};
-
-/// Keeps a byte a call, and fails at call `fails`, counted from 1.
-#[derive(Drop)]
-struct Slow {
-    kept: ArrayVec<u8, 64>,
-    fails: usize,
-}
-
-impl Write for Slow {
-    fn write(&mut self, buf: &[u8]) -> io::Result<usize> {
-        if self.kept.len().wrapping_add(1) == self.fails {
-            return Err(io::Error::from(io::ErrorKind::Other));
-        }
-        match buf.first() {
-            Some(byte) if self.kept.try_push(*byte).is_ok() => Ok(1),
-            _ => Ok(0),
-        }
-    }
-
-    fn flush(&mut self) -> io::Result<()> {
-        Ok(())
-    }
-}
 
 /// The longest stop: a refusal at the last word of the last function.
 const LONGEST: Stop = Stop::Refused(Refusal {
@@ -38,9 +14,9 @@ const LINE: &[u8] = b"refused V11 in function 65535 at FFFFFFFF\n";
 
 /// Whether a stop is told up to the call that fails, with the same status.
 fn is_told(fails: usize) -> bool {
-    let mut err = Slow {
-        kept: ArrayVec::new(),
-        fails,
+    let mut err = Writer {
+        most: 1,
+        ..Writer::new(fails)
     };
     let ended = LONGEST.report(&mut err);
     let front = match fails.checked_sub(1) {
@@ -48,7 +24,7 @@ fn is_told(fails: usize) -> bool {
         Some(count) => LINE.get(..count).unwrap_or(LINE),
     };
     let told = front.len() == LINE.len();
-    ended == Ended { status: 2, told } && err.kept.as_slice() == front
+    ended == Ended { status: 2, told } && err.text() == front
 }
 
 #[test]

@@ -55,12 +55,13 @@ fn is_echoed(alloc: Global, ([input, output], status, out, err): End) -> bool {
 #[test]
 fn echoes_up_to_a_fault(rt: HostRuntime) {
     for end in ENDS {
-        assert!(rt; is_echoed(rt.alloc(), end), "at {end:?}");
+        let [input, output] = end.0;
+        assert!(rt; is_echoed(rt.alloc(), end), "at {input}, {output}");
     }
 }
 
 /// Gives `y` without end, a byte a call, but only where it has heard as many bytes as it gave.
-#[derive(Drop)]
+#[derive(Clone, Copy)]
 struct Partner<'a> {
     given: usize,
     heard: &'a Cell<usize>,
@@ -81,7 +82,7 @@ impl Read for Partner<'_> {
 }
 
 /// Hears what is put out, a call at once.
-#[derive(Drop)]
+#[derive(Clone, Copy)]
 struct Ear<'a> {
     heard: &'a Cell<usize>,
 }

@@ -1,54 +1,39 @@
-// Command lines and what they ask for.
+//! Command lines and what they ask for.
+use super::sources::ASM;
+use super::{LIST, RUN, VERIFY};
 use sbx_words::{Job, Usage, Windows, read_words};
 use std::alloc::Global;
 
-const ASM: Job<'static> = Job::Asm {
-    source: "a.s",
-    object: "a.img",
-};
-
-const VERIFY: Job<'static> = Job::Verify { image: "a.img" };
-
-const RUN: Job<'static> = Job::Run {
-    image: "a.img",
-    windows: Windows::USUAL,
-};
-
-const LIST: Job<'static> = Job::List { image: "a.img" };
-
-/// How the words of a line are read.
-#[derive(Clone, Copy, Debug, PartialEq, Eq)]
-enum Answer {
-    /// As the job, or as words that ask for nothing.
-    Wanted,
-    /// A growth was refused, here or in the call.
-    WantOfMemory,
-    /// As anything else.
-    Other,
+/// Whether a job is the wanted one; where none is wanted, it is not.
+fn is_wanted(found: &Job<'_>, job: Option<&Job<'_>>) -> bool {
+    match job {
+        Some(wanted) => found == wanted,
+        None => false,
+    }
 }
 
-/// How the words of a line are read in one try.
-fn tried(alloc: Global, line: &str, job: Option<&Job<'_>>) -> Answer {
-    let Ok(words) = line.split_whitespace().collect::<Vec<&str>>(alloc) else {
-        return Answer::WantOfMemory;
-    };
-    match read_words(alloc, words.as_slice()) {
-        Ok(found) => match job {
-            Some(wanted) if found == *wanted => Answer::Wanted,
-            _ => Answer::Other,
-        },
-        Err(Usage::Text(text)) if job.is_none() && !text.is_empty() => Answer::Wanted,
-        Err(Usage::Memory(_) | Usage::NoRoom(_)) => Answer::WantOfMemory,
-        _ => Answer::Other,
+/// Whether words are read as the job, or as words that ask for nothing; none where a growth was refused.
+fn answer_to(alloc: Global, words: &[&str], job: Option<&Job<'_>>) -> Option<bool> {
+    match read_words(alloc, words) {
+        Ok(found) => Some(is_wanted(&found, job)),
+        Err(Usage::Text(text)) => Some(job.is_none() && !text.is_empty()),
+        Err(Usage::Memory(_) | Usage::NoRoom(_)) => None,
+    }
+}
+
+/// The same of the words of a line.
+fn tried(alloc: Global, line: &str, job: Option<&Job<'_>>) -> Option<bool> {
+    match line.split_whitespace().collect::<Vec<&str>>(alloc) {
+        Ok(words) => answer_to(alloc, words.as_slice(), job),
+        Err(_) => None,
     }
 }
 
 /// Whether the words of a line are read as wanted. A line whose growth was refused is read once more.
 fn is_read(alloc: Global, line: &str, job: Option<&Job<'_>>) -> bool {
     match tried(alloc, line, job) {
-        Answer::Wanted => true,
-        Answer::WantOfMemory => tried(alloc, line, job) == Answer::Wanted,
-        Answer::Other => false,
+        Some(is_read) => is_read,
+        None => tried(alloc, line, job) == Some(true),
     }
 }
 
