@@ -1,7 +1,8 @@
 //! Runs of several images one after another on one board.
 
+use crate::calls::answers_on;
 use crate::runs::{CHAINED, ECHOES, HI, Row, SILENT};
-use sbx_batch::{Accepted, Batch, Finished, run_batch};
+use sbx_batch::{Accepted, Batch, Finished};
 use std::alloc::Global;
 
 /// Whether these are the answers of the echo to `abc`, of the chain, and of the echo to no input, on four windows.
@@ -30,9 +31,9 @@ fn follow_one_another(alloc: Global, echo: &Accepted, chain: &Accepted) -> bool 
             input: b"",
         },
     ];
-    match run_batch::<4>(alloc, &batch) {
-        Ok(answers) => are_told(answers.as_slice()),
-        Err(_) => false,
+    match answers_on::<4>(alloc, &batch) {
+        Some(answers) => are_told(answers.as_slice()),
+        None => false,
     }
 }
 
@@ -69,9 +70,9 @@ fn are_all(answers: &[Finished], row: &Row<'_>) -> bool {
 
 /// Whether a list of so many has so many answers, and each is the row's.
 fn are_so_many(alloc: Global, list: &[Batch<'_>], row: &Row<'_>) -> bool {
-    match run_batch::<32>(alloc, list) {
-        Ok(answers) => answers.len() == list.len() && are_all(answers.as_slice(), row),
-        Err(_) => false,
+    match answers_on::<32>(alloc, list) {
+        Some(answers) => answers.len() == list.len() && are_all(answers.as_slice(), row),
+        None => false,
     }
 }
 

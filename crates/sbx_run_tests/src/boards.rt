@@ -1,10 +1,11 @@
 //! Runs of accepted images on a board of the caller's, and what it shows afterwards.
 
+use crate::calls::judged;
 use crate::runs::{CHAINED, COPIES, HI, REGIONS, accepted_of};
 use crate::sources::{BARE, Source};
 use sbx_image::Image;
 use sbx_raw::SlicePort;
-use sbx_run::{Accepted, Ended, Ending, PageUse, run_board, verify};
+use sbx_run::{Accepted, Ended, Ending, PageUse, run_board};
 use std::alloc::{AllocError, Global};
 use v8_board::Board;
 use v8_word::Reg;
@@ -16,10 +17,7 @@ fn board_with<'a>(alloc: Global, input: &'a [u8]) -> Result<Board<4, SlicePort<'
 
 /// What a run on a board gave, if the port had no fault.
 fn ended(board: &mut Board<4, SlicePort<'_>>, accepted: &Accepted) -> Option<Ended> {
-    match run_board(board, accepted) {
-        Ok(ended) => Some(ended),
-        Err(_fault) => None,
-    }
+    run_board(board, accepted).ok()
 }
 
 /// Whether a run on a board exits with 0 after so many turns, without a call.
@@ -254,22 +252,34 @@ fn finds_on_a_board(alloc: Global, image: &Image, accepted: &Accepted) -> bool {
     }
 }
 
-/// Whether an image does that is refused.
+/// Whether an image is refused, and does that all the same.
 fn finds_though_refused(alloc: Global, image: Image, accepted: &Accepted) -> bool {
-    finds_on_a_board(alloc, &image, accepted)
-        && match verify(alloc, image) {
-            Ok(_accepted) => false,
-            Err(_refused) => true,
-        }
+    match judged(alloc, image) {
+        Ok(_accepted) => false,
+        Err((image, _refusal)) => finds_on_a_board(alloc, &image, accepted),
+    }
+}
+
+/// Whether the image that reads does that after an accepted one.
+fn finds_after(alloc: Global, accepted: &Accepted) -> bool {
+    match READS.image(alloc) {
+        Some(image) => finds_though_refused(alloc, image, accepted),
+        None => false,
+    }
+}
+
+/// Whether it does after an image that has to be accepted.
+fn finds_after_accepted(alloc: Global, leaves: Image) -> bool {
+    match accepted_of(alloc, leaves) {
+        Some(accepted) => finds_after(alloc, &accepted),
+        None => false,
+    }
 }
 
 fn finds_what_is_left(alloc: Global) -> bool {
-    let Some(leaves) = LEAVES.image(alloc) else {
-        return false;
-    };
-    match (accepted_of(alloc, leaves), READS.image(alloc)) {
-        (Some(accepted), Some(image)) => finds_though_refused(alloc, image, &accepted),
-        _ => false,
+    match LEAVES.image(alloc) {
+        Some(leaves) => finds_after_accepted(alloc, leaves),
+        None => false,
     }
 }
 

@@ -1,8 +1,8 @@
 //! The same programs in version 3, with depths declared.
+use crate::calls::judged;
 use crate::runs::{CHAINED, ECHOES, Row, accepted_of, runs_everywhere};
 use crate::verdicts::is_shown;
 use sbx_image::{Image, Items, Parts};
-use sbx_run::verify;
 use std::alloc::Global;
 
 /// The parts of an image in version 3: from the second function on the depths fall by one each, from a number that the first would have.
@@ -48,7 +48,7 @@ fn is_so_with(alloc: Global, row: &Row<'_>, first: u16, deepest: u16) -> bool {
 
 /// Whether an image is refused with this line.
 fn is_refused(alloc: Global, image: Image, told: &str) -> bool {
-    match verify(alloc, image) {
+    match judged(alloc, image) {
         Ok(_accepted) => false,
         Err((_back, refusal)) => is_shown(alloc, &refusal, told),
     }
@@ -62,14 +62,19 @@ fn is_refused_with(alloc: Global, row: &Row<'_>, first: u16, deepest: u16, told:
     }
 }
 
+/// Whether runs are as they were with depths enough.
+fn are_so(alloc: Global) -> bool {
+    // 40 functions with a frame each
+    is_so_with(alloc, &CHAINED, 40, 40)
+        && is_so_with(alloc, &CHAINED, 256, 256)
+        // one frame: there are windows enough everywhere
+        && is_so_with(alloc, &ECHOES, 1, 1)
+        && ECHOES.is_quiet()
+}
+
 #[test]
 fn depths_leave_runs_as_they_are(rt: HostRuntime) {
-    // 40 functions with a frame each
-    assert!(rt; is_so_with(rt.alloc(), &CHAINED, 40, 40));
-    assert!(rt; is_so_with(rt.alloc(), &CHAINED, 256, 256));
-    // one frame: there are windows enough everywhere
-    assert!(rt; is_so_with(rt.alloc(), &ECHOES, 1, 1));
-    assert!(rt; ECHOES.is_quiet());
+    assert!(rt; are_so(rt.alloc()));
 }
 
 #[test]

@@ -8,6 +8,8 @@ mod bits;
 #[cfg(test)]
 mod boards;
 #[cfg(test)]
+mod calls;
+#[cfg(test)]
 mod depths;
 #[cfg(test)]
 mod ports;

@@ -2,27 +2,36 @@
 use crate::sources::{ECHO, ENDLESS, GREETING, assembled};
 use crate::streams::{Sink, Source};
 use sbx_image::Image;
-use sbx_port::{Mailbox, StreamFault, carry};
-use std::alloc::Global;
-use std::test::Fail;
+use sbx_port::{Mailbox, carry};
+use std::alloc::{AllocError, Global};
+use std::process::Abort;
 use v8_board::{Board, Ending, Outcome, Port};
 use v8_mmu::PortFault;
 
-#[test]
-fn a_mailbox_has_room_for_a_byte_each_way(rt: HostRuntime) -> Result<(), Fail> {
-    let mut port = Mailbox::new();
-    assert!(rt; port.get() == Err(PortFault::Reader) && port.failures() == 1);
+/// Whether a port that was given nothing fails, one that was gives its byte once, and one that has ended tells so each time.
+fn gives_a_byte(port: &mut Mailbox) -> bool {
+    let lacked = port.get() == Err(PortFault::Reader) && port.failures() == 1;
     port.give(0xFF);
-    assert!(rt; port.failures() == 0 && port.get() == Ok(Some(0xFF)));
-    assert!(rt; port.get() == Err(PortFault::Reader) && !port.has_ended());
+    let gave = port.failures() == 0 && port.get() == Ok(Some(0xFF));
+    let lacks = port.get() == Err(PortFault::Reader) && !port.has_ended();
     port.end();
-    assert!(rt; port.has_ended() && port.get() == Ok(None) && port.get() == Ok(None));
-    assert!(rt; port.slot() == None && port.put(0) == Ok(()) && port.slot() == Some(0));
-    assert!(rt; port.put(1) == Err(PortFault::Writer));
-    assert!(rt; port.failures() == 1 && port.slot() == Some(0) && !port.lacks());
+    lacked && gave && lacks && port.has_ended() && port.get() == Ok(None) && port.get() == Ok(None)
+}
+
+/// Whether a port that holds nothing takes a byte, and the next one once it was emptied.
+fn takes_a_byte(port: &mut Mailbox) -> bool {
+    let took = port.slot() == None && port.put(0) == Ok(()) && port.slot() == Some(0);
+    let is_full = port.put(1) == Err(PortFault::Writer);
+    let kept = port.failures() == 1 && port.slot() == Some(0) && !port.lacks();
     port.empty();
-    assert!(rt; port.failures() == 0 && port.slot() == None && port.put(2) == Ok(()));
-    Ok(())
+    took && is_full && kept && port.failures() == 0 && port.slot() == None && port.put(2) == Ok(())
+}
+
+#[test]
+fn a_mailbox_has_room_for_a_byte_each_way(rt: HostRuntime) {
+    let mut port = Mailbox::new();
+    assert!(rt; gives_a_byte(&mut port), "to be read");
+    assert!(rt; takes_a_byte(&mut port), "written");
 }
 
 /// A source that is run up to a limit of turns on an input that ends, and what comes of it.
@@ -37,29 +46,32 @@ struct Row<'a> {
     turns: u64,
 }
 
-/// What is told of the image's run over streams of this row, and whether they were read and written as it says.
-fn told_of(
-    alloc: Global,
-    image: &Image,
-    row: &Row<'_>,
-) -> Result<(Result<(), StreamFault>, Outcome, bool), Fail> {
-    let mut board: Board<4, Mailbox> = Board::new(alloc, Mailbox::new())?;
+/// Whether what is told of a run, and what its streams were asked, is what the row says.
+fn is_told(told: &Outcome, reader: &Source<'_>, writer: &Sink, row: &Row<'_>) -> bool {
+    told.ending == row.ending
+        && told.turns == row.turns
+        && reader.reads == row.reads
+        && writer.took(row.written)
+}
+
+/// Whether the image's run over streams on a board is whole, and what the row says.
+fn runs_so(alloc: Global, image: &Image, row: &Row<'_>) -> bool {
+    let mut board: Board<4, Mailbox> = match Board::new(alloc, Mailbox::new()) {
+        Ok(board) => board,
+        Err(AllocError) => return false,
+    };
     board.load(image);
     let mut reader = Source::new(row.input, false);
-    let mut writer = Sink::new(alloc, 5000, false);
-    let end = carry(&mut board, row.limit, &mut reader, &mut writer);
-    let so = reader.reads == row.reads && writer.kept.as_slice() == row.written;
-    Ok((end, board.outcome(), so))
+    let mut writer = Sink::new(5000, false);
+    let is_whole = carry(&mut board, row.limit, &mut reader, &mut writer).is_ok();
+    is_whole && is_told(&board.outcome(), &reader, &writer, row)
 }
 
 /// Whether the row's run is what it says.
-fn is_so(alloc: Global, row: &Row<'_>) -> Result<bool, Fail> {
+fn is_so(alloc: Global, row: &Row<'_>) -> bool {
     match assembled(alloc, row.source.as_bytes()) {
-        Some(image) => {
-            let (end, outcome, so) = told_of(alloc, &image, row)?;
-            Ok(end.is_ok() && so && outcome.ending == row.ending && outcome.turns == row.turns)
-        }
-        None => Ok(false),
+        Some(image) => runs_so(alloc, &image, row),
+        None => false,
     }
 }
 
@@ -76,9 +88,16 @@ const fn cut(source: &'static str, limit: u64) -> Row<'static> {
     }
 }
 
+/// Each row is so.
+fn are_so(rt: &impl Abort, alloc: Global, rows: &[Row<'_>]) {
+    for row in rows {
+        assert!(rt; is_so(alloc, row), "{} {}", row.limit, row.turns);
+    }
+}
+
 #[test]
-fn boards_run_up_to_a_limit(rt: HostRuntime) -> Result<(), Fail> {
-    for row in &[
+fn boards_run_up_to_a_limit(rt: HostRuntime) {
+    let rows = [
         cut(ECHO, 0),
         cut(ENDLESS, 10),
         Row {
@@ -98,8 +117,6 @@ fn boards_run_up_to_a_limit(rt: HostRuntime) -> Result<(), Fail> {
             turns: 16,
             ..cut(GREETING, u64::MAX)
         },
-    ] {
-        assert!(rt; is_so(rt.alloc(), row)?, "{} {}", row.limit, row.turns);
-    }
-    Ok(())
+    ];
+    are_so(&rt, rt.alloc(), &rows);
 }

@@ -1,16 +1,16 @@
 //! Runs of accepted images, on each count of windows.
 ghost use Rattle.std.specs.Prelude.{◌≤◌};
 
+use crate::calls::{finished_on, judged, raw_on};
 use crate::sources::{
     BARE, BETWEEN_REGIONS, BYTES, CALLED, CALLER, CALLER_OF_39, CALLS, CHAIN, CHAIN_REST, COPY,
     COUNTDOWN, COUNTDOWN_REST, ECHO, EXITS, FRAMED, HELLO, INCREMENT, LINKS, LONG_ECHO, Links,
     RESULT, RESULT_LINKS, ROUNDS, ROUNDS_LINKS, Source, TWO_REGIONS, WORD_OUT,
 };
 use sbx_image::Image;
-use sbx_run::{
-    Accepted, Ending, Finished, PageUse, Raw, budget, run_accepted, run_raw, run_windows, verify,
-};
+use sbx_run::{Accepted, Ending, Finished, PageUse, Raw, budget, run_windows};
 use std::alloc::{AllocError, Global};
+use std::process::Abort;
 use std::test::Fail;
 use v8_word::TrapType;
 
@@ -279,19 +279,16 @@ impl Row<'_> {
 
 /// The image, if it is accepted.
 pub(crate) fn accepted_of(alloc: Global, image: Image) -> Option<Accepted> {
-    match verify(alloc, image) {
-        Ok(accepted) => Some(accepted),
-        Err(_refused) => None,
-    }
+    judged(alloc, image).ok()
 }
 
 /// Whether the run on `N` windows gives what the row says.
 fn runs_on<const N: usize>(alloc: Global, windows: u32, accepted: &Accepted, row: &Row<'_>) -> bool
     requires { (4 ≤ N) × (N ≤ 32) }
 {
-    match run_accepted::<N>(alloc, accepted, row.input) {
-        Ok(finished) => row.is(&finished, windows),
-        Err(_fault) => false,
+    match finished_on::<N>(alloc, accepted, row.input) {
+        Some(finished) => row.is(&finished, windows),
+        None => false,
     }
 }
 
@@ -342,11 +339,16 @@ fn are_so(alloc: Global) -> bool {
         && is_so(alloc, &CHAINED)
 }
 
+/// Each row is so.
+fn are_all_so(rt: &impl Abort, alloc: Global, rows: &[Row<'_>]) {
+    for row in rows {
+        assert!(rt; is_so(alloc, row), "{} {}", row.budget, row.turns);
+    }
+}
+
 #[test]
 fn runs_accepted_images(rt: HostRuntime) {
-    for row in &ROWS {
-        assert!(rt; is_so(rt.alloc(), row), "{:?}", row.output);
-    }
+    are_all_so(&rt, rt.alloc(), &ROWS);
     assert!(rt; are_so(rt.alloc()));
 }
 
@@ -467,38 +469,41 @@ fn increments(raw: &Raw) -> bool {
 fn increments_on<const N: usize>(alloc: Global, image: &Image) -> bool
     requires { (4 ≤ N) × (N ≤ 32) }
 {
-    match run_raw::<N>(alloc, image, b"", 1000) {
-        Ok(raw) => increments(&raw),
-        Err(_fault) => false,
+    match raw_on::<N>(alloc, image) {
+        Some(raw) => increments(&raw),
+        None => false,
     }
 }
 
-/// Returns from the function with what is so on as many windows as there are, if that is one of these numbers, which rise.
-macro_rules! return_on {
-    ($windows:ident, $alloc:ident, $image:ident: $($count:literal)*) => {
-        $(
-            if $windows <= $count {
-                return increments_on::<$count>($alloc, $image);
-            }
-        )*
+/// Whether the raw run on each of these counts of windows does.
+macro_rules! increments_on_all {
+    ($alloc:ident, $image:ident: $($count:literal)*) => {
+        $(increments_on::<$count>($alloc, $image) &&)* true
     };
 }
 
-/// Whether the raw run on so many windows, 4 to 32, does.
-fn increments_by_number(alloc: Global, windows: u32, image: &Image) -> bool {
-    return_on!(windows, alloc, image:
-        4 5 6 7 8 9 10 11 12 13 14 15 16 17 18 19 20 21 22 23 24 25 26 27 28 29 30 31 32);
-    false
+fn increments_on_4_to_10(alloc: Global, image: &Image) -> bool {
+    increments_on_all!(alloc, image: 4 5 6 7 8 9 10)
 }
 
-/// Whether each raw run does.
+fn increments_on_11_to_17(alloc: Global, image: &Image) -> bool {
+    increments_on_all!(alloc, image: 11 12 13 14 15 16 17)
+}
+
+fn increments_on_18_to_24(alloc: Global, image: &Image) -> bool {
+    increments_on_all!(alloc, image: 18 19 20 21 22 23 24)
+}
+
+fn increments_on_25_to_32(alloc: Global, image: &Image) -> bool {
+    increments_on_all!(alloc, image: 25 26 27 28 29 30 31 32)
+}
+
+/// Whether the raw run on each count of windows that there is does.
 fn increments_on_each(alloc: Global, image: &Image) -> bool {
-    for windows in 4..33u32 {
-        if !increments_by_number(alloc, windows, image) {
-            return false;
-        }
-    }
-    true
+    increments_on_4_to_10(alloc, image)
+        && increments_on_11_to_17(alloc, image)
+        && increments_on_18_to_24(alloc, image)
+        && increments_on_25_to_32(alloc, image)
 }
 
 /// Whether each raw run of the row's image does.
@@ -526,9 +531,9 @@ fn is_trapped(raw: &Raw) -> bool {
 
 /// Whether the raw run of the image does.
 fn traps_on_8(alloc: Global, image: &Image) -> bool {
-    match run_raw::<8>(alloc, image, b"", 1000) {
-        Ok(raw) => is_trapped(&raw),
-        Err(_fault) => false,
+    match raw_on::<8>(alloc, image) {
+        Some(raw) => is_trapped(&raw),
+        None => false,
     }
 }
 

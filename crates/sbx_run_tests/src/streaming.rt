@@ -1,11 +1,13 @@
 //! Rows of runs over streams.
 ghost use Rattle.std.specs.Prelude.{◌≤◌};
 
+use crate::calls::finished_on;
 use crate::runs::accepted_of;
 use crate::sources::{ECHO, THREE, assembled};
 use crate::streams::{Sink, Source};
-use sbx_stream::{Accepted, Finished, RunFault, run_accepted, run_stream};
+use sbx_stream::{Accepted, Finished, RunFault, run_stream};
 use std::alloc::Global;
+use std::process::Abort;
 
 /// A source, what a reader and a writer do, and what comes of it. The reader gives the input, and then ends, or is broken; the writer
 /// takes so many bytes, and then takes none, or is broken.
@@ -76,8 +78,8 @@ fn gave<const N: usize>(
 ) -> bool
     requires { (4 ≤ N) × (N ≤ 32) }
 {
-    match run_accepted::<N>(alloc, accepted, row.input) {
-        Ok(alone) => {
+    match finished_on::<N>(alloc, accepted, row.input) {
+        Some(alone) => {
             row.fault.is_none()
                 && finished.status == row.status
                 && finished.turns == row.turns
@@ -89,7 +91,7 @@ fn gave<const N: usize>(
                 && alone.pages == finished.pages
                 && alone.output.as_slice() == row.written
         }
-        Err(_fault) => false,
+        None => false,
     }
 }
 
@@ -98,7 +100,7 @@ fn asked(reader: &Source<'_>, writer: &Sink, row: &Row<'_>) -> bool {
     reader.reads == row.reads
         && reader.asked == row.reads
         && writer.writes == row.writes
-        && writer.kept.as_slice() == row.written
+        && writer.took(row.written)
         && writer.flushes == 0
 }
 
@@ -107,7 +109,7 @@ fn runs_on<const N: usize>(alloc: Global, accepted: &Accepted, row: &Row<'_>) ->
     requires { (4 ≤ N) × (N ≤ 32) }
 {
     let mut reader = Source::new(row.input, row.reader_breaks);
-    let mut writer = Sink::new(alloc, row.room, row.writer_breaks);
+    let mut writer = Sink::new(row.room, row.writer_breaks);
     let so = match run_stream::<N, Source<'_>, Sink>(alloc, accepted, &mut reader, &mut writer) {
         Ok(finished) => gave::<N>(alloc, accepted, &finished, row),
         Err(fault) => row.fault == Some(fault),
@@ -132,20 +134,26 @@ fn is_so(alloc: Global, row: &Row<'_>) -> bool {
     }
 }
 
-#[test]
-fn streams_are_echoed(rt: HostRuntime) {
-    for row in &[
-        echo(b"", b"", 14, 1),
-        echo(b"abc", b"abc", 62, 4),
-        echo(&LONG, &LONG[..1000], 16006, 1000),
-    ] {
-        assert!(rt; is_so(rt.alloc(), row), "{}", row.turns);
+/// Each row is so.
+fn are_so(rt: &impl Abort, alloc: Global, rows: &[Row<'_>]) {
+    for row in rows {
+        assert!(rt; is_so(alloc, row), "{} {}", row.reads, row.writes);
     }
 }
 
 #[test]
+fn streams_are_echoed(rt: HostRuntime) {
+    let rows = [
+        echo(b"", b"", 14, 1),
+        echo(b"abc", b"abc", 62, 4),
+        echo(&LONG, &LONG[..1000], 16006, 1000),
+    ];
+    are_so(&rt, rt.alloc(), &rows);
+}
+
+#[test]
 fn broken_streams_end_runs(rt: HostRuntime) {
-    for row in &[
+    let rows = [
         Row {
             reader_breaks: true,
             ..broken(RunFault::Reader, b"ab", b"ab", 3, 2)
@@ -167,9 +175,8 @@ fn broken_streams_end_runs(rt: HostRuntime) {
             room: 0,
             ..broken(RunFault::Writer, b"abc", b"", 1, 1)
         },
-    ] {
-        assert!(rt; is_so(rt.alloc(), row), "{} {}", row.reads, row.writes);
-    }
+    ];
+    are_so(&rt, rt.alloc(), &rows);
 }
 
 #[test]

@@ -1,10 +1,9 @@
 //! A reader and a writer that count what they are asked.
-use std::alloc::Global;
 use std::io::{self, Read, Write};
 
 /// Gives these bytes, as many as are asked for; then it ends, or fails each time where it is broken. Counts its reads and the bytes
 /// that they asked for.
-#[derive(Drop)]
+#[derive(Clone, Copy)]
 pub(crate) struct Source<'a> {
     pub(crate) left: &'a [u8],
     pub(crate) broken: bool,
@@ -43,10 +42,11 @@ impl Read for Source<'_> {
     }
 }
 
-/// Takes so many bytes, one a call; then it fails, or takes none. Counts its flushes.
-#[derive(Drop)]
+/// Takes so many bytes, one a call; then it fails, or takes none. Keeps the first 1,024 of them, and counts its flushes.
+#[derive(Clone, Copy)]
 pub(crate) struct Sink {
-    pub(crate) kept: Vec<u8>,
+    kept: [u8; 1024],
+    count: usize,
     pub(crate) room: usize,
     pub(crate) broken: bool,
     pub(crate) writes: u64,
@@ -55,26 +55,40 @@ pub(crate) struct Sink {
 
 impl Sink {
     /// One that holds nothing yet.
-    pub(crate) fn new(alloc: Global, room: usize, broken: bool) -> Sink {
+    pub(crate) fn new(room: usize, broken: bool) -> Sink {
         Sink {
-            kept: Vec::new(alloc),
+            kept: [0; 1024],
+            count: 0,
             room,
             broken,
             writes: 0,
             flushes: 0,
         }
     }
+
+    /// Whether it took these bytes, at most 1,024 of them, and no more.
+    pub(crate) fn took(&self, bytes: &[u8]) -> bool {
+        self.kept.get(..self.count) == Some(bytes)
+    }
+
+    /// Takes a byte.
+    fn take(&mut self, byte: u8) {
+        if self.count < 1024 {
+            self.kept[self.count] = byte;
+        }
+        self.count = self.count.wrapping_add(1);
+    }
 }
 
 impl Write for Sink {
     fn write(&mut self, buf: &[u8]) -> io::Result<usize> {
         self.writes = self.writes.wrapping_add(1);
-        if self.kept.len() >= self.room && self.broken {
+        if self.count >= self.room && self.broken {
             return Err(io::Error::from(io::ErrorKind::Interrupted));
         }
         match buf.first() {
-            Some(byte) if self.kept.len() < self.room => {
-                self.kept.push(*byte)?;
+            Some(byte) if self.count < self.room => {
+                self.take(*byte);
                 Ok(1)
             }
             _ => Ok(0),
