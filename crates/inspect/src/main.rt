@@ -10,7 +10,7 @@ use progress::Lines;
 use sbx_command::{Full, Stop};
 use std::alloc::AllocError;
 use std::fs::File;
-use std::io::BufWriter;
+use std::io::{BufWriter, Write};
 use std::process::ExitCode;
 use std::{env, fs, io};
 use words::{Job, USAGE, read_words};
@@ -26,42 +26,52 @@ fn opened(rt: &HostRuntime, path: &str) -> Result<File, Stop> {
     }
 }
 
-/// Does a job, and tells on standard output.
-fn perform(rt: &HostRuntime, job: Job<'_>) -> Result<(), Stop> {
-    let (Job::Image { image }
-    | Job::Run { image, .. }
-    | Job::Trace { image, .. }
-    | Job::Why { image }) = job;
-    let mut file = opened(rt, image)?;
-    let mut out = match BufWriter::new(rt.alloc(), rt.stdout()) {
-        Ok(out) => out,
-        Err(error) => return Err(Stop::of(&error, Stop::Output)),
-    };
-    match job {
-        Job::Image { .. } => show_image(rt.alloc(), &mut file, &mut out),
+/// Does a job on its file, and tells on a writer.
+fn tell<O: Write>(
+    rt: &HostRuntime,
+    job: &Job<'_>,
+    file: &mut File,
+    out: &mut O,
+) -> Result<(), Stop> {
+    match *job {
+        Job::Image { .. } => show_image(rt.alloc(), file, out),
         Job::Run { windows, limit, .. } => run_image(
             rt.alloc(),
             windows,
             limit,
-            &mut file,
+            file,
             &mut rt.stdin(),
-            &mut out,
+            out,
             &mut Lines::new(rt),
         ),
         Job::Trace { windows, limit, .. } => trace_image(
             rt.alloc(),
             windows,
             limit,
-            &mut file,
+            file,
             &mut rt.stdin(),
-            &mut out,
+            out,
             &mut Lines::new(rt),
         ),
         Job::Why { .. } => {
-            explain_image(rt.alloc(), &mut file, &mut out)?;
+            explain_image(rt.alloc(), file, out)?;
             Ok(())
         }
     }
+}
+
+/// Does a job, and tells on standard output.
+fn perform(rt: &HostRuntime, job: &Job<'_>) -> Result<(), Stop> {
+    let (Job::Image { image }
+    | Job::Run { image, .. }
+    | Job::Trace { image, .. }
+    | Job::Why { image }) = *job;
+    let mut file = opened(rt, image)?;
+    let mut out = match BufWriter::new(rt.alloc(), rt.stdout()) {
+        Ok(out) => out,
+        Err(error) => return Err(Stop::of(&error, Stop::Output)),
+    };
+    tell(rt, job, &mut file, &mut out)
 }
 
 /// The words after the program's name.
@@ -79,7 +89,7 @@ fn answer(rt: &HostRuntime, words: &[String]) -> Result<u8, Stop> {
         let _ = eprint!(rt; "{USAGE}");
         return Ok(OTHER_WORDS);
     };
-    perform(rt, job)?;
+    perform(rt, &job)?;
     Ok(0)
 }
 

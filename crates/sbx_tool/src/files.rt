@@ -14,7 +14,18 @@ fn opened(rt: &HostRuntime, path: &str) -> Result<File, Stop> {
     }
 }
 
-/// Does a job on the file at a path, from a reader to a writer. What goes wrong within it is told on standard error.
+/// Does a job on an open file, from a reader to a writer. What goes wrong within it is told on standard error.
+fn status_on<I: Read, O: Write>(
+    rt: &HostRuntime,
+    job: &Job<'_>,
+    file: &mut File,
+    input: &mut I,
+    out: &mut O,
+) -> u8 {
+    exit_status(rt.alloc(), job, file, input, out, &mut rt.stderr())
+}
+
+/// Does a job on the file at a path, from a reader to a writer.
 pub fn done_on<I: Read, O: Write>(
     rt: &HostRuntime,
     job: &Job<'_>,
@@ -22,8 +33,10 @@ pub fn done_on<I: Read, O: Write>(
     input: &mut I,
     out: &mut O,
 ) -> Result<u8, Stop> {
-    let mut file = opened(rt, path)?;
-    Ok(exit_status(rt.alloc(), job, &mut file, input, out, &mut rt.stderr()))
+    match opened(rt, path) {
+        Ok(mut file) => Ok(status_on(rt, job, &mut file, input, out)),
+        Err(stop) => Err(stop),
+    }
 }
 
 /// Whether two paths have the same plain file.

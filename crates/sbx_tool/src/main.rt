@@ -38,25 +38,37 @@ fn words_of(rt: &HostRuntime) -> io::Result<Vec<String>> {
     Ok(words)
 }
 
-/// Does what the words ask for.
-fn perform(rt: &HostRuntime, words: &[String]) -> Result<u8, Stop> {
-    match read_words(rt.alloc(), words) {
-        Ok(job) => match job {
-            Job::Asm { source, object } => assemble_to(rt, &job, source, object),
-            Job::Run { image, .. } => converse(rt, &job, image),
-            Job::Verify { image } | Job::List { image } | Job::Trace { image, .. } => on_streams(
-                rt, &job, image,
-            ),
-        },
-        Err(Usage::Text(text)) => {
+/// Does a job.
+fn do_job(rt: &HostRuntime, job: &Job<'_>) -> Result<u8, Stop> {
+    match *job {
+        Job::Asm { source, object } => assemble_to(rt, job, source, object),
+        Job::Run { image, .. } => converse(rt, job, image),
+        Job::Verify { image } | Job::List { image } | Job::Trace { image, .. } => on_streams(
+            rt, job, image,
+        ),
+    }
+}
+
+/// Tells of words that ask for nothing.
+fn tell_usage(rt: &HostRuntime, usage: Usage) -> Result<u8, Stop> {
+    match usage {
+        Usage::Text(text) => {
             let _ = eprint!(rt; "{text}");
             Ok(USAGE)
         }
-        Err(Usage::Memory(want)) => Err(Stop::Memory(want)),
-        Err(Usage::NoRoom(_)) => {
+        Usage::Memory(want) => Err(Stop::Memory(want)),
+        Usage::NoRoom(_) => {
             let _ = eprintln!(rt; "memory");
             Ok(MEMORY)
         }
+    }
+}
+
+/// Does what the words ask for.
+fn perform(rt: &HostRuntime, words: &[String]) -> Result<u8, Stop> {
+    match read_words(rt.alloc(), words) {
+        Ok(job) => do_job(rt, &job),
+        Err(usage) => tell_usage(rt, usage),
     }
 }
 
