@@ -17,3 +17,15 @@ returns-in-Ok-extend_from_slice-clause-next g c =
     let output : c.extend_from_slice.new.self.items ≡ end.world.memory.device.output = search rules in
     next g.row.N parts c.args.input.now c.args.board.now.state end limits formed c.image-image.ensures.checked c.image-image.ensures.safe bytes c.requires _
     (subst (λ (s : State g.row.N). EndsOn g.row.N parts s end c.in-Ok.ended) c.set_back.ensures c.in-Ok.ensures.ended) output c.in-Ok.ensures.depth c.run_board.ensures.contained
+
+pub set_back-requires : goal.set_back-requires
+set_back-requires g c = assumption
+
+pub run_board-requires : goal.run_board-requires
+run_board-requires g c = assumption
+
+pub returns-in-Err-clause-fault : goal.returns-in-Err-clause-fault
+returns-in-Err-clause-fault g c = assumption
+
+pub port-requires : goal.port-requires
+port-requires g c = assumption

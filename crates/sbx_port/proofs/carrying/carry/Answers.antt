@@ -82,3 +82,18 @@ loop-left-smaller g c =
     comes_to_an_end g.row.N c.loop-left.left slice.result.turns slice.result.lacks c.in_ok-met.met c.loop-left.board.state slice.new.board.state c.exchange.new.board.state
     (g.R.Read.remaining c.loop-left.reader) (g.R.Read.remaining c.exchange.new.reader)
     slice.ensures.made slice.ensures.lacks slice.ensures.goes c.in_ok-met.ensures.fed
+
+pub ending-requires : goal.ending-requires
+ending-requires g c = assumption
+
+pub advance-slice-requires : goal.advance-slice-requires
+advance-slice-requires g c = assumption
+
+pub overflow_sub-left : goal.overflow_sub-left
+overflow_sub-left g c = assumption
+
+pub look-requires : goal.look-requires
+look-requires g c = assumption
+
+pub exchange-requires : goal.exchange-requires
+exchange-requires g c = assumption
