@@ -21,3 +21,9 @@ returns-in-Err-put_all-clause-part g c =
     turn_begun g.row.N c.args.functions.now c.args.number c.args.board.now.state c.step.new.self.state c.in-Ok.turn (g.W.Write.contents c.args.out.now)
     (g.W.Write.contents c.put_all.new.out) (string_bytes c.make_turn.new.self.line) c.as_bytes.result.now
     c.in-Ok.ensures.turn c.in-Ok-make_turn.ensures c.as_bytes.ensures.value c.in-Err-put_all.ensures.part
+
+pub step-requires : goal.step-requires
+step-requires g c = assumption
+
+pub make_turn-requires : goal.make_turn-requires
+make_turn-requires g c = assumption

@@ -28,3 +28,9 @@ returns-in_err-watch_turn-clause-part g c =
     rw p.1 (watch_begun g.row.N c.args.functions.now c.args.limit c.loop-done.done c.args.board.now.state c.loop-done.board.state
     (g.W.Write.contents c.args.out.now) (g.W.Write.contents c.loop-done.out) (g.W.Write.contents c.watch_turn.new.out)
     c.loop-done.invariant (sym c.ending.ensures ∙ c.in-None.is) (omega arith) c.in_err-watch_turn.ensures.part)
+
+pub ending-requires : goal.ending-requires
+ending-requires g c = assumption
+
+pub watch_turn-requires : goal.watch_turn-requires
+watch_turn-requires g c = assumption

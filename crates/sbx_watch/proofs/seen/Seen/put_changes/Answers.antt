@@ -1,0 +1,7 @@
+use Rattle.sbx_watch.proofs.seen.Seen.put_changes.Goals as goal
+
+pub put_registers-requires : goal.put_registers-requires
+put_registers-requires g c = assumption
+
+pub port-requires : goal.port-requires
+port-requires g c = assumption

@@ -1,0 +1,7 @@
+use Rattle.sbx_watch.proofs.teller.Teller.put_effects.Goals as goal
+
+pub fault_status-requires : goal.fault_status-requires
+fault_status-requires g c = assumption
+
+pub put_access-requires : goal.put_access-requires
+put_access-requires g c = assumption
