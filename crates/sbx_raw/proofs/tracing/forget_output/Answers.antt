@@ -6,3 +6,9 @@ returns-then-not-is_empty g c = search rules
 
 pub returns-else-not-is_empty : goal.returns-else-not-is_empty
 returns-else-not-is_empty g c = search rules
+
+pub port-requires : goal.port-requires
+port-requires g c = assumption
+
+pub port_mut-requires : goal.port_mut-requires
+port_mut-requires g c = assumption

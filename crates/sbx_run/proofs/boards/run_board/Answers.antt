@@ -80,3 +80,21 @@ returns-clause-state g c =
 pub returns-clause-contained : goal.returns-clause-contained
 returns-clause-contained g c =
     c.in_ok-outcome.ensures.contained c.args.accepted.now (subst (λ (p : Parts). Contains g.row.N p c.load.new.self.state) c.image-image.ensures.image c.load.ensures.contained)
+
+pub port-requires : goal.port-requires
+port-requires g c = assumption
+
+pub tells_bytes-requires : goal.tells_bytes-requires
+tells_bytes-requires g c κs = assumption
+
+pub load-requires : goal.load-requires
+load-requires g c = assumption
+
+pub run-requires : goal.run-requires
+run-requires g c = assumption
+
+pub page_use-requires : goal.page_use-requires
+page_use-requires g c = assumption
+
+pub unreachable-unreachable : goal.unreachable-unreachable
+unreachable-unreachable g c = assumption

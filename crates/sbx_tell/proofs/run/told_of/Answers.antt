@@ -8,3 +8,21 @@ returns-in-Ok-clause-told g c = record {
   fault_status = c.fault_status.ensures;
   place = c.reg.ensures;
 }
+
+pub port-requires : goal.port-requires
+port-requires g c = assumption
+
+pub outcome-requires : goal.outcome-requires
+outcome-requires g c = assumption
+
+pub page_use-requires : goal.page_use-requires
+page_use-requires g c = assumption
+
+pub fault_status-requires : goal.fault_status-requires
+fault_status-requires g c = assumption
+
+pub reg-requires : goal.reg-requires
+reg-requires g c = assumption
+
+pub returns-in-Err-clause-fault : goal.returns-in-Err-clause-fault
+returns-in-Err-clause-fault g c = assumption
