@@ -1,5 +1,6 @@
 mod Splits
 mod Steps
+mod Walks
 mod Tables
 mod Names
 mod Copies

@@ -1,14 +1,19 @@
 //! The assembler: a source becomes an image, or its first fault is told.
 #![tactic(auto)]
 
+mod annotations;
 mod assembling;
+mod data;
 mod draft;
 mod fault;
 mod finish;
+mod functions;
 mod growing;
 pub mod laws;
 mod lines;
 mod opening;
+mod own;
+mod parts;
 mod place;
 mod reading;
 mod regions;

@@ -1,8 +1,9 @@
 //! Places of a source: how far the code and the data have come.
-ghost use Rattle.std.specs.Prelude.{◌≡◌, ◌+◌, ◌*◌, ◌≤◌};
+ghost use Rattle.std.specs.Prelude.{◌≡◌, ◌+◌, ◌*◌, ◌≤◌, List, ◌∷◌};
 ghost use Rattle.sbx_directives.specs.Data.{bytes_of_width};
 ghost use Rattle.sbx_image.specs.Regions.{pages_for};
-ghost use Rattle.sbx_asm.specs.Addresses.{last_start, padding_of, section_room, start_behind};
+ghost use Rattle.sbx_asm.specs.Addresses.{place_at, last_start, padding_of, section_room, start_behind};
+ghost use Rattle.sbx_asm.specs.Items.{Item};
 ghost use Rattle.sbx_asm.specs.Stages.Places.{start, code_end, has_room, moved_on, with_code, with_data, address, directed, place_after};
 
 use crate::reading::Line;
@@ -168,5 +169,12 @@ impl Place {
             Ok(Statement::Instruction) => self.with_code(line.code_len()),
             Err(_) => self.with_code(4),
         }
+    }
+
+    /// Where the next line stands.
+    pub fn behind(self, line: &Line<'_>) -> Place
+        ensures { (before : List Item) → self ≡ place_at before → result ≡ place_at (line.now ∷ before) }
+    {
+        self.after(line)
     }
 }

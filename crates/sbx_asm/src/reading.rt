@@ -98,6 +98,13 @@ impl<'a> Line<'a> {
         }
     }
 
+    /// What stands behind the labels, or why there are no tokens.
+    pub fn said(&self) -> Result<Statement, TextFault>
+        ensures { result ≡ self.now.said }
+    {
+        self.said
+    }
+
     /// The tokens behind the labels.
     pub fn behind_labels(&self) -> &[Token]
         ensures { result.now ≡ self.now.tokens }
