@@ -8,6 +8,7 @@ mod StatementWords
 mod Numbers
 mod DataBytes
 mod Views
+mod Rooms
 mod Standing
 mod Labelling
 mod Following
