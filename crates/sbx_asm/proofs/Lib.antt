@@ -9,6 +9,7 @@ mod StatementWords
 mod Numbers
 mod DataBytes
 mod Views
+mod Rooms
 mod Standing
 mod Labelling
 mod Following

@@ -53,7 +53,7 @@ fn bytes_of(
     let mut here = place;
     for (at, line) in own.iter().enumerate() {
         push_bytes(&mut bytes, table, line, here)?;
-        here = here.behind(line);
+        here = here.after(line);
     }
     Ok(bytes)
 }
@@ -119,7 +119,7 @@ pub fn regions_of(
     let mut here = Place::start();
     push_own(&mut regions, alloc, table, true, here, up_to_region(lines))?;
     for (at, line) in lines.iter().enumerate() {
-        here = here.behind(line);
+        here = here.after(line);
         push_region(&mut regions, alloc, table, line, here, &lines[at + 1..])?;
     }
     Ok(regions.into_items())

@@ -52,10 +52,10 @@ fn blocks_of(
 {
     let mut blocks = Growing::new(alloc);
     blocks.push(block_with(alloc, place.next_word, up_to_block(own))?)?;
-    let mut here = place.behind(first);
+    let mut here = place.after(first);
     for (at, line) in own.iter().enumerate() {
         push_block(&mut blocks, alloc, line, here, &own[at + 1..])?;
-        here = here.behind(line);
+        here = here.after(line);
     }
     Ok(blocks.into_items())
 }
@@ -106,7 +106,7 @@ pub fn functions_of(alloc: Global, lines: &[Line<'_>]) -> Result<Items<Function>
     let mut here = Place::start();
     for (at, line) in lines.iter().enumerate() {
         push_function(&mut functions, alloc, line, here, &lines[at + 1..])?;
-        here = here.behind(line);
+        here = here.after(line);
     }
     Ok(functions.into_items())
 }

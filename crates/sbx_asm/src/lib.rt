@@ -9,6 +9,7 @@ mod fault;
 mod finish;
 mod functions;
 mod growing;
+mod kinds;
 pub mod laws;
 mod lines;
 mod opening;

@@ -10,7 +10,7 @@ use Rattle.sbx_asm.proofs.functions.blocks_of.Goals as goal
 pub loop-at-init : goal.loop-at-init
 loop-at-init c = λ before at. (
   c.args.first.now ∷ before,
-  c.behind-here.ensures before at,
+  c.after-here.ensures before at,
   ap (λ (blocks : List Block). blocks ++ each block_at (c.args.first.now ∷ before) c.args.own.now)
       (c.in_ok-push.ensures ∙ ap (λ (blocks : List Block). blocks ++ c.in_ok-block_with.field-0 ∷ []) c.new-blocks.ensures
       ∙ ap (λ (block : Block). block ∷ []) (c.in_ok-block_with.ensures ∙ (λ j. block_with (at j).next_word (c.up_to_block.ensures j)))),
@@ -20,7 +20,7 @@ pub loop-at-preserved : goal.loop-at-preserved
 loop-at-preserved c = λ before at.
     let so_far = c.loop-at.invariant before at in (
       c.index-own-at.result ∷ so_far.0,
-      c.behind-here-in-loop-at.ensures so_far.0 so_far.1,
+      c.after-here-in-loop-at.ensures so_far.0 so_far.1,
       one_more block_at c.loop-at.blocks c.push_block.new.blocks (block_with (code_address before) (up_to ends_block c.args.own.now) ∷ each block_at (c.args.first.now ∷ before) c.args.own.now) so_far.0 c.args.own.now c.loop-at.at c.index-own-at.result _
           c.loop-at-test.true c.index-own-at.is (rest_is c.args.own.now (c.loop-at.at + 1)) (c.in_ok-push_block.ensures so_far.0 so_far.1) so_far.2,
     )
