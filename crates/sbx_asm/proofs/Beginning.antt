@@ -24,9 +24,8 @@ use Rattle.sbx_asm.specs.Addresses.{data_length, section_room, data_offset, regi
 use Rattle.sbx_asm.specs.Rules.{Values, when, data_rules, value_rules, line_rules, faults_at}
 use Rattle.sbx_asm.specs.Images.{filled, region_with, bytes_at, region_at}
 use Rattle.sbx_asm.specs.Laws.{RegionsBeginWhereLabelsSay}
-use Rattle.sbx_asm.proofs.Views.{leaves_region, address_in_section, another_region}
-use Rattle.sbx_asm.proofs.Standing.{item}
-use Rattle.sbx_asm.proofs.Making.{cons_nil, nil_left, nil_right, nil_map}
+use Rattle.sbx_asm.proofs.Views.{item, leaves_region, address_in_section, another_region}
+use Rattle.sbx_asm.proofs.Nils.{cons_nil, nil_left, nil_right, nil_map}
 use Rattle.sbx_asm.proofs.ValueCounts.{SaysCount, ItemCounts}
 use Rattle.sbx_asm.proofs.Lying.{which_region, no_size, filled_length, filled_pages, begins_behind, newest, newest_more, length_is, line_clean, size_more, room_more, start_same, regions_here, clean_here, counts_here, worth}
 
@@ -100,7 +99,7 @@ no_cause false h = refl
 module _ (values : Values) where
   -- data in the code have a fault, so what stands there has no bytes
   none_in_code : (before : List Item) (number : ℕ) (labels : List (List ℕ)) (bytes : List ℕ) (tokens : List Token) (s : Said)
-      → section_after before ≡ Code → line_rules values before (item before number labels bytes tokens s) s ≡ [] → bytes_at values before (item before number labels bytes tokens s) [] ≡ []
+      → section_after before ≡ Code → line_rules values before (item number labels bytes tokens s) s ≡ [] → bytes_at values before (item number labels bytes tokens s) [] ≡ []
   none_in_code before number labels bytes tokens (Ok (statements.Directive (directives.Values w n))) e clean = cons_nil (sym (ap (λ (x : Section). when (is_code x) causes.Directive) e) ∙ nil_left (when (is_code (section_after before)) causes.Directive) _ (nil_left (data_rules before (bytes_of_width w * n)) (value_rules (data_of values bytes w tokens)) clean))
   none_in_code before number labels bytes tokens (Ok (statements.Directive (directives.Skip n))) e clean = cons_nil (sym (ap (λ (x : Section). when (is_code x) causes.Directive) e) ∙ nil_left (when (is_code (section_after before)) causes.Directive) _ clean)
   none_in_code before number labels bytes tokens (Ok (statements.Directive (directives.Align n))) e clean = cons_nil (sym (ap (λ (x : Section). when (is_code x) causes.Directive) e) ∙ nil_left (when (is_code (section_after before)) causes.Directive) _ clean)
@@ -148,7 +147,7 @@ module _ (values : Values) where
   -- the newest region, behind which the lines begin another one
   module _ (before : List Item) (bs : List ℕ) (size : data_offset before ≡ length bs) (room : length bs ≤ section_room) (number : ℕ) (labels : List (List ℕ)) (bytes : List ℕ) (tokens : List Token) (right : Bool) (clean : another_region before ≡ []) where
     abbrev new : Item
-    new = item before number labels bytes tokens (Ok (statements.Directive (directives.Region right)))
+    new = item number labels bytes tokens (Ok (statements.Directive (directives.Region right)))
 
     next : region_start before + 4096 * pages_for (length (filled (bs ++ []))) ≡ region_start (new ∷ before)
     next =
@@ -178,7 +177,7 @@ module _ (values : Values) where
 
   module _ (before : List Item) (bs : List ℕ) (size : data_offset before ≡ length bs) (room : length bs ≤ section_room) (j : Item) (rest : List Item) (mine : line_rules values before j j.said ≡ []) where
     abbrev it : Said → Item
-    it s = item before j.number j.labels j.bytes j.tokens s
+    it s = item j.number j.labels j.bytes j.tokens s
 
     over_region : is_region j ≡ true → (writable : Bool) (n : ℕ) (there : List Item) → 0 < length (bs ++ ahead before (j ∷ rest)) → ((right : Bool) → starts_at right [] (j ∷ before) rest n there) → starts_at writable bs before (j ∷ rest) (n + 1) there
     over_region e writable n there some h =

@@ -18,6 +18,7 @@ mod Pages
 mod Telling
 mod Turning
 mod Making
+mod Nils
 mod Agreement
 mod Meanings
 mod Numbering

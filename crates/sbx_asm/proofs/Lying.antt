@@ -24,11 +24,10 @@ use Rattle.sbx_asm.specs.Rules.{Values, duplicates, faults_of, least_of, when, d
 use Rattle.sbx_asm.specs.Images.{filled, region_with, bytes_at, region_at, image_of}
 use Rattle.sbx_asm.specs.Meaning.{source_image}
 use Rattle.sbx_asm.specs.Laws.{DataLieWhereLabelsSay}
-use Rattle.sbx_asm.proofs.Views.{address_in_section, another_region}
-use Rattle.sbx_asm.proofs.Standing.{item, in_room, data_within, low}
-use Rattle.sbx_asm.proofs.Making.{cons_nil, nil_left, nil_right, nil_map}
-use Rattle.sbx_asm.proofs.Agreement.{none_told}
-use Rattle.sbx_asm.proofs.Meanings.{judged_parts}
+use Rattle.sbx_asm.proofs.Views.{item, address_in_section, another_region}
+use Rattle.sbx_asm.proofs.Rooms.{in_room, data_within, low}
+use Rattle.sbx_asm.proofs.Nils.{cons_nil, nil_left, nil_right, nil_map}
+use Rattle.sbx_asm.proofs.Meanings.{none_told, judged_parts}
 use Rattle.sbx_asm.proofs.ValueCounts.{SaysCount, ItemCounts, items_count, values_length}
 
 -- ---- lists
@@ -165,7 +164,7 @@ has_room false h = cons_nil h
 
 module _ (values : Values) (before : List Item) (number : ℕ) (labels : List (List ℕ)) (bytes : List ℕ) (tokens : List Token) where
   abbrev it : Said → Item
-  it s = item before number labels bytes tokens s
+  it s = item number labels bytes tokens s
 
   -- the bytes of a line are as many as its length
   pub length_is : (s : Said) → SaysCount bytes tokens s → line_rules values before (it s) s ≡ [] → length (bytes_at values before (it s) []) ≡ data_length (data_offset before) s
@@ -270,7 +269,7 @@ module _ (values : Values) where
     -- one that begins one ends it
     module _ (number : ℕ) (labels : List (List ℕ)) (bytes : List ℕ) (tokens : List Token) (right : Bool) where
       abbrev new : Item
-      new = item before number labels bytes tokens (Ok (statements.Directive (directives.Region right)))
+      new = item number labels bytes tokens (Ok (statements.Directive (directives.Region right)))
 
       begins : (a : ℕ) (writable : Bool) (after : List Item) (b : ℕ) → another_region before ≡ [] → region_start (new ∷ before) ≤ a → Gives a right [] (new ∷ before) after b → Gives a writable bs before (new ∷ after) b
       begins a writable after b clean past h =
@@ -319,7 +318,7 @@ module _ (values : Values) where
       by more true e =
           let region = which_region j j.said e in
           let lain : Gives (data_address (behind (j ∷ before) front) + k) region.0 [] (j ∷ before) (front ++ i ∷ after) b = more [] region.0 i after k b (no_size before j e) (omega arith) says.1 later h in
-          let it = λ (s : Said). item before j.number j.labels j.bytes j.tokens s in
+          let it = λ (s : Said). item j.number j.labels j.bytes j.tokens s in
           subst (λ (s : Said). line_rules values before (it s) s ≡ [] → region_start (it s ∷ before) ≤ (data_address (behind (j ∷ before) front) + k) → Gives (data_address (behind (j ∷ before) front) + k) region.0 [] (it s ∷ before) (front ++ i ∷ after) b → Gives (data_address (behind (j ∷ before) front) + k) writable bs before (it s ∷ (front ++ i ∷ after)) b) (sym region.1)
           (begins before bs size room j.number j.labels j.bytes j.tokens region.0 (data_address (behind (j ∷ before) front) + k) writable (front ++ i ∷ after) b) mine past lain
       by more false e =

@@ -2,9 +2,10 @@
 use Rattle.std.proofs.Common.{◌≡◌, ◌⊎◌, inl, inr, ℕ, ◌+◌, ◌≤◌, Bool, true, false, cond, ltb, List, [], ◌∷◌, ◌++◌, length, map, Option, None, Some, Result, Ok, Err, refl, sym, ap, ◌∙◌, subst, append_assoc, arith}
 use Rattle.std.specs.Prelude.{◌||◌, nat_lt, if◌then◌else◌}
 use Rattle.std.specs.Bool.{Decides, one_answer}
+use Rattle.std.specs.Option.{is_some}
 use Rattle.std.specs.List.{AllByRecursion, fold, list_any}
 use Rattle.std.specs.Str.{bytes_eq}
-use Rattle.std.proofs.lemmas.Bool.{le-ltb, ltb-true, ltb-false}
+use Rattle.std.proofs.lemmas.Bool.{true≢false, le-ltb, ltb-true, ltb-false}
 use Rattle.std.proofs.lemmas.List.{map-append}
 use Rattle.std.proofs.lemmas.Slice.Eq.{bytes_eq-Decides}
 use Rattle.sbx_text.specs.declared.Token.{Token}
@@ -18,25 +19,29 @@ use Rattle.sbx_directives.specs.Lines.{labels_first}
 use Rattle.sbx_directives.specs.Directives.{statement_of}
 use Rattle.sbx_asm.specs.declared.fault.AsmFault.{AsmFault}
 use Rattle.sbx_asm.specs.declared.fault.Cause.TheVariants as causes
-use Rattle.sbx_asm.specs.declared.opening.Head.{Head}
-use Rattle.sbx_asm.specs.declared.place.Place.{Place}
-use Rattle.sbx_asm.specs.declared.draft.Draft.{Draft}
 use Rattle.sbx_asm.specs.Faults.{at, told, is_earlier}
 use Rattle.sbx_asm.specs.Items.{Item, Said, label_names, read_line, items_of, each, behind}
 use Rattle.sbx_asm.specs.Addresses.{Label, labels_at, all_labels, worth_in, values_of, code_address, section_after, labelled, names_said, is_called}
 use Rattle.sbx_asm.specs.Rules.{Values, when, duplicates, faults_of, least_of}
 use Rattle.sbx_asm.specs.Images.{words_at, image_of}
 use Rattle.sbx_asm.specs.Meaning.{whole_cause, judged, source_image}
-use Rattle.sbx_asm.specs.Laws.{CodeIsItsStatements, WordsLookAheadByLabelsAlone, BlankLinesSayNothing, BlankLinesChangeNothing, renamed, LabelsMayBeRenamed, IsLeastOf, TheLeastFaultIsTold}
-use Rattle.sbx_asm.specs.declared.place.Section.{Section}
-use Rattle.sbx_asm.specs.Stages.Places.{place_after, address_in}
-use Rattle.sbx_asm.specs.Stages.Drafts.{close_block, close_headed, close_function, close_region, leave_region, closed, numbered_line, statement_does, said_does, draft_item, empty_draft}
-use Rattle.sbx_asm.specs.Stages.Whole.{parts_in}
-use Rattle.sbx_asm.proofs.Views.{address_in_section, told_again, kept}
-use Rattle.sbx_asm.proofs.Labelling.{fold_append}
-use Rattle.sbx_asm.proofs.Standing.{place_of, stands, in_section}
+use Rattle.sbx_asm.specs.Laws.{CodeIsItsStatements, WordsLookAheadByLabelsAlone, BlankLinesSayNothing, renamed, LabelsMayBeRenamed, IsLeastOf, TheLeastFaultIsTold}
+use Rattle.sbx_asm.proofs.Views.{told_again, kept}
 use Rattle.sbx_asm.proofs.Orders.{key, earlier_by_key}
-use Rattle.sbx_asm.proofs.Agreement.{none_told, start_draft, made, fault_is, parts_are}
+
+-- ---- no fault
+
+told_stays : (a : AsmFault) (fs : List AsmFault) → is_some (fold told (Some a) fs) ≡ true
+told_stays a [] = refl
+told_stays a (f ∷ fs) = by (told_stays f fs) (told_stays a fs) (is_earlier f a)
+  where
+    by : is_some (fold told (Some f) fs) ≡ true → is_some (fold told (Some a) fs) ≡ true → (t : Bool) → is_some (fold told (cond t (Some f) (Some a)) fs) ≡ true
+    by h k true = h
+    by h k false = k
+
+pub none_told : (fs : List AsmFault) → least_of fs ≡ None → fs ≡ []
+none_told [] h = refl
+none_told (f ∷ fs) h = absurd (true≢false (sym (told_stays f fs) ∙ ap is_some h))
 
 -- ---- the code is the words of the statements
 
@@ -79,80 +84,6 @@ read_blank number line (Err f) h = absurd (cc)
 
 pub blank_says : BlankLinesSayNothing
 blank_says number line h = read_blank number line (tokens_of line) h
-
--- where the lines before make the same place, the labels are the same
-at_place : (xs : List Item) (x : Section) → address_in_section xs x ≡ address_in x (place_of xs)
-at_place xs x = sym (in_section xs x)
-
-labels_same : (xs ys : List Item) (j : Item) → place_of xs ≡ place_of ys → labels_at xs j [] ≡ labels_at ys j []
-labels_same xs ys j p =
-    let here : address_in_section xs (section_after xs) ≡ address_in_section ys (section_after ys)
-    = at_place xs (section_after xs) ∙ ap (λ (x : Place). address_in x.section x) p ∙ sym (at_place ys (section_after ys)) in
-    λ k. map (labelled j.number (here k)) j.labels ++ map (labelled j.number (p k).next_word) (names_said j.bytes j.said)
-
-one_more : (xs : List Item) (j : Item) → place_after j j.said (place_of xs) ≡ place_of (j ∷ xs)
-one_more xs j = stands xs j.number j.labels j.bytes j.tokens j.said
-
-each_same : (js xs ys : List Item) → place_of xs ≡ place_of ys → each labels_at xs js ≡ each labels_at ys js
-each_same [] xs ys p = refl
-each_same (j ∷ js) xs ys p =
-    let own = labels_same xs ys j p in
-    let more = each_same js (j ∷ xs) (j ∷ ys) (sym (one_more xs j) ∙ ap (place_after j j.said) p ∙ one_more ys j) in
-    λ k. own k ++ more k
-
-module _ (i : Item) (after : List Item) (bare : i.labels ≡ []) (silent : i.said ≡ Ok statements.Nothing) where
-  stays : (before : List Item) → place_of (i ∷ before) ≡ place_of before
-  unfolding place_after
-  stays before = sym (one_more before i) ∙ ap (λ (s : Said). place_after i s (place_of before)) silent
-
-  skipped : (front before : List Item) → each labels_at before (front ++ i ∷ after) ≡ each labels_at before (front ++ after)
-  skipped [] before =
-      (let none : labels_at before i after ≡ [] = (λ k. map (labelled i.number (address_in_section before (section_after before))) (bare k) ++ map (labelled i.number (code_address before)) (names_said i.bytes (silent k))) in
-      ap (λ (ls : List Label). ls ++ each labels_at (i ∷ before) after) none)
-      ∙ each_same after (i ∷ before) before (stays before)
-  skipped (j ∷ front) before = ap (λ (ls : List Label). labels_at before j [] ++ ls) (skipped front (j ∷ before))
-
-  -- a draft keeps all but the number of its line
-  step : (values : Values) (d : Draft) → i.number ≤ 1000000 → draft_item values d i ≡ record d { line = i.number }
-  unfolding draft_item numbered_line statement_does place_after
-  step values d few =
-      ap (λ (s : Said). said_does values i s (numbered_line i.number d)) silent
-      ∙ (let small : nat_lt 1000000 i.number ≡ false = le-ltb 1000000 i.number few in λ k. record d { line = i.number; fault = fold told d.fault (map (at i.number) (when (small k) causes.Limit)) })
-
--- which is told nowhere else
-module _ (values : Values) (d : Draft) (n : ℕ) where
-  abbrev moved : Draft
-  moved = record d { line = n }
-
-  all_closed : (o : Option Head) → ((close_headed o (close_region moved)).fault ≡ (close_headed o (close_region d)).fault) × (parts_in (close_headed o (close_region moved)) ≡ parts_in (close_headed o (close_region d)))
-  unfolding close_region leave_region close_block parts_in
-  all_closed (Some x) = (refl, refl)
-  all_closed None = (refl, refl)
-
-  line_free : (js : List Item)
-      → ((closed (fold (draft_item values) moved js)).fault ≡ (closed (fold (draft_item values) d js)).fault)
-      × (parts_in (closed (fold (draft_item values) moved js)) ≡ parts_in (closed (fold (draft_item values) d js)))
-  unfolding close_function close_region leave_region draft_item numbered_line
-  line_free [] = all_closed d.function.head
-  line_free (j ∷ js) = (refl, refl)
-
-pub blank_changes : BlankLinesChangeNothing
-unfolding made
-blank_changes front after i bare silent few =
-    let xs : List Item = front ++ i ∷ after in
-    let ys : List Item = front ++ after in
-    let labels : all_labels xs ≡ all_labels ys = skipped i after bare silent front [] in
-    let whole = λ (ls : List Label) (zs : List Item). closed (fold (draft_item (worth_in ls)) (empty_draft (least_of (duplicates [] ls))) zs) in
-    let values : Values = values_of ys in
-    let d : Draft = fold (draft_item values) (start_draft ys) front in
-    let same : made xs ≡ closed (fold (draft_item values) (record d { line = i.number }) after)
-    = ap (λ (ls : List Label). whole ls xs) labels
-    ∙ ap closed (fold_append (draft_item values) (start_draft ys) front (i ∷ after) ∙ ap (λ (e : Draft). fold (draft_item values) e after) (step i after bare silent values d few)) in
-    let other : made ys ≡ closed (fold (draft_item values) d after) = ap closed (fold_append (draft_item values) (start_draft ys) front after) in
-    let free = line_free values d i.number after in
-    let told_same : least_of (faults_of xs) ≡ least_of (faults_of ys)
-    = sym (fault_is xs) ∙ ap (λ (e : Draft). e.fault) same ∙ free.0 ∙ sym (ap (λ (e : Draft). e.fault) other) ∙ fault_is ys in
-    (told_same, λ none. sym (parts_are xs (told_same ∙ none)) ∙ ap parts_in same ∙ free.1 ∙ sym (ap parts_in other) ∙ parts_are ys none)
 
 -- ---- labels by other names
 

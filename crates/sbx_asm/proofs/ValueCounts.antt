@@ -29,7 +29,7 @@ use Rattle.sbx_asm.specs.Rules.{Values, value_rules}
 use Rattle.sbx_asm.proofs.Views.{bytes_meant}
 use Rattle.sbx_asm.proofs.Wholes.{map_all}
 use Rattle.sbx_asm.proofs.Numbers.{then_all, then_any}
-use Rattle.sbx_asm.proofs.Making.{cons_nil}
+use Rattle.sbx_asm.proofs.Nils.{cons_nil}
 
 -- ---- what a directive says of its values
 

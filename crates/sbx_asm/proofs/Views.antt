@@ -2,6 +2,7 @@
 use Rattle.std.specs.Prelude.{ℕ, Bool, true, false, not, ◌&&◌, ◌||◌, nat_le, if◌then◌else◌, List, [], ◌∷◌, ◌++◌, map, Result, Ok, Err}
 use Rattle.std.specs.List.{list_any, flat_map}
 use Rattle.std.specs.Result.{result_unwrap_or}
+use Rattle.sbx_text.specs.declared.Token.{Token}
 use Rattle.v8_formats.specs.declared.instr.Instr.{Instr}
 use Rattle.v8_formats.specs.Spelling.{spelling}
 use Rattle.v8_syntax.specs.declared.fault.SyntaxFault.{SyntaxFault}
@@ -22,6 +23,9 @@ use Rattle.sbx_asm.specs.Rules.{Values, when, acts}
 use Rattle.sbx_asm.specs.Meaning.{whole_cause}
 
 -- ---- a line by what it says
+
+abbrev pub item : ℕ → List (List ℕ) → List ℕ → List Token → Said → Item
+item number labels bytes tokens s = record { number = number; labels = labels; bytes = bytes; tokens = tokens; said = s }
 
 abbrev pub saying : Said → Item
 saying s = record { number = 0; labels = []; bytes = []; tokens = []; said = s }

@@ -1,5 +1,5 @@
-use Rattle.sbx_asm.proofs.Meanings.{blank_says, blank_changes}
-use Rattle.sbx_asm.proofs.Numbering.{numbers_show}
+use Rattle.sbx_asm.proofs.Meanings.{blank_says}
+use Rattle.sbx_asm.proofs.Numbering.{numbers_show, blank_changes}
 use Rattle.sbx_asm.proofs.laws.blank_lines_change_numbers_alone.Goals as goal
 
 pub returns-clause-nothing : goal.returns-clause-nothing
