@@ -25,7 +25,8 @@ use Rattle.sbx_asm.specs.Images.{filled, region_with, bytes_at, region_at, image
 use Rattle.sbx_asm.specs.Meaning.{source_image}
 use Rattle.sbx_asm.specs.Laws.{DataLieWhereLabelsSay}
 use Rattle.sbx_asm.proofs.Views.{address_in_section, another_region}
-use Rattle.sbx_asm.proofs.Standing.{item, in_room, data_within, low}
+use Rattle.sbx_asm.proofs.Rooms.{in_room, data_within, low}
+use Rattle.sbx_asm.proofs.Standing.{item}
 use Rattle.sbx_asm.proofs.Making.{cons_nil, nil_left, nil_right, nil_map}
 use Rattle.sbx_asm.proofs.Agreement.{none_told}
 use Rattle.sbx_asm.proofs.Meanings.{judged_parts}

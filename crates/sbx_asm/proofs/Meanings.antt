@@ -33,7 +33,7 @@ use Rattle.sbx_asm.specs.Stages.Places.{place_after, address_in}
 use Rattle.sbx_asm.specs.Stages.Drafts.{close_block, close_headed, close_function, close_region, leave_region, closed, numbered_line, statement_does, said_does, draft_item, empty_draft}
 use Rattle.sbx_asm.specs.Stages.Whole.{parts_in}
 use Rattle.sbx_asm.proofs.Views.{address_in_section, told_again, kept}
-use Rattle.sbx_asm.proofs.Labelling.{fold_append}
+use Rattle.sbx_asm.proofs.Surveys.{fold_append}
 use Rattle.sbx_asm.proofs.Standing.{place_of, stands, in_section}
 use Rattle.sbx_asm.proofs.Orders.{key, earlier_by_key}
 use Rattle.sbx_asm.proofs.Agreement.{none_told, start_draft, made, fault_is, parts_are}
