@@ -13,7 +13,8 @@ use Rattle.sbx_asm.specs.Images.{version_with, image_of}
 use Rattle.sbx_asm.specs.Meaning.{judged, source_image}
 use Rattle.sbx_asm.specs.Stages.Drafts.{draft_item, empty_draft, closed}
 use Rattle.sbx_asm.specs.Stages.Whole.{labels_in, draft_in, parts_in, image_made}
-use Rattle.sbx_asm.proofs.Labelling.{labels_are, labels_told, fold_append}
+use Rattle.sbx_asm.proofs.Labelling.{labels_are, labels_told}
+use Rattle.sbx_asm.proofs.Surveys.{fold_append}
 use Rattle.sbx_asm.proofs.Following.{Follows}
 use Rattle.sbx_asm.proofs.Turning.{all_told}
 use Rattle.sbx_asm.proofs.Making.{nil_right, all_made}

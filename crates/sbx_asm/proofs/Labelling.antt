@@ -14,54 +14,15 @@ use Rattle.sbx_asm.specs.Items.{Item, each}
 use Rattle.sbx_asm.specs.Addresses.{Label, code_address, section_after, names_said, labelled, labels_at, all_labels, worth_in, values_of, is_called}
 use Rattle.sbx_asm.specs.Rules.{Values, duplicates, least_of}
 use Rattle.sbx_asm.specs.Stages.Places.{address, place_after}
-use Rattle.sbx_asm.specs.Stages.Labels.{Labels, with_label, added_to, add, add_at, survey_item}
-use Rattle.sbx_asm.specs.Stages.Whole.{labels_in}
+use Rattle.sbx_asm.specs.declared.survey.Survey.{Survey}
+use Rattle.sbx_asm.specs.Tables.{worth}
+use Rattle.sbx_asm.specs.Stages.Labels.{Labels, with_label, added_to, add, add_at, survey_item, labels_of}
+use Rattle.sbx_asm.specs.Stages.Drafts.{empty_draft, draft_item}
+use Rattle.sbx_asm.specs.Stages.Whole.{labels_in, draft_in}
 use Rattle.sbx_asm.proofs.Views.{address_in_section, told_again}
 use Rattle.sbx_asm.proofs.Tables.{same_values}
+use Rattle.sbx_asm.proofs.Surveys.{fold_append, or_else, worth_push, known, keeps_at, takes_at, more_labels}
 use Rattle.sbx_asm.proofs.Standing.{place_of, stands, in_section}
-
-pub fold_append : {A B : Type 0} (f : B → A → B) (a : B) (xs ys : List A) → fold f a (xs ++ ys) ≡ fold f (fold f a xs) ys
-fold_append f a [] ys = refl
-fold_append f a (x ∷ xs) ys = fold_append f (f a x) xs ys
-
--- ---- what a name is worth
-
-abbrev or_else : Option ℕ → Option ℕ → Option ℕ
-or_else (Some a) o = Some a
-or_else None o = o
-
-or_none : (o : Option ℕ) → or_else o None ≡ o
-or_none (Some a) = refl
-or_none None = refl
-
-worth_push : (ls : List Label) (l : Label) (q : List ℕ) → worth_in (ls ++ l ∷ []) q ≡ or_else (worth_in ls q) (cond (bytes_eq l.name q) (Some l.address) None)
-worth_push [] l q = refl
-worth_push (k ∷ ls) l q = by (worth_push ls l q) (bytes_eq k.name q)
-  where
-    by : worth_in (ls ++ l ∷ []) q ≡ or_else (worth_in ls q) (cond (bytes_eq l.name q) (Some l.address) None) → (t : Bool) → cond t (Some k.address) (worth_in (ls ++ l ∷ []) q) ≡ or_else (cond t (Some k.address) (worth_in ls q)) (cond (bytes_eq l.name q) (Some l.address) None)
-    by more true = refl
-    by more false = more
-
-known : (ls : List Label) (name : List ℕ) → list_any (is_called name) ls ≡ is_some (worth_in ls name)
-known [] name = refl
-known (l ∷ ls) name = by (known ls name) (bytes_eq l.name name)
-  where
-    by : list_any (is_called name) ls ≡ is_some (worth_in ls name) → (t : Bool) → (t || list_any (is_called name) ls) ≡ is_some (cond t (Some l.address) (worth_in ls name))
-    by more true = refl
-    by more false = more
-
-same_bytes : (xs ys : List ℕ) → bytes_eq xs ys ≡ true → xs ≡ ys
-same_bytes xs ys h = (bytes_eq-Decides xs ys).0 h
-
--- a name that has a value keeps it, and one that has none takes it
-module _ (ls : List Label) (name : List ℕ) (a : ℕ) where
-  keeps_at : (v : ℕ) → worth_in ls name ≡ Some v → (q : List ℕ) (t : Bool) → bytes_eq name q ≡ t → worth_in ls q ≡ or_else (worth_in ls q) (cond t (Some a) None)
-  keeps_at v h q true e = let k : worth_in ls q ≡ Some v = ap (worth_in ls) (sym (same_bytes name q e)) ∙ h in k ∙ sym (ap (λ o. or_else o (Some a)) k)
-  keeps_at v h q false e = sym (or_none (worth_in ls q))
-
-  takes_at : worth_in ls name ≡ None → (q : List ℕ) (t : Bool) → bytes_eq name q ≡ t → cond t (Some a) (worth_in ls q) ≡ or_else (worth_in ls q) (cond t (Some a) None)
-  takes_at h q true e = let k : worth_in ls q ≡ None = ap (worth_in ls) (sym (same_bytes name q e)) ∙ h in sym (ap (λ o. or_else o (Some a)) k)
-  takes_at h q false e = sym (or_none (worth_in ls q))
 
 -- ---- labels one after the other
 
@@ -94,13 +55,6 @@ module _ (p : Place) (number : ℕ) (address : ℕ) where
       ∙ all_of (fold told f again) (ls ++ l ∷ []) names
       ∙ ap (λ (g : Option AsmFault). knowing p g ((ls ++ l ∷ []) ++ more)) (sym (fold_append told f again (duplicates (ls ++ l ∷ []) more)))
       ∙ ap (λ (ks : List Label). knowing p (fold told f (again ++ duplicates (ls ++ l ∷ []) more)) ks) (append_assoc ls (l ∷ []) more)
-
-more_labels : (front before after : List Label) → duplicates front (before ++ after) ≡ duplicates front before ++ duplicates (front ++ before) after
-more_labels front [] after = ap (λ (ls : List Label). duplicates ls after) (sym (append-nil front))
-more_labels front (l ∷ before) after =
-    let again : List AsmFault = told_again (list_any (is_called l.name) front) l.line in
-    ap (λ (fs : List AsmFault). again ++ fs) (more_labels (front ++ l ∷ []) before after ∙ ap (λ (ls : List Label). duplicates (front ++ l ∷ []) before ++ duplicates ls after) (append_assoc front (l ∷ []) before))
-    ∙ sym (append_assoc again (duplicates (front ++ l ∷ []) before) (duplicates (front ++ l ∷ before) after))
 
 -- ---- line by line
 
@@ -144,3 +98,10 @@ labels_are items = (surveyed [] items None []).0
 pub labels_told : (items : List Item) → (labels_in items).fault ≡ least_of (duplicates [] (all_labels items))
 unfolding labels_in
 labels_told items = (surveyed [] items None []).1
+
+-- the draft with what a survey found
+pub same_draft : (s : Survey) (items : List Item) → worth s.table ≡ values_of items → s.fault ≡ least_of (duplicates [] (all_labels items)) → draft_in (labels_of s) items ≡ draft_in (labels_in items) items
+unfolding draft_in
+same_draft s items worths told_so =
+    ap (λ (vs : Values). fold (draft_item vs) (empty_draft s.fault) items) (worths ∙ sym (labels_are items))
+    ∙ ap (λ (o : Option AsmFault). fold (draft_item (labels_in items).values) (empty_draft o) items) (told_so ∙ sym (labels_told items))

@@ -11,6 +11,7 @@ mod DataBytes
 mod Views
 mod Rooms
 mod Standing
+mod Surveys
 mod Labelling
 mod Following
 mod Orders

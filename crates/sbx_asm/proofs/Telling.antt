@@ -33,7 +33,7 @@ use Rattle.sbx_asm.specs.Stages.Places.{has_room, code_end}
 use Rattle.sbx_asm.specs.Stages.Drafts as stages
 use Rattle.sbx_asm.specs.Stages.Drafts.{close_block, close_headed, close_function, headed, open_block, begin_function, begin_block_of, begin_block, param_if, add_param, result_if, add_result, depth_by, add_depth, cell_if, add_cell, term_if, add_term, fuel_if, fuel_by, add_fuel, services_by, add_services, stack_by, add_stack, noted, noted_where, begun, leave_region, close_region, choose_data, begin_region, with_bytes, data_checked, with_data, with_zeros, add_values, add_zeros, instruction_checked, with_words, instruction_does, statement_does, said_does}
 use Rattle.sbx_asm.proofs.Views.{saying, cell_places, term_places, leaves_region, range_rules, statement_rules, another_region}
-use Rattle.sbx_asm.proofs.Labelling.{fold_append}
+use Rattle.sbx_asm.proofs.Surveys.{fold_append}
 use Rattle.sbx_asm.proofs.Standing.{item, place_of}
 use Rattle.sbx_asm.proofs.Following.{Follows, bit, capped_room, capped_least, one_longer, same_annotations, same_ranges}
 

@@ -34,7 +34,7 @@ use Rattle.sbx_asm.specs.Stages.Places.{has_room, place_after}
 use Rattle.sbx_asm.specs.Stages.Drafts as stages
 use Rattle.sbx_asm.specs.Stages.Drafts.{close_block, close_headed, close_function, headed, open_block, begin_function, begin_block_of, begin_block, param_if, add_param, result_if, add_result, depth_by, add_depth, cell_if, add_cell, term_if, add_term, fuel_if, fuel_by, add_fuel, services_by, add_services, stack_by, add_stack, noted, noted_where, begun, leave_region, close_region, choose_data, begin_region, with_bytes, closed, data_checked, with_data, with_zeros, add_values, add_zeros, instruction_checked, with_words, instruction_does, statement_does, said_does, numbered_line, draft_item}
 use Rattle.sbx_asm.proofs.Views.{leaves_region, is_unknown, empty_block, empty_region}
-use Rattle.sbx_asm.proofs.Labelling.{fold_append}
+use Rattle.sbx_asm.proofs.Surveys.{fold_append}
 use Rattle.sbx_asm.proofs.Standing.{item, place_of, stands}
 use Rattle.sbx_asm.proofs.Following.{Follows, follows, and_true}
 use Rattle.sbx_asm.proofs.Orders.{told_first}

@@ -10,20 +10,9 @@ use crate::draft::Draft;
 use crate::fault::AsmFault;
 use crate::finish::finish;
 use crate::reading::{Line, read_lines};
-use crate::survey::Survey;
+use crate::survey::{Survey, survey_lines};
 use sbx_image::Image;
 use std::alloc::{AllocError, Global};
-
-/// The labels of all lines.
-fn survey_lines<'a>(alloc: Global, lines: &[Line<'a>]) -> Result<Survey<'a>, AllocError>
-    ensures { IfOk result (λ survey. labels_of survey ≡ labels_in lines.now) }
-{
-    let mut survey = Survey::new(alloc);
-    for line in lines {
-        survey.add_line(line)?;
-    }
-    Ok(survey)
-}
 
 /// What all lines make of an empty draft, where the labels are known.
 fn draft_lines(alloc: Global, survey: &Survey<'_>, lines: &[Line<'_>]) -> Result<Draft, AllocError>

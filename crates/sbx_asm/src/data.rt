@@ -1,6 +1,6 @@
 //! The data of lines without faults, a region of its own lines.
 ghost use Rattle.std.specs.Prelude.{◌≡◌, ◌++◌, [], ◌∷◌, List, IfOk, true, Bool};
-ghost use Rattle.sbx_asm.specs.Stages.Labels.{worth};
+ghost use Rattle.sbx_asm.specs.Tables.{worth};
 ghost use Rattle.sbx_asm.specs.Items.{Item, each, up_to, is_region};
 ghost use Rattle.sbx_asm.specs.Addresses.{place_at};
 ghost use Rattle.sbx_asm.specs.Images.{filled, region_with, bytes_at, region_at, regions_of};
@@ -27,7 +27,7 @@ fn push_bytes(
     match line.said() {
         Ok(Statement::Directive(Directive::Values(width, _))) => {
             let scope = Scope { table, here: 0 };
-            match bytes.push_values(width, &scope, line.bytes, line.behind_labels()) {
+            match bytes.push_values(width, &scope, line.bytes(), line.behind_labels()) {
                 Ok(()) | Err(DataFault::UnknownSymbol | DataFault::Malformed) => Ok(()),
                 Err(DataFault::Memory(want)) => Err(AllocError::from(want)),
             }

@@ -2,7 +2,7 @@
 ghost use Rattle.std.specs.Prelude.{◌≡◌, IfOk, MatchResult, Ok, Err, drop, ◌*◌};
 ghost use Rattle.sbx_text.specs.Tokens.{tokens_of};
 ghost use Rattle.v8_syntax.specs.Statements.{statement_length};
-ghost use Rattle.sbx_asm.specs.Items.{item_of, items_of};
+ghost use Rattle.sbx_asm.specs.Items.{item_of, items_of, label_names};
 ghost use Rattle.sbx_asm.specs.Addresses.{code_length};
 
 use crate::growing::Growing;
@@ -99,11 +99,32 @@ impl<'a> Line<'a> {
         }
     }
 
+    /// Its number, from 1.
+    pub fn number(&self) -> usize
+        ensures { result ≡ self.now.number }
+    {
+        self.number
+    }
+
+    /// Its bytes, without its end.
+    pub fn bytes(&self) -> &'a [u8]
+        ensures { result.now ≡ self.now.bytes }
+    {
+        self.bytes
+    }
+
     /// What stands behind the labels, or why there are no tokens.
     pub fn said(&self) -> Result<Statement, TextFault>
         ensures { result ≡ self.now.said }
     {
         self.said
+    }
+
+    /// How many labels it has, and tokens that begin with them.
+    pub fn labels(&self) -> (usize, &[Token])
+        ensures { label_names self.now.bytes result.0 result.1.now ≡ self.now.labels }
+    {
+        (self.label_count, self.tokens.as_slice())
     }
 
     /// The tokens behind the labels.

@@ -4,7 +4,7 @@ ghost use Rattle.v8_formats.specs.Spelling.{spelling};
 ghost use Rattle.v8_syntax.specs.Statements.{source_meaning};
 ghost use Rattle.sbx_directives.specs.Data.{data_of};
 ghost use Rattle.sbx_asm.specs.Addresses.{is_code};
-ghost use Rattle.sbx_asm.specs.Stages.Labels.{worth};
+ghost use Rattle.sbx_asm.specs.Tables.{worth};
 ghost use Rattle.sbx_asm.specs.Stages.Drafts.{data_checked, with_bytes, with_zeros, add_values, add_zeros, directive_does, instruction_checked, begun, with_words, instruction_does, statement_does, line_does, numbered_line, draft_item};
 
 use crate::draft::Draft;

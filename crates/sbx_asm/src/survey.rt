@@ -1,10 +1,12 @@
 //! Where each label stands.
-ghost use Rattle.std.specs.Prelude.{◌≡◌, IfOk, MatchOption, [], ◌∷◌};
+ghost use Rattle.std.specs.Prelude.{◌≡◌, IfOk, List, MatchOption, None, [], ◌∷◌, ◌++◌, map};
 ghost use Rattle.std.specs.List.{fold};
 ghost use Rattle.sbx_directives.specs.Lines.{text_of};
-ghost use Rattle.sbx_asm.specs.Items.{label_names};
-ghost use Rattle.sbx_asm.specs.Addresses.{names_said};
-ghost use Rattle.sbx_asm.specs.Stages.Labels.{no_lines, labels_of, add, add_at, survey_item};
+ghost use Rattle.sbx_asm.specs.Faults.{told};
+ghost use Rattle.sbx_asm.specs.Items.{Item, label_names};
+ghost use Rattle.sbx_asm.specs.Addresses.{Label, all_labels, labelled, labels_at, names_said, place_at, values_of};
+ghost use Rattle.sbx_asm.specs.Rules.{duplicates};
+ghost use Rattle.sbx_asm.specs.Tables.{IsSurvey, worth};
 
 use crate::fault::{AsmFault, Cause, told};
 use crate::place::Place;
@@ -15,11 +17,10 @@ use sbx_text::{TextFault, Token};
 use std::alloc::{AllocError, Global};
 use v8_syntax::after_first;
 
-/// The labels of the lines so far, the place of the next line, and the fault that is told so far.
+/// What labels are worth, and the fault that is told of those that stand twice.
 #[derive(Drop)]
 pub struct Survey<'a> {
     pub table: Table<'a>,
-    pub place: Place,
     pub fault: Option<AsmFault>,
 }
 
@@ -37,21 +38,19 @@ fn name_said(line: &[u8], said: Result<Statement, TextFault>) -> Option<Name>
 }
 
 impl<'a> Survey<'a> {
-    /// Before the first line.
-    pub fn new(alloc: Global) -> Survey<'a>
-        ensures { labels_of result ≡ no_lines }
+    /// Before the first label.
+    fn new(alloc: Global) -> Survey<'a>
+        ensures { IsSurvey [] result }
     {
         Survey {
             table: Table::new(alloc),
-            place: Place::start(),
             fault: None,
         }
     }
 
-    /// A label at an address. Where it has a value already, that stays and a fault is told at the line of that number.
-    #[tactic(auto, unfolding(crate::specs::Stages::Labels::add))]
+    /// One more label. Where its name has a value already, that stays and the label is told at the line of that number.
     fn add(&mut self, number: usize, name: &'a [u8], address: u32) -> Result<(), AllocError>
-        ensures { IfOk result (λ _. labels_of self.new ≡ add number name.now address (labels_of self.old)) }
+        ensures { IfOk result (λ _. (labels : List Label) → IsSurvey labels self.old → IsSurvey (labels ++ labelled number address name.now ∷ []) self.new) }
     {
         match self.table.value(name) {
             Some(_) => {
@@ -67,7 +66,7 @@ impl<'a> Survey<'a> {
     }
 
     /// So many labels of a line at an address, which stand in front of `tokens`.
-    fn labels(
+    fn add_labels(
         &mut self,
         number: usize,
         address: u32,
@@ -75,7 +74,7 @@ impl<'a> Survey<'a> {
         count: usize,
         tokens: &[Token],
     ) -> Result<(), AllocError>
-        ensures { IfOk result (λ _. labels_of self.new ≡ fold (add_at number address) (labels_of self.old) (label_names line.now count tokens.now)) }
+        ensures { IfOk result (λ _. (labels : List Label) → IsSurvey labels self.old → IsSurvey (labels ++ map (labelled number address) (label_names line.now count tokens.now)) self.new) }
     {
         let mut rest = tokens;
         for _ in 0..count {
@@ -94,14 +93,14 @@ impl<'a> Survey<'a> {
     }
 
     /// The name of a function or of a block.
-    fn name(
+    fn add_name(
         &mut self,
         number: usize,
         address: u32,
         line: &'a [u8],
         said: Result<Statement, TextFault>,
     ) -> Result<(), AllocError>
-        ensures { IfOk result (λ _. labels_of self.new ≡ fold (add_at number address) (labels_of self.old) (names_said line.now said)) }
+        ensures { IfOk result (λ _. (labels : List Label) → IsSurvey labels self.old → IsSurvey (labels ++ map (labelled number address) (names_said line.now said)) self.new) }
     {
         match name_said(line, said) {
             Some(name) => self.add(number, text_of(line, name), address),
@@ -109,21 +108,28 @@ impl<'a> Survey<'a> {
         }
     }
 
-    /// One more line.
-    #[tactic(auto, unfolding(crate::specs::Stages::Labels::survey_item))]
-    pub fn add_line(&mut self, line: &Line<'a>) -> Result<(), AllocError>
-        ensures { IfOk result (λ _. labels_of self.new ≡ survey_item (labels_of self.old) line.now) }
+    /// The labels of one more line, at its place.
+    fn add_line(&mut self, place: Place, line: &Line<'a>) -> Result<(), AllocError>
+        ensures { IfOk result (λ _. (labels : List Label) (before : List Item) → place ≡ place_at before → IsSurvey labels self.old → IsSurvey (labels ++ labels_at before line.now []) self.new) }
     {
-        let place = self.place;
-        self.labels(
-            line.number,
-            place.old_address(),
-            line.bytes,
-            line.label_count,
-            line.tokens.as_slice(),
-        )?;
-        self.name(line.number, place.next_word, line.bytes, line.said)?;
-        self.place = place.old_after(line);
+        let number = line.number();
+        let (count, tokens) = line.labels();
+        self.add_labels(number, place.address(), line.bytes(), count, tokens)?;
+        self.add_name(number, place.next_word, line.bytes(), line.said())?;
         Ok(())
     }
+}
+
+/// The labels of all lines.
+pub fn survey_lines<'a>(alloc: Global, lines: &[Line<'a>]) -> Result<Survey<'a>, AllocError>
+    ensures values { IfOk result (λ survey. worth survey.table ≡ values_of lines.now) }
+    ensures fault { IfOk result (λ survey. survey.fault ≡ fold told None (duplicates [] (all_labels lines.now))) }
+{
+    let mut survey = Survey::new(alloc);
+    let mut place = Place::start();
+    for line in lines {
+        survey.add_line(place, line)?;
+        place = place.after(line);
+    }
+    Ok(survey)
 }

@@ -1,6 +1,9 @@
 //! What labels are worth.
-ghost use Rattle.std.specs.Prelude.{◌≡◌, IfOk};
-ghost use Rattle.sbx_asm.specs.Stages.Labels.{worth, no_labels, with_label};
+ghost use Rattle.std.specs.Prelude.{◌≡◌, IfOk, [], Some};
+ghost use Rattle.std.specs.Map.{update};
+ghost use Rattle.std.specs.Str.{bytes_eq};
+ghost use Rattle.sbx_asm.specs.Addresses.{worth_in};
+ghost use Rattle.sbx_asm.specs.Tables.{worth};
 
 use std::alloc::{AllocError, Global};
 use std::collections::HashMap;
@@ -14,7 +17,7 @@ pub struct Table<'a> {
 impl<'a> Table<'a> {
     /// No labels.
     pub fn new(alloc: Global) -> Table<'a>
-        ensures { worth result ≡ no_labels }
+        ensures { worth result ≡ worth_in [] }
     {
         Table {
             entries: HashMap::new(alloc),
@@ -30,7 +33,7 @@ impl<'a> Table<'a> {
 
     /// Puts one more label into the table.
     pub fn put(&mut self, name: &'a [u8], address: u32) -> Result<(), AllocError>
-        ensures { IfOk result (λ _. worth self.new ≡ with_label (worth self.old) name.now address) }
+        ensures { IfOk result (λ _. worth self.new ≡ update bytes_eq (worth self.old) name.now (Some address)) }
     {
         self.entries.insert(name, address)?;
         Ok(())

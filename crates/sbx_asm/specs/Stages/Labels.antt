@@ -3,16 +3,15 @@ use Rattle.std.specs.Prelude.{ℕ, List, Option, Some, None}
 use Rattle.std.specs.List.{fold}
 use Rattle.std.specs.Map.{update}
 use Rattle.std.specs.Str.{bytes_eq}
-use Rattle.std.specs.HashMap.{get_by}
 use Rattle.sbx_asm.specs.declared.fault.AsmFault.{AsmFault}
 use Rattle.sbx_asm.specs.declared.fault.Cause.TheVariants as causes
 use Rattle.sbx_asm.specs.declared.place.Place.{Place}
-use Rattle.sbx_asm.specs.declared.table.Table.{Table}
 use Rattle.sbx_asm.specs.declared.survey.Survey.{Survey}
 use Rattle.sbx_asm.specs.Faults.{told, at}
 use Rattle.sbx_asm.specs.Items.{Item}
 use Rattle.sbx_asm.specs.Addresses.{names_said}
 use Rattle.sbx_asm.specs.Rules.{Values}
+use Rattle.sbx_asm.specs.Tables.{worth}
 use Rattle.sbx_asm.specs.Stages.Places.{start, address, place_after}
 
 abbrev pub no_labels : Values
@@ -22,10 +21,6 @@ no_labels name = None
 abbrev pub with_label : Values → List ℕ → ℕ → Values
 with_label values name address = update bytes_eq values name (Some address)
 
--- what a table holds
-abbrev pub worth : Table → Values
-worth t name = get_by (λ k. bytes_eq name k.now) t.entries
-
 -- the labels so far, the place of the next line, and the fault that is told so far
 pub record Labels : Type 0 where
   pub values : Values
@@ -33,7 +28,7 @@ pub record Labels : Type 0 where
   pub fault : Option AsmFault
 
 abbrev pub labels_of : Survey → Labels
-labels_of s = record { values = worth s.table; place = s.place; fault = s.fault }
+labels_of s = record { values = worth s.table; place = start; fault = s.fault }
 
 -- the first of two equal labels has the value, and the second is told
 abbrev pub added_to : ℕ → List ℕ → ℕ → Labels → Option ℕ → Labels

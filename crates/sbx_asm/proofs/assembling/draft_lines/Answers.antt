@@ -1,4 +1,4 @@
-use Rattle.sbx_asm.specs.Stages.Labels.{worth}
+use Rattle.sbx_asm.specs.Tables.{worth}
 use Rattle.sbx_asm.specs.Stages.Drafts.{empty_draft, draft_item}
 use Rattle.sbx_asm.specs.Stages.Whole.{draft_in}
 use Rattle.sbx_asm.proofs.Steps.{one_more}
