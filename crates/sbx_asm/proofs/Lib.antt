@@ -1,4 +1,5 @@
-mod Splits
+mod FirstLines
+mod Keeping
 mod Steps
 mod Walks
 mod Tables

@@ -3,6 +3,7 @@ pub mod Lines
 pub mod Items
 pub mod Addresses
 pub mod Rules
+pub mod Reads
 pub mod Tables
 pub mod Images
 pub mod Meaning

@@ -9,8 +9,9 @@ ghost use Rattle.sbx_asm.specs.Meaning.{source_image, Gives};
 use crate::draft::Draft;
 use crate::fault::AsmFault;
 use crate::finish::finish;
-use crate::reading::{Line, read_lines};
+use crate::reading::Line;
 use crate::survey::{Survey, survey_lines};
+use crate::text::Text;
 use sbx_image::Image;
 use std::alloc::{AllocError, Global};
 
@@ -41,7 +42,8 @@ fn draft_of(alloc: Global, lines: &[Line<'_>]) -> Result<Draft, AllocError>
 fn image_made(alloc: Global, source: &[u8]) -> Result<Image, AsmFault>
     ensures { Gives result (image_made (items_of source.now)) }
 {
-    let lines = read_lines(alloc, source)?;
+    let text = Text::read(alloc, source)?;
+    let lines = text.lines(alloc)?;
     let draft = draft_of(alloc, lines.as_slice())?;
     finish(lines.len() + 1, draft)
 }

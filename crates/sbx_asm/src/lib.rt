@@ -22,6 +22,7 @@ mod scope;
 mod statements;
 mod survey;
 mod table;
+mod text;
 
 pub use assembling::assemble;
 pub use fault::{AsmFault, Cause};

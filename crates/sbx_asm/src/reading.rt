@@ -1,15 +1,12 @@
-//! The lines of a source, each of them read once.
-ghost use Rattle.std.specs.Prelude.{◌≡◌, IfOk, MatchResult, Ok, Err, drop, ◌*◌};
+//! A line of a source, as it was read.
+ghost use Rattle.std.specs.Prelude.{◌≡◌, Ok, Err, drop, ◌*◌};
 ghost use Rattle.sbx_text.specs.Tokens.{tokens_of};
 ghost use Rattle.v8_syntax.specs.Statements.{statement_length};
-ghost use Rattle.sbx_asm.specs.Items.{item_of, items_of, label_names};
+ghost use Rattle.sbx_asm.specs.Items.{item_of, label_names};
 ghost use Rattle.sbx_asm.specs.Addresses.{code_length};
 
-use crate::growing::Growing;
-use crate::lines::first_line;
 use sbx_directives::{Statement, label_count, read_statement};
-use sbx_text::{TextFault, Token, tokens};
-use std::alloc::{AllocError, Global};
+use sbx_text::{TextFault, Token};
 use std::marker::Model;
 use v8_syntax::length_of;
 
@@ -20,9 +17,9 @@ pub struct Line<'a> {
     pub number: usize,
     pub bytes: &'a [u8],
     /// None where the line has a fault of its text.
-    pub tokens: Vec<Token>,
+    tokens: &'a [Token],
     /// How many labels its tokens begin with.
-    pub label_count: usize,
+    label_count: usize,
     /// How many words what stands behind them takes, if it is an instruction.
     words: usize,
     /// What stands behind the labels, or why there are no tokens.
@@ -36,25 +33,9 @@ impl<'a> Model for Line<'a> {
 
     ghost Value = { Item };
 
-    ghost view = { λ l. record { number = l.number; labels = label_names l.bytes.now l.label_count l.tokens.items; bytes = l.bytes.now; tokens = drop (2 * l.label_count) l.tokens.items; said = l.said } };
+    ghost view = { λ l. record { number = l.number; labels = label_names l.bytes.now l.label_count l.tokens.now; bytes = l.bytes.now; tokens = drop (2 * l.label_count) l.tokens.now; said = l.said } };
 
-    ghost invariant = { λ l. l.words ≡ statement_length l.bytes.now (drop (2 * l.label_count) l.tokens.items) };
-}
-
-/// The tokens of a line, or why it has none.
-fn read_tokens(alloc: Global, line: &[u8]) -> Result<Result<Vec<Token>, TextFault>, AllocError>
-    ensures { IfOk result (λ read. MatchResult read (λ found. tokens_of line.now ≡ Ok found.items) (λ fault. tokens_of line.now ≡ Err fault)) }
-{
-    match tokens(alloc, line) {
-        Ok(found) => Ok(Ok(found)),
-        Err(fault) => match fault {
-            TextFault::Memory(want) => Err(AllocError::from(want)),
-            TextFault::NotAscii => Ok(Err(TextFault::NotAscii)),
-            TextFault::BadCharacter => Ok(Err(TextFault::BadCharacter)),
-            TextFault::NumberTooLarge => Ok(Err(TextFault::NumberTooLarge)),
-            TextFault::LineTooLong => Ok(Err(TextFault::LineTooLong)),
-        },
-    }
+    ghost invariant = { λ l. l.words ≡ statement_length l.bytes.now (drop (2 * l.label_count) l.tokens.now) };
 }
 
 /// The tokens behind so many labels.
@@ -69,33 +50,33 @@ fn behind_labels(tokens: &[Token], count: usize) -> &[Token]
 }
 
 impl<'a> Line<'a> {
-    /// Reads a line of that number.
-    fn read(alloc: Global, number: usize, bytes: &'a [u8]) -> Result<Line<'a>, AllocError>
-        ensures { IfOk result (λ line. line ≡ item_of (number, bytes.now)) }
+    /// The line of that number with its tokens.
+    pub fn with_tokens(number: usize, bytes: &'a [u8], tokens: &'a [Token]) -> Line<'a>
+        ensures { Ok tokens.now ≡ tokens_of bytes.now → result ≡ item_of (number, bytes.now) }
     {
-        match read_tokens(alloc, bytes)? {
-            Ok(tokens) => {
-                let label_count = label_count(bytes, tokens.as_slice());
-                let behind = behind_labels(tokens.as_slice(), label_count);
-                let words = length_of(bytes, behind);
-                let said = Ok(read_statement(bytes, behind));
-                Ok(Line {
-                    number,
-                    bytes,
-                    tokens,
-                    label_count,
-                    words,
-                    said,
-                })
-            }
-            Err(fault) => Ok(Line {
-                number,
-                bytes,
-                tokens: Vec::new(alloc),
-                label_count: 0,
-                words: 1,
-                said: Err(fault),
-            }),
+        let label_count = label_count(bytes, tokens);
+        let behind = behind_labels(tokens, label_count);
+        Line {
+            number,
+            bytes,
+            tokens,
+            label_count,
+            words: length_of(bytes, behind),
+            said: Ok(read_statement(bytes, behind)),
+        }
+    }
+
+    /// The line of that number that has no tokens for a fault.
+    pub fn with_fault(number: usize, bytes: &'a [u8], fault: TextFault) -> Line<'a>
+        ensures { Err fault ≡ tokens_of bytes.now → result ≡ item_of (number, bytes.now) }
+    {
+        Line {
+            number,
+            bytes,
+            tokens: &[],
+            label_count: 0,
+            words: 1,
+            said: Err(fault),
         }
     }
 
@@ -121,17 +102,17 @@ impl<'a> Line<'a> {
     }
 
     /// How many labels it has, and tokens that begin with them.
-    pub fn labels(&self) -> (usize, &[Token])
+    pub fn labels(&self) -> (usize, &'a [Token])
         ensures { label_names self.now.bytes result.0 result.1.now ≡ self.now.labels }
     {
-        (self.label_count, self.tokens.as_slice())
+        (self.label_count, self.tokens)
     }
 
     /// The tokens behind the labels.
-    pub fn behind_labels(&self) -> &[Token]
+    pub fn tokens(&self) -> &'a [Token]
         ensures { result.now ≡ self.now.tokens }
     {
-        behind_labels(self.tokens.as_slice(), self.label_count)
+        behind_labels(self.tokens, self.label_count)
     }
 
     /// How many bytes of code its instruction takes.
@@ -151,20 +132,4 @@ impl<'a> Line<'a> {
             _ => 0,
         }
     }
-}
-
-/// The lines of a source.
-pub fn read_lines<'a>(alloc: Global, source: &'a [u8]) -> Result<Growing<Line<'a>>, AllocError>
-    ensures { IfOk result (λ lines. lines ≡ items_of source.now) }
-{
-    let mut lines = Growing::new(alloc);
-    let mut number = 0;
-    let mut rest = source;
-    while rest.len() > 0 {
-        number += 1;
-        let (line, after) = first_line(rest);
-        lines.push(Line::read(alloc, number, line)?)?;
-        rest = after;
-    }
-    Ok(lines)
 }

@@ -68,7 +68,7 @@ impl Draft {
         match self
             .region
             .bytes
-            .push_values(width, &scope, line.bytes, line.behind_labels())
+            .push_values(width, &scope, line.bytes, line.tokens())
         {
             Ok(()) => {}
             Err(DataFault::UnknownSymbol) => {
@@ -155,7 +155,7 @@ impl Draft {
             table,
             here: self.place.next_word,
         };
-        match parse_instr(line.bytes, line.behind_labels(), &scope) {
+        match parse_instr(line.bytes, line.tokens(), &scope) {
             Ok(instructions) => push_words(&mut self.words, instructions.as_slice())?,
             Err(fault) => self.note(Cause::Syntax(fault)),
         }

@@ -1,0 +1,31 @@
+-- The tokens of a source's lines, as they are kept: those of all lines one after the other, and how many of them each line has.
+use Rattle.std.specs.Prelude.{◌≡◌, ℕ, ◌+◌, List, [], ◌∷◌, take, drop, length, map, Result, Ok, Err}
+use Rattle.sbx_text.specs.declared.Token.{Token}
+use Rattle.sbx_text.specs.declared.fault.TextFault.{TextFault}
+use Rattle.sbx_text.specs.Tokens.{tokens_of}
+use Rattle.sbx_asm.specs.declared.text.Found.{Found}
+use Rattle.sbx_asm.specs.declared.text.Found.TheVariants.{Tokens, Fault}
+use Rattle.sbx_asm.specs.declared.text.Kept.{Kept}
+
+abbrev pub count_of : Found → ℕ
+count_of (Tokens n) = n
+count_of (Fault f) = 0
+
+-- a line's tokens are the first of those that are left
+abbrev pub own : Found → List Token → Result (List Token) TextFault
+own (Tokens n) ts = Ok (take n ts)
+own (Fault f) ts = Err f
+
+-- what each line has
+abbrev pub each_own : List Found → List Token → List (Result (List Token) TextFault)
+each_own [] ts = []
+each_own (f ∷ fs) ts = own f ts ∷ each_own fs (drop (count_of f) ts)
+
+abbrev pub counted : List Found → ℕ
+counted [] = 0
+counted (f ∷ fs) = count_of f + counted fs
+
+-- what is kept of some lines
+pub record Keeps (lines : List (List ℕ)) (found : List Found) (tokens : List Token) : Type 0 where
+  pub read : each_own found tokens ≡ map tokens_of lines
+  pub counts : counted found ≡ length tokens

@@ -1,0 +1,135 @@
+//! The tokens of a source, each line of it read once.
+ghost use Rattle.std.specs.Prelude.{◌≡◌, ◌≤◌, ◌∷◌, ◌++◌, [], ℕ, IfOk, List, MatchResult, Ok, Err, drop, length};
+ghost use Rattle.sbx_text.specs.Tokens.{tokens_of};
+ghost use Rattle.sbx_asm.specs.Lines.{lines_of};
+ghost use Rattle.sbx_asm.specs.Items.{item_of, items_of};
+ghost use Rattle.sbx_asm.specs.Reads.{Keeps, count_of, own};
+
+use crate::growing::Growing;
+use crate::lines::first_line;
+use crate::reading::Line;
+use sbx_text::{TextFault, Token, tokens};
+use std::alloc::{AllocError, Global};
+use std::marker::Model;
+
+/// How many tokens a line has, or why it has none.
+#[derive(Clone, Copy)]
+pub enum Found {
+    Tokens(usize),
+    Fault(TextFault),
+}
+
+/// The tokens of some lines one after the other, and what was found in each line.
+#[derive(Drop)]
+pub struct Kept {
+    pub tokens: Vec<Token>,
+    pub found: Vec<Found>,
+}
+
+/// A source with the tokens of its lines. Contracts see the source.
+#[derive(Drop)]
+pub struct Text<'a> {
+    source: &'a [u8],
+    kept: Kept,
+}
+
+impl<'a> Model for Text<'a> {
+    ghost use Rattle.std.specs.Prelude.{ℕ, List};
+    ghost use Rattle.sbx_asm.specs.Lines.{lines_of};
+    ghost use Rattle.sbx_asm.specs.Reads.{Keeps};
+
+    ghost Value = { List ℕ };
+
+    ghost view = { λ t. t.source.now };
+
+    ghost invariant = { λ t. Keeps (lines_of t.source.now) t.kept.found.items t.kept.tokens.items };
+}
+
+/// The tokens of a line, or why it has none.
+fn read_tokens(alloc: Global, line: &[u8]) -> Result<Result<Vec<Token>, TextFault>, AllocError>
+    ensures { IfOk result (λ read. MatchResult read (λ found. tokens_of line.now ≡ Ok found.items) (λ fault. tokens_of line.now ≡ Err fault)) }
+{
+    match tokens(alloc, line) {
+        Ok(found) => Ok(Ok(found)),
+        Err(fault) => match fault {
+            TextFault::Memory(want) => Err(AllocError::from(want)),
+            TextFault::NotAscii => Ok(Err(TextFault::NotAscii)),
+            TextFault::BadCharacter => Ok(Err(TextFault::BadCharacter)),
+            TextFault::NumberTooLarge => Ok(Err(TextFault::NumberTooLarge)),
+            TextFault::LineTooLong => Ok(Err(TextFault::LineTooLong)),
+        },
+    }
+}
+
+impl Kept {
+    /// Reads one more line.
+    fn add_line(&mut self, alloc: Global, line: &[u8]) -> Result<(), AllocError>
+        ensures { IfOk result (λ _. (lines : List (List ℕ)) → Keeps lines self.old.found.items self.old.tokens.items → Keeps (lines ++ line.now ∷ []) self.new.found.items self.new.tokens.items) }
+    {
+        match read_tokens(alloc, line)? {
+            Ok(read) => {
+                self.tokens.extend_from_slice(read.as_slice())?;
+                self.found.push(Found::Tokens(read.len()))?;
+            }
+            Err(fault) => self.found.push(Found::Fault(fault))?,
+        }
+        Ok(())
+    }
+}
+
+/// A line of that number that has these tokens, of which it takes its own, and those behind them.
+fn with_own<'a>(
+    number: usize,
+    bytes: &'a [u8],
+    found: Found,
+    tokens: &'a [Token],
+) -> (Line<'a>, &'a [Token])
+    requires { count_of found ≤ length tokens.now }
+    ensures line { own found tokens.now ≡ tokens_of bytes.now → result.0 ≡ item_of (number, bytes.now) }
+    ensures rest { result.1.now ≡ drop (count_of found) tokens.now }
+{
+    match found {
+        Found::Tokens(count) => {
+            let (own, rest) = tokens.split_at(count);
+            (Line::with_tokens(number, bytes, own), rest)
+        }
+        Found::Fault(fault) => (Line::with_fault(number, bytes, fault), tokens),
+    }
+}
+
+impl<'a> Text<'a> {
+    /// Reads a source.
+    pub fn read(alloc: Global, source: &'a [u8]) -> Result<Text<'a>, AllocError>
+        ensures { IfOk result (λ text. text ≡ source.now) }
+    {
+        let mut kept = Kept {
+            tokens: Vec::new(alloc),
+            found: Vec::new(alloc),
+        };
+        let mut rest = source;
+        while rest.len() > 0 {
+            let (line, after) = first_line(rest);
+            kept.add_line(alloc, line)?;
+            rest = after;
+        }
+        Ok(Text { source, kept })
+    }
+
+    /// Its lines.
+    pub fn lines(&self, alloc: Global) -> Result<Growing<Line<'_>>, AllocError>
+        ensures { IfOk result (λ lines. lines ≡ items_of self.now) }
+    {
+        let found = self.kept.found.as_slice();
+        let mut lines = Growing::new(alloc);
+        let mut rest = self.source;
+        let mut tokens = self.kept.tokens.as_slice();
+        for index in 0..found.len() {
+            let (bytes, after) = first_line(rest);
+            let (line, others) = with_own(index + 1, bytes, found[index], tokens);
+            lines.push(line)?;
+            rest = after;
+            tokens = others;
+        }
+        Ok(lines)
+    }
+}
