@@ -20,8 +20,8 @@ loop-preserved c = λ labels held.
       with_one c.args.number c.args.address so_far.0 c.text_of.result.now,
       c.in_ok-add.ensures so_far.0 so_far.1,
       rw (c.text_of.ensures, c.after_first-rest.ensures)
-      (goes_on (with_one c.args.number c.args.address) c.args.line.now c.args.count c.loop.counter so_far.0 total c.in-Some.first.now c.in-Some.after.now c.loop-test.true
-      (at_tokens (with_one c.args.number c.args.address) c.args.line.now c.args.count c.loop.counter so_far.0 total c.loop.rest.now _ c.in-Some.ensures.cases.0 so_far.2)),
+          (goes_on (with_one c.args.number c.args.address) c.args.line.now c.args.count c.loop.counter so_far.0 total c.in-Some.first.now c.in-Some.after.now c.loop-test.true
+          (at_tokens (with_one c.args.number c.args.address) c.args.line.now c.args.count c.loop.counter so_far.0 total c.loop.rest.now _ c.in-Some.ensures.cases.0 so_far.2)),
     )
 
 pub returns-in_default : goal.returns-in_default
