@@ -6,6 +6,7 @@ mod draft;
 mod fault;
 mod finish;
 mod growing;
+mod kinds;
 pub mod laws;
 mod lines;
 mod opening;
