@@ -3,6 +3,8 @@ mod Steps
 mod Tables
 mod Names
 mod Copies
+mod Contexts
+mod Noted
 mod Wholes
 mod StatementWords
 mod Numbers

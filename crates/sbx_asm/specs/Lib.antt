@@ -3,6 +3,7 @@ pub mod Lines
 pub mod Items
 pub mod Addresses
 pub mod Rules
+pub mod Contexts
 pub mod Images
 pub mod Meaning
 pub mod Stages

@@ -2,6 +2,8 @@
 #![tactic(auto)]
 
 mod assembling;
+mod checking;
+mod context;
 mod draft;
 mod fault;
 mod finish;
@@ -9,10 +11,13 @@ mod growing;
 mod kinds;
 pub mod laws;
 mod lines;
+mod notes;
 mod opening;
+mod operands;
 mod place;
 mod reading;
 mod regions;
+mod rules;
 mod scope;
 mod statements;
 mod survey;

@@ -67,6 +67,30 @@ fn behind_labels(tokens: &[Token], count: usize) -> &[Token]
     }
 }
 
+/// Tokens of a line.
+#[derive(Drop)]
+pub struct LineTokens {
+    tokens: Vec<Token>,
+    count: usize,
+}
+
+impl Model for LineTokens {
+    ghost use Rattle.std.specs.Prelude.{◌*◌, drop, List};
+    ghost use Rattle.sbx_text.specs.declared.Token.{Token};
+
+    ghost Value = { List Token };
+
+    ghost view = { λ l. drop (2 * l.count) l.tokens.items };
+}
+
+impl LineTokens {
+    pub fn as_slice(&self) -> &[Token]
+        ensures { result.now ≡ self.now }
+    {
+        behind_labels(self.tokens.as_slice(), self.count)
+    }
+}
+
 impl<'a> Line<'a> {
     /// Reads a line of that number.
     fn read(alloc: Global, number: usize, bytes: &'a [u8]) -> Result<Line<'a>, AllocError>
@@ -103,6 +127,34 @@ impl<'a> Line<'a> {
         ensures { result.now ≡ self.now.tokens }
     {
         behind_labels(self.tokens.as_slice(), self.label_count)
+    }
+
+    pub fn number(&self) -> usize
+        ensures { result ≡ self.now.number }
+    {
+        self.number
+    }
+
+    pub fn bytes(&self) -> &'a [u8]
+        ensures { result.now ≡ self.now.bytes }
+    {
+        self.bytes
+    }
+
+    pub fn said(&self) -> Result<Statement, TextFault>
+        ensures { result ≡ self.now.said }
+    {
+        self.said
+    }
+
+    pub fn tokens(&self, alloc: Global) -> Result<LineTokens, AllocError>
+        ensures { IfOk result (λ ts. ts ≡ self.now.tokens) }
+    {
+        let _ = alloc;
+        Ok(LineTokens {
+            tokens: self.tokens.clone()?,
+            count: self.label_count,
+        })
     }
 
     /// How many bytes of code its instruction takes.
