@@ -10,6 +10,7 @@ mod StatementWords
 mod Numbers
 mod DataBytes
 mod Views
+mod Rooms
 mod Standing
 mod Labelling
 mod Following

@@ -17,28 +17,11 @@ use Rattle.sbx_asm.specs.Items.{Item, Said, is_region}
 use Rattle.sbx_asm.specs.Addresses.{padding_of, code_length, data_length, code_offset, section_room, up_to_room, last_start, start_behind, region_start, code_address, data_offset, section_after}
 use Rattle.sbx_asm.specs.Stages.Places.{moved_on, with_code, with_data, address_in, place_after}
 use Rattle.sbx_asm.proofs.Views.{address_in_section}
+use Rattle.sbx_asm.proofs.Rooms.{in_room, code_within, data_within, low}
 
 -- what some lines, the nearest first, make of the place
 abbrev pub place_of : List Item → Place
 place_of before = record { section = section_after before; next_word = code_address before; region_start = region_start before; region_bytes = data_offset before }
-
-pub in_room : (size : ℕ) → size ≤ section_room → up_to_room size ≡ size
-in_room size h = ap (λ (t : Bool). cond t size section_room) (le-leb size section_room h)
-
-within_room : (size : ℕ) → up_to_room size ≤ section_room
-within_room size = cond_both (leb size section_room) size section_room (λ m. m ≤ section_room) (λ h. leb-true size section_room h) (λ _. omega arith)
-
-pub code_within : (before : List Item) → code_offset before ≤ section_room
-code_within [] = omega arith
-code_within (i ∷ before) = within_room (code_offset before + code_length i)
-
-pub data_within : (before : List Item) → data_offset before ≤ section_room
-data_within [] = omega arith
-data_within (i ∷ before) = by (is_region i)
-  where
-    by : (begins : Bool) → (if begins then 0 else up_to_room (data_offset before + data_length (data_offset before) i.said)) ≤ section_room
-    by true = omega arith
-    by false = within_room (data_offset before + data_length (data_offset before) i.said)
 
 -- where so much of a section is filled
 module _ (base offset n : ℕ) (small : offset ≤ section_room) where
@@ -63,19 +46,6 @@ module _ (base offset n : ℕ) (small : offset ≤ section_room) where
 -- so where nothing is added
 unmoved : (offset : ℕ) → offset ≤ section_room → offset ≡ up_to_room (offset + 0)
 unmoved offset small = let e : offset ≡ offset + 0 = omega arith in e ∙ sym (in_room (offset + 0) (omega arith))
-
--- a region begins below the end of the words' addresses, and so does what stands in it
-low_start : (start size : ℕ) → start_behind start size ≤ last_start
-low_start start size =
-    cond_both (leb (start + 4096 * pages_for size) last_start) (start + 4096 * pages_for size) last_start (λ m. m ≤ last_start) (λ h. leb-true (start + 4096 * pages_for size) last_start h) (λ _. omega arith)
-
-low_with : (start size : ℕ) (begins : Bool) → start ≤ last_start → (if begins then start_behind start size else start) ≤ last_start
-low_with start size true h = low_start start size
-low_with start size false h = h
-
-pub low : (before : List Item) → region_start before ≤ last_start
-low [] = omega arith
-low (i ∷ before) = low_with (region_start before) (data_offset before) (is_region i) (low before)
 
 pub in_section : (before : List Item) (x : Section) → address_in x (place_of before) ≡ address_in_section before x
 in_section before Code = refl

@@ -10,6 +10,7 @@ use Rattle.sbx_directives.specs.Lines.{text_of}
 use Rattle.sbx_directives.specs.Data.{bytes_of_width}
 use Rattle.sbx_asm.specs.declared.place.Section.{Section}
 use Rattle.sbx_asm.specs.declared.place.Section.TheVariants.{Code, Data}
+use Rattle.sbx_asm.specs.declared.place.Place.{Place}
 use Rattle.sbx_asm.specs.Items.{Item, Said, each, is_text, is_data, is_region}
 
 -- ---- lengths, in bytes
@@ -84,6 +85,10 @@ section_after (i ∷ before) = if is_text i then Code else (if is_data i || is_r
 -- where the next line's labels point
 abbrev pub label_address : List Item → ℕ
 label_address before = if is_code (section_after before) then code_address before else data_address before
+
+-- the place of a line behind some others, the nearest first
+abbrev pub place_at : List Item → Place
+place_at before = record { section = section_after before; next_word = code_address before; region_start = region_start before; region_bytes = data_offset before }
 
 -- ---- labels
 

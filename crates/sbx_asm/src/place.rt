@@ -1,10 +1,12 @@
 //! Places of a source: how far the code and the data have come.
-ghost use Rattle.std.specs.Prelude.{◌≡◌, ◌+◌, ◌*◌, ◌≤◌};
+ghost use Rattle.std.specs.Prelude.{◌≡◌, ◌+◌, ◌*◌, ◌≤◌, List, [], ◌∷◌};
 ghost use Rattle.sbx_directives.specs.Data.{bytes_of_width};
 ghost use Rattle.sbx_image.specs.Regions.{pages_for};
-ghost use Rattle.sbx_asm.specs.Addresses.{last_start, padding_of, section_room, start_behind};
-ghost use Rattle.sbx_asm.specs.Stages.Places.{start, code_end, has_room, moved_on, with_code, with_data, address, directed, place_after};
+ghost use Rattle.sbx_asm.specs.Items.{Item};
+ghost use Rattle.sbx_asm.specs.Addresses.{code_offset, data_offset, data_length, fits_behind, is_code, label_address, last_start, padding_of, place_at, section_after, section_room, start_behind, up_to_room};
+ghost use Rattle.sbx_asm.specs.Stages.Places.{code_end, has_room, moved_on, with_code, with_data, address, directed, place_after};
 
+use crate::kinds::{is_data, is_region, is_text};
 use crate::reading::Line;
 use sbx_directives::{Directive, Statement, Width, byte_len};
 use v8_map::{CODE_END, CODE_START, DATA_START};
@@ -80,16 +82,127 @@ fn start_behind(start: u32, bytes: u32) -> u32
     }
 }
 
+/// How far a section is filled behind so many bytes and some more.
+fn up_to_room(offset: u32, more: u128) -> u32
+    ensures value { result ≡ up_to_room (offset + more) }
+    ensures bound { result ≤ section_room }
+{
+    if offset <= ROOM && more <= u128::from(ROOM - offset) {
+        offset + more as u32
+    } else {
+        ROOM
+    }
+}
+
+/// Whether so many bytes fit behind others of their section.
+fn fits_behind(offset: u32, bytes: u128) -> bool
+    ensures { result ≡ fits_behind offset bytes }
+{
+    bytes <= u128::from(ROOM.saturating_sub(offset))
+}
+
+/// How many bytes a line adds to so many of the data.
+fn data_length(bytes: u32, line: &Line<'_>) -> u128
+    ensures { result ≡ data_length bytes line.now.said }
+{
+    match line.said {
+        Ok(Statement::Directive(Directive::Values(width, count))) => bytes_of_values(width, count),
+        Ok(Statement::Directive(Directive::Skip(count))) => u128::from(count),
+        Ok(Statement::Directive(Directive::Align(unit))) => u128::from(padding(unit, bytes)),
+        _ => 0,
+    }
+}
+
+impl Section {
+    /// The section that is current behind a line.
+    fn after(self, line: &Line<'_>) -> Section
+        ensures { (before : List Item) → self ≡ section_after before → result ≡ section_after (line.now ∷ before) }
+    {
+        if is_text(line) {
+            Section::Code
+        } else if is_data(line) || is_region(line) {
+            Section::Data
+        } else {
+            self
+        }
+    }
+}
+
 impl Place {
     /// Before the first line.
     pub fn start() -> Place
-        ensures { result ≡ start }
+        ensures { result ≡ place_at [] }
     {
         Place {
             section: Section::Code,
             next_word: CODE_START,
             region_start: DATA_START,
             region_bytes: 0,
+        }
+    }
+
+    /// How far the code is filled.
+    fn code_offset(self) -> u32
+        ensures { (before : List Item) → self ≡ place_at before → result ≡ code_offset before }
+    {
+        self.next_word.saturating_sub(CODE_START)
+    }
+
+    /// Behind one more line.
+    pub fn after(self, line: &Line<'_>) -> Place
+        ensures { (before : List Item) → self ≡ place_at before → result ≡ place_at (line.now ∷ before) }
+    {
+        let section = self.section.after(line);
+        let next_word = CODE_START + up_to_room(self.code_offset(), line.code_length());
+        if is_region(line) {
+            Place {
+                section,
+                next_word,
+                region_start: start_behind(self.region_start, self.region_bytes),
+                region_bytes: 0,
+            }
+        } else {
+            let more = data_length(self.region_bytes, line);
+            Place {
+                section,
+                next_word,
+                region_start: self.region_start,
+                region_bytes: up_to_room(self.region_bytes, more),
+            }
+        }
+    }
+
+    /// Where labels point in the current section.
+    pub fn address(self) -> u32
+        ensures { (before : List Item) → self ≡ place_at before → result ≡ label_address before }
+    {
+        match self.section {
+            Section::Code => self.next_word,
+            Section::Data => self.region_start.saturating_add(self.region_bytes),
+        }
+    }
+
+    /// Whether the code has room for so many bytes more.
+    pub fn code_has_room(self, bytes: u128) -> bool
+        ensures { (before : List Item) → self ≡ place_at before → result ≡ fits_behind (code_offset before) bytes }
+    {
+        fits_behind(self.code_offset(), bytes)
+    }
+
+    /// Whether the data have.
+    pub fn data_has_room(self, bytes: u128) -> bool
+        ensures { (before : List Item) → self ≡ place_at before → result ≡ fits_behind (data_offset before) bytes }
+    {
+        fits_behind(self.region_bytes, bytes)
+    }
+
+    /// Whether the code is the current section.
+    pub fn is_in_code(self) -> bool
+        ensures { result ≡ is_code self.section }
+    {
+        match self.section {
+            Section::Code => true,
+            Section::Data => false,
         }
     }
 
@@ -114,7 +227,7 @@ impl Place {
     }
 
     /// The address of what comes next in the current section.
-    pub fn address(self) -> u32
+    pub fn old_address(self) -> u32
         ensures { result ≡ address self }
     {
         match self.section {
@@ -159,7 +272,7 @@ impl Place {
 
     /// Where the next line stands.
     #[tactic(auto, unfolding(crate::specs::Stages::Places::place_after))]
-    pub fn after(self, line: &Line<'_>) -> Place
+    pub fn old_after(self, line: &Line<'_>) -> Place
         ensures { result ≡ place_after line.now line.now.said self }
     {
         match line.said {

@@ -3,6 +3,7 @@ ghost use Rattle.std.specs.Prelude.{◌≡◌, IfOk, MatchResult, Ok, Err, drop,
 ghost use Rattle.sbx_text.specs.Tokens.{tokens_of};
 ghost use Rattle.v8_syntax.specs.Statements.{statement_length};
 ghost use Rattle.sbx_asm.specs.Items.{item_of, items_of};
+ghost use Rattle.sbx_asm.specs.Addresses.{code_length};
 
 use crate::growing::Growing;
 use crate::lines::first_line;
@@ -162,6 +163,17 @@ impl<'a> Line<'a> {
         ensures { result ≡ 4 * statement_length self.now.bytes self.now.tokens }
     {
         4 * self.words as u128
+    }
+
+    /// How many bytes of code the line takes.
+    pub fn code_length(&self) -> u128
+        ensures { result ≡ code_length self.now }
+    {
+        match self.said {
+            Ok(Statement::Instruction) => self.code_len(),
+            Err(_) => 4,
+            _ => 0,
+        }
     }
 }
 

@@ -220,7 +220,7 @@ impl Draft {
         ensures { IfOk result (λ _. self.new ≡ draft_item (worth table.now) self.old line.now) }
     {
         self.begin_line(line.number);
-        let place = self.place.after(line);
+        let place = self.place.old_after(line);
         self.line_does(alloc, table, line)?;
         self.place = place;
         Ok(())

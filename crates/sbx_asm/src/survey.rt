@@ -117,13 +117,13 @@ impl<'a> Survey<'a> {
         let place = self.place;
         self.labels(
             line.number,
-            place.address(),
+            place.old_address(),
             line.bytes,
             line.label_count,
             line.tokens.as_slice(),
         )?;
         self.name(line.number, place.next_word, line.bytes, line.said)?;
-        self.place = place.after(line);
+        self.place = place.old_after(line);
         Ok(())
     }
 }

@@ -1,6 +1,6 @@
 use Rattle.sbx_asm.specs.Stages.Places.{place_after}
 use Rattle.std.proofs.Common.{rules}
-use Rattle.sbx_asm.proofs.place.Place.after.Goals as goal
+use Rattle.sbx_asm.proofs.place.Place.old_after.Goals as goal
 
 pub returns-in-Ok-Instruction : goal.returns-in-Ok-Instruction
 unfolding place_after

@@ -1,0 +1,46 @@
+-- How far a section is filled, and where a region begins at the latest.
+use Rattle.std.proofs.Common.{◌≡◌, ℕ, ◌+◌, ◌*◌, Bool, true, false, cond, leb, ◌≤◌, List, [], ◌∷◌, refl, sym, ap, ◌∙◌, arith}
+use Rattle.std.specs.Prelude.{if◌then◌else◌, min}
+use Rattle.std.proofs.Math.Nat.{min-eq_left}
+use Rattle.std.proofs.lemmas.Bool.{cond_both, le-leb, leb-true}
+use Rattle.sbx_image.specs.Regions.{pages_for}
+use Rattle.sbx_asm.specs.declared.place.Section.TheVariants.{Data}
+use Rattle.sbx_asm.specs.Items.{Item, is_region}
+use Rattle.sbx_asm.specs.Addresses.{code_length, data_length, code_offset, section_room, up_to_room, last_start, start_behind, region_start, data_offset, section_after, label_address, is_code, code_address, data_address}
+
+pub in_room : (size : ℕ) → size ≤ section_room → up_to_room size ≡ size
+in_room size h = ap (λ (t : Bool). cond t size section_room) (le-leb size section_room h)
+
+within_room : (size : ℕ) → up_to_room size ≤ section_room
+within_room size = cond_both (leb size section_room) size section_room (λ m. m ≤ section_room) (λ h. leb-true size section_room h) (λ _. omega arith)
+
+pub code_within : (before : List Item) → code_offset before ≤ section_room
+code_within [] = omega arith
+code_within (i ∷ before) = within_room (code_offset before + code_length i)
+
+pub data_within : (before : List Item) → data_offset before ≤ section_room
+data_within [] = omega arith
+data_within (i ∷ before) = by (is_region i)
+  where
+    by : (begins : Bool) → (if begins then 0 else up_to_room (data_offset before + data_length (data_offset before) i.said)) ≤ section_room
+    by true = omega arith
+    by false = within_room (data_offset before + data_length (data_offset before) i.said)
+
+-- a region begins below the end of the words' addresses, and so does what stands in it
+low_start : (start size : ℕ) → start_behind start size ≤ last_start
+low_start start size =
+    cond_both (leb (start + 4096 * pages_for size) last_start) (start + 4096 * pages_for size) last_start (λ m. m ≤ last_start) (λ h. leb-true (start + 4096 * pages_for size) last_start h) (λ _. omega arith)
+
+low_with : (start size : ℕ) (begins : Bool) → start ≤ last_start → (if begins then start_behind start size else start) ≤ last_start
+low_with start size true h = low_start start size
+low_with start size false h = h
+
+pub low : (before : List Item) → region_start before ≤ last_start
+low [] = omega arith
+low (i ∷ before) = low_with (region_start before) (data_offset before) (is_region i) (low before)
+
+-- where labels point in the data
+pub in_data : (before : List Item) → section_after before ≡ Data → min (region_start before + data_offset before) 4294967295 ≡ label_address before
+in_data before here =
+    min-eq_left (let h = low before in let k = data_within before in omega arith)
+    ∙ sym (ap (λ s. if is_code s then code_address before else data_address before) here)
