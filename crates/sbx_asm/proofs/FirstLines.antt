@@ -47,11 +47,11 @@ behind_return (suc n) (a ∷ s) lt cr lf clear =
 -- LF alone
 pub before_end : (n : ℕ) (s : List ℕ) → n < length s → slice_index s n ≡ 10 → IsClear n s → NoReturn n s → lines_of s ≡ take n s ∷ lines_of (drop (suc n) s)
 unfolding lines_of
-before_end n [] lt  lf clear plain = absurd (omega arith)
-before_end zero (a ∷ s) lt  lf clear plain = rw lf refl
-before_end (suc zero) (a ∷ s) lt  lf clear plain =
+before_end n [] lt lf clear plain = absurd (omega arith)
+before_end zero (a ∷ s) lt lf clear plain = rw lf refl
+before_end (suc zero) (a ∷ s) lt lf clear plain =
     goes_on a s (clear 0 (omega arith)) (rw plain refl) ∙ ap (in_front a) (before_end zero s (omega arith) lf (λ k below. absurd (omega arith)) tt)
-before_end (suc (suc n)) (a ∷ s) lt  lf clear plain =
+before_end (suc (suc n)) (a ∷ s) lt lf clear plain =
     goes_on a s (clear 0 (omega arith)) (no_end a s (starts_clear s (clear 1 (omega arith))))
     ∙ ap (in_front a) (before_end (suc n) s (omega arith) lf (later (suc n) a s clear) plain)
 

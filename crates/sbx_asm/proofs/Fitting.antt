@@ -1,5 +1,5 @@
 -- Each number of an image that a source means is one that its field can hold.
-use Rattle.std.proofs.Common.{◌≡◌, ℕ, ◌+◌, ◌*◌, ◌^◌, ◌<◌, Bool, true, false, cond, pos, List, [], ◌∷◌, ◌++◌, length, map, drop, Option, None, Some, Result, Ok, Err, IfOk, subst, arith}
+use Rattle.std.proofs.Common.{ℕ, ◌+◌, ◌*◌, ◌^◌, ◌<◌, Bool, true, false, cond, pos, List, [], ◌∷◌, length, drop, Result, Ok, Err, IfOk, subst, arith}
 use Rattle.std.specs.Prelude.{replicate, FitsSigned}
 use Rattle.std.specs.Int.{w64}
 use Rattle.std.specs.List.{AllByRecursion, flat_map, list_any}

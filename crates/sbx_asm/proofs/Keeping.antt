@@ -1,15 +1,15 @@
 -- The tokens of the lines of a source, as they are kept and as they are given out again.
-use Rattle.std.proofs.Common.{◌≡◌, ℕ, ◌+◌, ◌≤◌, ◌<◌, List, [], ◌∷◌, ◌++◌, length, map, take, drop, Result, Ok, Err, refl, sym, ap, ◌∙◌, append_assoc, arith}
-use Rattle.std.proofs.Math.Seq.{take-length}
-use Rattle.std.proofs.lemmas.List.{append-nil, nil_from_length, drop_all, length-append, length-drop, take-append-le, drop-append-le}
+use Rattle.std.proofs.Common.{◌≡◌, ℕ, ◌+◌, ◌-◌, ◌≤◌, ◌<◌, List, [], ◌∷◌, ◌++◌, length, map, take, drop, Result, Ok, Err, refl, sym, ap, ◌∙◌, append_assoc, arith}
+use Rattle.std.proofs.Math.Seq.{take-append_seam}
+use Rattle.std.proofs.lemmas.List.{append-nil, nil_from_length, drop_all, take_all, length-append, length-drop, take-append-le, drop-append-le}
 use Rattle.sbx_text.specs.declared.Token.{Token}
 use Rattle.sbx_text.specs.declared.fault.TextFault.{TextFault}
-use Rattle.sbx_text.specs.Tokens.{tokens_of}
+use Rattle.sbx_text.specs.Tokens.{tokens_of, in_front}
 use Rattle.sbx_asm.specs.declared.text.Found.{Found}
 use Rattle.sbx_asm.specs.declared.text.Found.TheVariants.{Tokens, Fault}
 use Rattle.sbx_asm.specs.Lines.{lines_of}
 use Rattle.sbx_asm.specs.Items.{Item, item_of, numbered}
-use Rattle.sbx_asm.specs.Reads.{Keeps, count_of, own, each_own, counted}
+use Rattle.sbx_asm.specs.Reads.{Adds, Keeps, count_of, own, each_own, counted}
 
 -- ---- one more line
 
@@ -33,28 +33,35 @@ read_push : (lines : List (List ℕ)) (line : List ℕ) → map tokens_of (lines
 read_push [] line = refl
 read_push (l ∷ lines) line = ap (λ rs. tokens_of l ∷ rs) (read_push lines line)
 
-module _ (lines : List (List ℕ)) (fs : List Found) (ts : List Token) (line : List ℕ) (so_far : Keeps lines fs ts) where
-  pub keeps_tokens : (us : List Token) (n : ℕ) → tokens_of line ≡ Ok us → n ≡ length us → Keeps (lines ++ line ∷ []) (fs ++ Tokens n ∷ []) (ts ++ us)
-  keeps_tokens us n read is = record {
-    read =
-        each_push fs ts us (Tokens n) so_far.counts
-        ∙ (λ j. so_far.read j ++ Ok (take (is j) us) ∷ [])
-        ∙ ap (λ (xs : List Token). map tokens_of lines ++ Ok xs ∷ []) (take-length us)
-        ∙ ap (λ r. map tokens_of lines ++ r ∷ []) (sym read)
-        ∙ sym (read_push lines line);
-    counts = let k = so_far.counts in omega (arith, counted_push fs (Tokens n), length-append ts us);
-  }
+pub keeps_more : (lines : List (List ℕ)) (fs : List Found) (ts us : List Token) (line : List ℕ) (f : Found) → Keeps lines fs ts → Adds f (tokens_of line) ts us
+    → Keeps (lines ++ line ∷ []) (fs ++ f ∷ []) us
+keeps_more lines fs ts us line f so_far adds = record {
+  read =
+      ap (each_own (fs ++ f ∷ [])) adds.added
+      ∙ each_push fs ts adds.more f so_far.counts
+      ∙ (λ j. so_far.read j ++ adds.own_are j ∷ [])
+      ∙ sym (read_push lines line);
+  counts = let k = so_far.counts in let n = adds.count_is in omega (arith, counted_push fs f, length-append ts adds.more, ap length adds.added);
+}
 
-  pub keeps_fault : (f : TextFault) → tokens_of line ≡ Err f → Keeps (lines ++ line ∷ []) (fs ++ Fault f ∷ []) ts
-  keeps_fault f read = record {
-    read =
-        ap (each_own (fs ++ Fault f ∷ [])) (sym (append-nil ts))
-        ∙ each_push fs ts [] (Fault f) so_far.counts
-        ∙ ap (λ rs. rs ++ Err f ∷ []) so_far.read
-        ∙ ap (λ r. map tokens_of lines ++ r ∷ []) (sym read)
-        ∙ sym (read_push lines line);
-    counts = let k = so_far.counts in omega (arith, counted_push fs (Fault f));
-  }
+pub adds_tokens : (old new : List Token) (read : Result (List Token) TextFault) (n : ℕ) → in_front old read ≡ Ok new → n ≡ length new - length old → Adds (Tokens n) read old new
+adds_tokens old new (Err f) n h is = absurd (cc)
+adds_tokens old new (Ok ts) n h is =
+    let whole : old ++ ts ≡ new = cc h in
+    let count : n ≡ length ts = omega (arith, length-append old ts, ap length whole) in record {
+      more = ts;
+      added = sym whole;
+      own_are = ap (λ (us : List Token). Ok us) (take_all n ts (omega arith));
+      count_is = count;
+    }
+
+pub adds_none : (old new cut : List Token) (read : Result (List Token) TextFault) (f : TextFault) → ((more : List Token) × (new ≡ old ++ more)) → cut ≡ take (length old) new → read ≡ Err f → Adds (Fault f) read old cut
+adds_none old new cut read f longer is h = record {
+  more = [];
+  added = is ∙ ap (take (length old)) longer.1 ∙ take-append_seam old longer.0 ∙ sym (append-nil old);
+  own_are = sym h;
+  count_is = refl;
+}
 
 -- the lines that were read, and those of what is left
 pub one_more : (so_far all : List (List ℕ)) (rest line after : List ℕ) → lines_of rest ≡ line ∷ lines_of after → so_far ++ lines_of rest ≡ all → (so_far ++ line ∷ []) ++ lines_of after ≡ all

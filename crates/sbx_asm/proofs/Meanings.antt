@@ -1,6 +1,6 @@
 -- The laws of the meaning of sources.
 use Rattle.std.proofs.Common.{◌≡◌, ◌⊎◌, inl, inr, ℕ, ◌+◌, ◌≤◌, Bool, true, false, cond, ltb, List, [], ◌∷◌, ◌++◌, length, map, Option, None, Some, Result, Ok, Err, refl, sym, ap, ◌∙◌, subst, append_assoc, arith}
-use Rattle.std.specs.Prelude.{◌||◌, nat_lt, if◌then◌else◌}
+use Rattle.std.specs.Prelude.{◌||◌, if◌then◌else◌}
 use Rattle.std.specs.Bool.{Decides, one_answer}
 use Rattle.std.specs.Option.{is_some}
 use Rattle.std.specs.List.{AllByRecursion, fold, list_any}
@@ -18,11 +18,10 @@ use Rattle.sbx_directives.specs.declared.directive.Statement.TheVariants as stat
 use Rattle.sbx_directives.specs.Lines.{labels_first}
 use Rattle.sbx_directives.specs.Directives.{statement_of}
 use Rattle.sbx_asm.specs.declared.fault.AsmFault.{AsmFault}
-use Rattle.sbx_asm.specs.declared.fault.Cause.TheVariants as causes
 use Rattle.sbx_asm.specs.Faults.{at, told, is_earlier}
-use Rattle.sbx_asm.specs.Items.{Item, Said, label_names, read_line, items_of, each, behind}
-use Rattle.sbx_asm.specs.Addresses.{Label, labels_at, all_labels, worth_in, values_of, code_address, section_after, labelled, names_said, is_called}
-use Rattle.sbx_asm.specs.Rules.{Values, when, duplicates, faults_of, least_of}
+use Rattle.sbx_asm.specs.Items.{Item, label_names, read_line, items_of, each, behind}
+use Rattle.sbx_asm.specs.Addresses.{Label, worth_in, values_of, is_called}
+use Rattle.sbx_asm.specs.Rules.{Values, duplicates, faults_of, least_of}
 use Rattle.sbx_asm.specs.Images.{words_at, image_of}
 use Rattle.sbx_asm.specs.Meaning.{whole_cause, judged, source_image}
 use Rattle.sbx_asm.specs.Laws.{CodeIsItsStatements, WordsLookAheadByLabelsAlone, BlankLinesSayNothing, renamed, LabelsMayBeRenamed, IsLeastOf, TheLeastFaultIsTold}

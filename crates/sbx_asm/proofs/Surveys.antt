@@ -12,7 +12,7 @@ use Rattle.sbx_asm.specs.declared.fault.Cause.TheVariants as causes
 use Rattle.sbx_asm.specs.Faults.{told, at}
 use Rattle.sbx_asm.specs.Items.{Item, Said, each, behind}
 use Rattle.sbx_asm.specs.Addresses.{Label, labelled, labels_at, worth_in, is_called, names_said, label_address, code_address}
-use Rattle.sbx_asm.specs.Rules.{Values, duplicates}
+use Rattle.sbx_asm.specs.Rules.{duplicates}
 use Rattle.sbx_asm.specs.declared.survey.Survey.{Survey}
 use Rattle.sbx_asm.specs.Tables.{IsSurvey}
 use Rattle.sbx_asm.proofs.Views.{told_again}

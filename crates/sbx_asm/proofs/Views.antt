@@ -1,25 +1,22 @@
 -- Parts of the definitions that lemmas speak of, by what a line says or by themselves.
-use Rattle.std.specs.Prelude.{ℕ, Bool, true, false, not, ◌&&◌, ◌||◌, nat_le, if◌then◌else◌, List, [], ◌∷◌, ◌++◌, map, Result, Ok, Err}
-use Rattle.std.specs.List.{list_any, flat_map}
+use Rattle.std.specs.Prelude.{ℕ, Bool, ◌||◌, nat_le, if◌then◌else◌, List, [], ◌∷◌, ◌++◌, map, Result, Ok, Err}
+use Rattle.std.specs.List.{list_any}
 use Rattle.std.specs.Result.{result_unwrap_or}
 use Rattle.sbx_text.specs.declared.Token.{Token}
 use Rattle.v8_formats.specs.declared.instr.Instr.{Instr}
 use Rattle.v8_formats.specs.Spelling.{spelling}
 use Rattle.v8_syntax.specs.declared.fault.SyntaxFault.{SyntaxFault}
-use Rattle.sbx_image.specs.Cell.{Cell}
 use Rattle.sbx_image.specs.ImageFault.{ImageFault}
 use Rattle.sbx_image.specs.Parts.{Parts}
-use Rattle.sbx_image.specs.Term.{Term}
 use Rattle.sbx_directives.specs.declared.fault.DataFault.{DataFault}
-use Rattle.sbx_directives.specs.declared.fault.DataFault.TheVariants as data_faults
 use Rattle.sbx_asm.specs.declared.place.Section.{Section}
 use Rattle.sbx_asm.specs.declared.fault.AsmFault.{AsmFault}
 use Rattle.sbx_asm.specs.declared.fault.Cause.{Cause}
 use Rattle.sbx_asm.specs.declared.fault.Cause.TheVariants as causes
 use Rattle.sbx_asm.specs.Faults.{at}
-use Rattle.sbx_asm.specs.Items.{Item, Said, up_to, count, ends_block, is_text, is_data, is_region, has_bytes, begins_block, cells, terms}
+use Rattle.sbx_asm.specs.Items.{Item, Said, count, is_text, is_data, is_region}
 use Rattle.sbx_asm.specs.Addresses.{code_address, data_address, is_code}
-use Rattle.sbx_asm.specs.Rules.{Values, when, acts}
+use Rattle.sbx_asm.specs.Rules.{when}
 use Rattle.sbx_asm.specs.Meaning.{whole_cause}
 
 -- ---- a line by what it says
@@ -40,12 +37,6 @@ address_in_section before section = if is_code section then code_address before 
 
 -- ---- rules
 
-abbrev pub cell_places : List Item → List ℕ
-cell_places before = map (λ (c : Cell). c.location) (flat_map cells (up_to ends_block before))
-
-abbrev pub term_places : List Item → List ℕ
-term_places before = map (λ (t : Term). t.location) (flat_map terms (up_to ends_block before))
-
 abbrev pub told_again : Bool → ℕ → List AsmFault
 told_again test line = map (at line) (when test causes.DuplicateLabel)
 
@@ -58,9 +49,6 @@ another_region before = when (list_any is_data before) causes.Directive ++ when 
 abbrev pub statement_rules : Result (List Instr) SyntaxFault → List Cause
 statement_rules r = elim r [ Ok is ↦ [] | Err f ↦ causes.Syntax f ∷ [] ]
 
-abbrev pub is_unknown : Result (List ℕ) DataFault → Bool
-is_unknown r = elim r [ Err data_faults.UnknownSymbol ↦ true | _ ↦ false ]
-
 -- ---- words and bytes
 
 abbrev pub words_meant : Result (List Instr) SyntaxFault → List ℕ
@@ -68,12 +56,6 @@ words_meant r = map spelling (result_unwrap_or r [])
 
 abbrev pub bytes_meant : Result (List ℕ) DataFault → List ℕ
 bytes_meant r = result_unwrap_or r []
-
-abbrev pub empty_block : Values → List Item → Item → List Item → List AsmFault
-empty_block values before i after = map (at i.number) (when (begins_block before i && not (list_any (acts values) (up_to ends_block after))) causes.Directive)
-
-abbrev pub empty_region : Item → List Item → List AsmFault
-empty_region i after = map (at i.number) (when (is_region i && not (list_any has_bytes (up_to leaves_region after))) causes.Directive)
 
 -- ---- the image
 

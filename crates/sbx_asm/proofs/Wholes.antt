@@ -1,7 +1,7 @@
--- What holds of each part of a list, or at each step of a fold, holds of the whole.
+-- What holds of each part of a list holds of the whole.
 use Rattle.std.proofs.Common.{ℕ, zero, suc, List, [], ◌∷◌, ◌++◌, map, Option, None, Some, IfSome}
 use Rattle.std.specs.Prelude.{replicate}
-use Rattle.std.specs.List.{AllByRecursion, flat_map, fold}
+use Rattle.std.specs.List.{AllByRecursion, flat_map}
 
 pub whatever : {A : Type 0} (o : Option A) → IfSome o (λ _. Unit {0})
 whatever None = tt
@@ -22,8 +22,3 @@ copies_all P x h (suc n) = (h, copies_all P x h n)
 pub map_all : {A B : Type 0} (P : B → Type 0) (f : A → B) → ((x : A) → P (f x)) → (xs : List A) → AllByRecursion P (map f xs)
 map_all P f each [] = tt
 map_all P f each (x ∷ xs) = (each x, map_all P f each xs)
-
--- where Q holds of each part
-pub fold_all : {S A : Type 0} (P : S → Type 0) (Q : A → Type 0) (f : S → A → S) → ((s : S) (x : A) → Q x → P s → P (f s x)) → (xs : List A) → AllByRecursion Q xs → (s : S) → P s → P (fold f s xs)
-fold_all P Q f keeps [] k s h = h
-fold_all P Q f keeps (x ∷ xs) k s h = fold_all P Q f keeps xs k.1 (f s x) (keeps s x k.0 h)

@@ -5,7 +5,7 @@ pub mod Addresses
 pub mod Rules
 pub mod Reads
 pub mod Tables
+pub mod Contexts
 pub mod Images
 pub mod Meaning
-pub mod Stages
 pub mod Laws

@@ -1,52 +1,15 @@
-//! The two folds over the lines.
-ghost use Rattle.std.specs.Prelude.{◌≡◌, IfOk};
-ghost use Rattle.sbx_asm.specs.Items.{items_of};
-ghost use Rattle.sbx_asm.specs.Stages.Labels.{labels_of};
-ghost use Rattle.sbx_asm.specs.Stages.Drafts.{closed};
-ghost use Rattle.sbx_asm.specs.Stages.Whole.{labels_in, draft_in, image_made};
+//! The image that a source means.
+ghost use Rattle.std.specs.Prelude.{◌≡◌};
 ghost use Rattle.sbx_asm.specs.Meaning.{source_image, Gives};
 
-use crate::draft::Draft;
+use crate::checking::check;
 use crate::fault::AsmFault;
-use crate::finish::finish;
-use crate::reading::Line;
-use crate::survey::{Survey, survey_lines};
+use crate::finish::judged;
+use crate::parts::parts_of;
+use crate::survey::survey_lines;
 use crate::text::Text;
 use sbx_image::Image;
-use std::alloc::{AllocError, Global};
-
-/// What all lines make of an empty draft, where the labels are known.
-fn draft_lines(alloc: Global, survey: &Survey<'_>, lines: &[Line<'_>]) -> Result<Draft, AllocError>
-    ensures { IfOk result (λ draft. draft ≡ draft_in (labels_of survey.now) lines.now) }
-{
-    let mut draft = Draft::new(alloc, survey.fault);
-    for line in lines {
-        draft.add_line(alloc, &survey.table, line)?;
-    }
-    Ok(draft)
-}
-
-/// The draft of all lines with its last region and its last function ended.
-fn draft_of(alloc: Global, lines: &[Line<'_>]) -> Result<Draft, AllocError>
-    ensures { IfOk result (λ draft. draft ≡ closed (draft_in (labels_in lines.now) lines.now)) }
-{
-    let survey = survey_lines(alloc, lines)?;
-    let mut draft = draft_lines(alloc, &survey, lines)?;
-    draft.close_region(alloc)?;
-    draft.close_function(alloc)?;
-    Ok(draft)
-}
-
-/// The image that the stages make of a source.
-#[tactic(auto, unfolding(crate::specs::Stages::Whole::image_made))]
-fn image_made(alloc: Global, source: &[u8]) -> Result<Image, AsmFault>
-    ensures { Gives result (image_made (items_of source.now)) }
-{
-    let text = Text::read(alloc, source)?;
-    let lines = text.lines(alloc)?;
-    let draft = draft_of(alloc, lines.as_slice())?;
-    finish(lines.len() + 1, draft)
-}
+use std::alloc::Global;
 
 /// The image that a source means.
 ///
@@ -56,5 +19,16 @@ fn image_made(alloc: Global, source: &[u8]) -> Result<Image, AsmFault>
 pub fn assemble(alloc: Global, source: &[u8]) -> Result<Image, AsmFault>
     ensures exact { Gives result (source_image source.now) }
 {
-    image_made(alloc, source)
+    let text = Text::read(alloc, source)?;
+    let read = text.lines(alloc)?;
+    let lines = read.as_slice();
+    let survey = survey_lines(alloc, lines)?;
+    let checked = check(alloc, &survey.table, survey.fault, lines)?;
+    match checked.fault {
+        Some(fault) => Err(fault),
+        None => {
+            let parts = parts_of(alloc, &survey.table, checked.words, lines)?;
+            judged(lines.len() + 1, parts)
+        }
+    }
 }

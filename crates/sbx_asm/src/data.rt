@@ -27,7 +27,7 @@ fn push_bytes(
     match line.said() {
         Ok(Statement::Directive(Directive::Values(width, _))) => {
             let scope = Scope { table, here: 0 };
-            match bytes.push_values(width, &scope, line.bytes(), line.behind_labels()) {
+            match bytes.push_values(width, &scope, line.bytes(), line.tokens()) {
                 Ok(()) | Err(DataFault::UnknownSymbol | DataFault::Malformed) => Ok(()),
                 Err(DataFault::Memory(want)) => Err(AllocError::from(want)),
             }

@@ -1,25 +1,28 @@
-//! The image of a draft.
-ghost use Rattle.std.specs.Prelude.{◌≡◌, None};
-ghost use Rattle.sbx_asm.specs.Images.{version_with};
-ghost use Rattle.sbx_asm.specs.Meaning.{judged, whole_cause, Gives};
-ghost use Rattle.sbx_asm.specs.Stages.Whole.{parts_in, image_in};
+//! The image of parts, or why they are none.
+ghost use Rattle.std.specs.Prelude.{◌≡◌, ◌%◌, ◌-◌, length, nat_lt, None};
+ghost use Rattle.sbx_image.specs.Regions.{page_rights};
+ghost use Rattle.sbx_asm.specs.Meaning.{judged, pass_pages, whole_cause};
 
-use crate::draft::Draft;
 use crate::fault::{AsmFault, Cause};
-use crate::regions::pass_pages;
-use sbx_image::{Image, Parts, Services};
+use sbx_image::{Image, Parts, Region};
+use sbx_parts::pages_for;
 
-/// The version of the image format: the one that has depths or, else, regions, where the source has some.
-fn version_with(depths: bool, regions: bool) -> u16
-    ensures { result ≡ version_with depths regions }
+/// The most pages that the regions of an image take in all.
+const PAGES: usize = 64;
+
+/// Whether regions take more pages than an image may have.
+fn pass_pages(regions: &[Region]) -> bool
+    ensures { result ≡ pass_pages regions.now }
 {
-    if depths {
-        3
-    } else if regions {
-        2
-    } else {
-        1
+    let mut left = PAGES;
+    for region in regions {
+        let pages = pages_for(region.bytes.len());
+        if pages > left {
+            return true;
+        }
+        left -= pages;
     }
+    false
 }
 
 /// Why parts of lines without faults are no image.
@@ -33,23 +36,8 @@ fn whole_cause(parts: &Parts) -> Cause
     }
 }
 
-#[tactic(auto, unfolding(crate::specs::Stages::Whole::parts_in))]
-fn parts_of(draft: Draft) -> Parts
-    ensures { result ≡ parts_in draft }
-{
-    let region = draft.region;
-    Parts {
-        version: version_with(draft.has_depth, region.has_region),
-        services: draft.services.unwrap_or(Services(0)),
-        words: draft.words.into_items(),
-        regions: region.regions.into_items(),
-        stack_pages: draft.stack.unwrap_or(1),
-        functions: draft.functions.into_items(),
-    }
-}
-
-/// The image of parts; else a fault at the line after the last.
-fn image_of(after: usize, parts: Parts) -> Result<Image, AsmFault>
+/// The image of the parts of lines without faults; else a fault at the line after the last.
+pub fn judged(after: usize, parts: Parts) -> Result<Image, AsmFault>
     ensures { result ≡ judged after None parts }
 {
     match Image::from_parts(parts) {
@@ -59,14 +47,4 @@ fn image_of(after: usize, parts: Parts) -> Result<Image, AsmFault>
             cause: whole_cause(&parts),
         }),
     }
-}
-
-/// The image of all lines, or the fault that is told; `after` is the line after the last.
-pub fn finish(after: usize, draft: Draft) -> Result<Image, AsmFault>
-    ensures { Gives result (image_in after draft) }
-{
-    if let Some(fault) = draft.fault {
-        return Err(fault);
-    }
-    image_of(after, parts_of(draft))
 }

@@ -7,7 +7,6 @@ use sbx_image::Items;
 use sbx_text::Token;
 use std::alloc::{AllocError, Global};
 use std::marker::Model;
-use std::mem;
 use v8_syntax::Symbols;
 
 /// A list that grows. Contracts see the list.
@@ -60,14 +59,6 @@ impl<T: Drop> Growing<T> {
     {
         let Growing { items } = self;
         Items::new(items)
-    }
-
-    /// The list, for an image; an empty one stays.
-    pub fn take(&mut self, alloc: Global) -> Items<T>
-        ensures items { result ≡ self.old }
-        ensures empty { self.new ≡ [] }
-    {
-        mem::replace(self, Growing::new(alloc)).into_items()
     }
 }
 

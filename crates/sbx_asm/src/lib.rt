@@ -3,8 +3,9 @@
 
 mod annotations;
 mod assembling;
+mod checking;
+mod context;
 mod data;
-mod draft;
 mod fault;
 mod finish;
 mod functions;
@@ -12,14 +13,14 @@ mod growing;
 mod kinds;
 pub mod laws;
 mod lines;
-mod opening;
+mod notes;
+mod operands;
 mod own;
 mod parts;
 mod place;
 mod reading;
-mod regions;
+mod rules;
 mod scope;
-mod statements;
 mod survey;
 mod table;
 mod text;

@@ -4,7 +4,6 @@ ghost use Rattle.sbx_directives.specs.Data.{bytes_of_width};
 ghost use Rattle.sbx_image.specs.Regions.{pages_for};
 ghost use Rattle.sbx_asm.specs.Items.{Item};
 ghost use Rattle.sbx_asm.specs.Addresses.{code_offset, data_offset, data_length, fits_behind, is_code, label_address, last_start, padding_of, place_at, section_after, section_room, start_behind, up_to_room};
-ghost use Rattle.sbx_asm.specs.Stages.Places.{code_end, has_room, moved_on, with_code, with_data, address, directed, place_after};
 
 use crate::kinds::{is_data, is_region, is_text};
 use crate::reading::Line;
@@ -32,23 +31,6 @@ pub struct Place {
     /// Where the newest region begins, or the data where there are no regions.
     pub region_start: u32,
     pub region_bytes: u32,
-}
-
-/// Whether so many bytes fit from an address up to a limit.
-pub fn has_room(limit: u32, address: u32, bytes: u128) -> bool
-    ensures { result ≡ has_room limit address bytes }
-{
-    bytes <= u128::from(limit.saturating_sub(address))
-}
-
-fn moved_on(limit: u32, address: u32, bytes: u128) -> u32
-    ensures { result ≡ moved_on limit address bytes }
-{
-    if has_room(limit, address, bytes) {
-        address + bytes as u32
-    } else {
-        limit
-    }
 }
 
 /// How many bytes so many values take.
@@ -203,83 +185,6 @@ impl Place {
         match self.section {
             Section::Code => true,
             Section::Data => false,
-        }
-    }
-
-    /// Past so many bytes of code.
-    pub fn with_code(self, bytes: u128) -> Place
-        ensures { result ≡ with_code bytes self }
-    {
-        Place {
-            next_word: moved_on(CODE_END, self.next_word, bytes),
-            ..self
-        }
-    }
-
-    /// Past so many bytes of data.
-    pub fn with_data(self, bytes: u128) -> Place
-        ensures { result ≡ with_data bytes self }
-    {
-        Place {
-            region_bytes: moved_on(ROOM, self.region_bytes, bytes),
-            ..self
-        }
-    }
-
-    /// The address of what comes next in the current section.
-    pub fn old_address(self) -> u32
-        ensures { result ≡ address self }
-    {
-        match self.section {
-            Section::Code => self.next_word,
-            Section::Data => self.region_start.saturating_add(self.region_bytes),
-        }
-    }
-
-    fn directed(self, directive: Directive) -> Place
-        ensures { result ≡ directed directive self }
-    {
-        match directive {
-            Directive::Text => Place {
-                section: Section::Code,
-                ..self
-            },
-            Directive::Data => Place {
-                section: Section::Data,
-                ..self
-            },
-            Directive::Region { .. } => Place {
-                section: Section::Data,
-                region_start: start_behind(self.region_start, self.region_bytes),
-                region_bytes: 0,
-                ..self
-            },
-            Directive::Values(width, count) => self.with_data(bytes_of_values(width, count)),
-            Directive::Skip(count) => self.with_data(u128::from(count)),
-            Directive::Align(unit) => self.with_data(u128::from(padding(unit, self.region_bytes))),
-            Directive::Services(_)
-            | Directive::Stack(_)
-            | Directive::Function { .. }
-            | Directive::Param(_)
-            | Directive::Result(_)
-            | Directive::Depth(_)
-            | Directive::Block(_)
-            | Directive::Cell(_)
-            | Directive::Fuel(_)
-            | Directive::Term(_) => self,
-        }
-    }
-
-    /// Where the next line stands.
-    #[tactic(auto, unfolding(crate::specs::Stages::Places::place_after))]
-    pub fn old_after(self, line: &Line<'_>) -> Place
-        ensures { result ≡ place_after line.now line.now.said self }
-    {
-        match line.said {
-            Ok(Statement::Nothing | Statement::Malformed(..)) => self,
-            Ok(Statement::Directive(directive)) => self.directed(directive),
-            Ok(Statement::Instruction) => self.with_code(line.code_len()),
-            Err(_) => self.with_code(4),
         }
     }
 }

@@ -1,14 +1,16 @@
 //! The tokens of a source, each line of it read once.
-ghost use Rattle.std.specs.Prelude.{◌≡◌, ◌≤◌, ◌∷◌, ◌++◌, [], ℕ, IfOk, List, MatchResult, Ok, Err, drop, length};
+ghost use Rattle.std.specs.Prelude.{◌≡◌, ◌≢◌, ◌≤◌, ◌∷◌, ◌++◌, [], ℕ, IfOk, List, drop, length};
+ghost use Rattle.want.specs.Wants.{refused};
+ghost use Rattle.sbx_text.specs.declared.fault.TextFault.TheVariants.{Memory};
 ghost use Rattle.sbx_text.specs.Tokens.{tokens_of};
 ghost use Rattle.sbx_asm.specs.Lines.{lines_of};
 ghost use Rattle.sbx_asm.specs.Items.{item_of, items_of};
-ghost use Rattle.sbx_asm.specs.Reads.{Keeps, count_of, own};
+ghost use Rattle.sbx_asm.specs.Reads.{Adds, Keeps, count_of, own};
 
 use crate::growing::Growing;
 use crate::lines::first_line;
 use crate::reading::Line;
-use sbx_text::{TextFault, Token, tokens};
+use sbx_text::{TextFault, Token, push_tokens};
 use std::alloc::{AllocError, Global};
 use std::marker::Model;
 
@@ -45,34 +47,40 @@ impl<'a> Model for Text<'a> {
     ghost invariant = { λ t. Keeps (lines_of t.source.now) t.kept.found.items t.kept.tokens.items };
 }
 
-/// The tokens of a line, or why it has none.
-fn read_tokens(alloc: Global, line: &[u8]) -> Result<Result<Vec<Token>, TextFault>, AllocError>
-    ensures { IfOk result (λ read. MatchResult read (λ found. tokens_of line.now ≡ Ok found.items) (λ fault. tokens_of line.now ≡ Err fault)) }
+/// A fault of a line; want of memory is none.
+fn of_line(fault: TextFault) -> Result<TextFault, AllocError>
+    ensures { IfOk result (λ kept. (kept ≡ fault) × (kept ≢ Memory refused)) }
 {
-    match tokens(alloc, line) {
-        Ok(found) => Ok(Ok(found)),
-        Err(fault) => match fault {
-            TextFault::Memory(want) => Err(AllocError::from(want)),
-            TextFault::NotAscii => Ok(Err(TextFault::NotAscii)),
-            TextFault::BadCharacter => Ok(Err(TextFault::BadCharacter)),
-            TextFault::NumberTooLarge => Ok(Err(TextFault::NumberTooLarge)),
-            TextFault::LineTooLong => Ok(Err(TextFault::LineTooLong)),
-        },
+    match fault {
+        TextFault::Memory(want) => Err(AllocError::from(want)),
+        TextFault::NotAscii => Ok(TextFault::NotAscii),
+        TextFault::BadCharacter => Ok(TextFault::BadCharacter),
+        TextFault::NumberTooLarge => Ok(TextFault::NumberTooLarge),
+        TextFault::LineTooLong => Ok(TextFault::LineTooLong),
+    }
+}
+
+/// Adds the tokens of a line to others.
+fn read_tokens(line: &[u8], tokens: &mut Vec<Token>) -> Result<Found, AllocError>
+    ensures { IfOk result (λ found. Adds found (tokens_of line.now) tokens.old.items tokens.new.items) }
+{
+    let before = tokens.len();
+    match push_tokens(line, tokens) {
+        Ok(()) => Ok(Found::Tokens(tokens.len().saturating_sub(before))),
+        Err(fault) => {
+            tokens.truncate(before);
+            Ok(Found::Fault(of_line(fault)?))
+        }
     }
 }
 
 impl Kept {
     /// Reads one more line.
-    fn add_line(&mut self, alloc: Global, line: &[u8]) -> Result<(), AllocError>
+    fn add_line(&mut self, line: &[u8]) -> Result<(), AllocError>
         ensures { IfOk result (λ _. (lines : List (List ℕ)) → Keeps lines self.old.found.items self.old.tokens.items → Keeps (lines ++ line.now ∷ []) self.new.found.items self.new.tokens.items) }
     {
-        match read_tokens(alloc, line)? {
-            Ok(read) => {
-                self.tokens.extend_from_slice(read.as_slice())?;
-                self.found.push(Found::Tokens(read.len()))?;
-            }
-            Err(fault) => self.found.push(Found::Fault(fault))?,
-        }
+        let found = read_tokens(line, &mut self.tokens)?;
+        self.found.push(found)?;
         Ok(())
     }
 }
@@ -109,7 +117,7 @@ impl<'a> Text<'a> {
         let mut rest = source;
         while rest.len() > 0 {
             let (line, after) = first_line(rest);
-            kept.add_line(alloc, line)?;
+            kept.add_line(line)?;
             rest = after;
         }
         Ok(Text { source, kept })

@@ -5,12 +5,16 @@ use Rattle.sbx_text.specs.declared.Token.{Token}
 use Rattle.sbx_text.specs.declared.Kind.{Kind}
 use Rattle.sbx_text.specs.declared.fault.TextFault.{TextFault}
 use Rattle.sbx_text.specs.declared.scanning.Step.TheVariants.{Stop, Skip, Emit, Refuse}
-use Rattle.sbx_text.specs.Tokens.{tokens_at, front, before}
+use Rattle.sbx_text.specs.Tokens.{tokens_at, front, before, in_front}
 
--- what was read before, and what is still read
-abbrev pub in_front : List Token → Result (List Token) TextFault → Result (List Token) TextFault
-in_front found (Ok ts) = Ok (found ++ ts)
-in_front found (Err f) = Err f
+pub in_front_none : (read : Result (List Token) TextFault) → in_front [] read ≡ read
+in_front_none (Ok ts) = refl
+in_front_none (Err f) = refl
+
+-- a fault stands behind no tokens
+pub fault_alone : (others : List Token) (read : Result (List Token) TextFault) (f : TextFault) → in_front others read ≡ Err f → read ≡ Err f
+fault_alone others (Ok ts) f h = absurd (cc)
+fault_alone others (Err g) f h = h
 
 regroup : (found : List Token) (t : Token) (read : Result (List Token) TextFault) → in_front found (before t read) ≡ in_front (found ++ t ∷ []) read
 regroup found t (Ok ts) = ap (λ (xs : List Token). Ok (xs)) (simp append_assoc)

@@ -1,5 +1,5 @@
 -- The tokens of a line of source. A line ends or has a comment; before that stand blanks and tokens, each the longest that fits.
-use Rattle.std.specs.Prelude.{◌≡◌, ◌≢◌, ℕ, zero, suc, ◌+◌, ◌^◌, ◌≤◌, Bool, false, ◌&&◌, ◌||◌, ◌==◌, nat_lt, nat_le, if◌then◌else◌, List, [], ◌∷◌, length, drop, take, slice_index, Result, Ok, Err, MatchResult}
+use Rattle.std.specs.Prelude.{◌≡◌, ◌≢◌, ℕ, zero, suc, ◌+◌, ◌^◌, ◌≤◌, Bool, false, ◌&&◌, ◌||◌, ◌==◌, nat_lt, nat_le, if◌then◌else◌, List, [], ◌∷◌, ◌++◌, length, drop, take, slice_index, Result, Ok, Err, MatchResult}
 use Rattle.std.specs.List.{prefix_len}
 use Rattle.std.specs.Char.{is_digit}
 use Rattle.std.specs.Str.Parse.{digits_value}
@@ -96,6 +96,11 @@ tokens_at (suc k) at bytes = after (tokens_at k) at bytes (front bytes)
 -- a line is at most 1,024 bytes long; each step reads at least one byte
 abbrev pub tokens_of : List ℕ → Result (List Token) TextFault
 tokens_of line = if nat_lt 1024 (length line) then Err LineTooLong else tokens_at (length line) 0 line
+
+-- other tokens in front of all that are read
+abbrev pub in_front : List Token → Result (List Token) TextFault → Result (List Token) TextFault
+in_front others (Ok ts) = Ok (others ++ ts)
+in_front others (Err f) = Err f
 
 -- what a call gives is this, but want of memory may stand in the place of any answer
 abbrev pub Gives : {X Y : Type 0} → (X → Y) → Result X TextFault → Result Y TextFault → Type 0

@@ -1,8 +1,10 @@
 //! Tokens of a line of source.
 #![tactic(auto)]
 
-ghost use Rattle.std.specs.Prelude.{◌≡◌, IfOk, length};
-ghost use Rattle.sbx_text.specs.Tokens.{tokens_of, tokens_at, Gives};
+ghost use Rattle.std.specs.Prelude.{◌≡◌, ◌≢◌, ◌++◌, IfOk, List, MatchResult, Ok, Err, length};
+ghost use Rattle.want.specs.Wants.{refused};
+ghost use Rattle.sbx_text.specs.declared.fault.TextFault.TheVariants.{Memory};
+ghost use Rattle.sbx_text.specs.Tokens.{tokens_of, tokens_at, in_front, Gives};
 ghost use Rattle.sbx_text.specs.Slices.{AreSlices};
 
 mod fault;
@@ -41,21 +43,36 @@ pub fn tokens(alloc: Global, line: &[u8]) -> Result<Vec<Token>, TextFault>
     ensures exact { Gives (λ found. found.items) result (tokens_of line.now) }
     ensures slices { IfOk result (λ found. AreSlices 0 line.now found.items) }
 {
+    let mut found = Vec::new(alloc);
+    match push_tokens(line, &mut found) {
+        Ok(()) => Ok(found),
+        Err(fault) => Err(fault),
+    }
+}
+
+/// Adds the tokens of one line, which has no LF, to others.
+///
+/// # Errors
+/// As of `tokens`. Some tokens of the line may have been added then.
+pub fn push_tokens(line: &[u8], found: &mut Vec<Token>) -> Result<(), TextFault>
+    ensures exact { MatchResult result (λ _. in_front found.old.items (tokens_of line.now) ≡ Ok found.new.items) (λ fault. fault ≢ Memory refused → tokens_of line.now ≡ Err fault) }
+    ensures others { (more : List Token) × (found.new.items ≡ found.old.items ++ more) }
+{
     if line.len() > LONGEST {
         return Err(TextFault::LineTooLong);
     }
-    scan(alloc, line)
+    scan(line, found)
 }
 
-fn scan(alloc: Global, line: &[u8]) -> Result<Vec<Token>, TextFault>
-    ensures { Gives (λ found. found.items) result (tokens_at (length line.now) 0 line.now) }
+fn scan(line: &[u8], found: &mut Vec<Token>) -> Result<(), TextFault>
+    ensures exact { MatchResult result (λ _. in_front found.old.items (tokens_at (length line.now) 0 line.now) ≡ Ok found.new.items) (λ fault. fault ≢ Memory refused → tokens_at (length line.now) 0 line.now ≡ Err fault) }
+    ensures others { (more : List Token) × (found.new.items ≡ found.old.items ++ more) }
 {
-    let mut found = Vec::new(alloc);
     let mut start = 0;
     let mut rest = line;
     for _ in 0..line.len() {
         match front(rest) {
-            Step::Stop => return Ok(found),
+            Step::Stop => return Ok(()),
             Step::Skip => {
                 start += 1;
                 rest = rest.split_at(1).1;
@@ -69,5 +86,5 @@ fn scan(alloc: Global, line: &[u8]) -> Result<Vec<Token>, TextFault>
             Step::Refuse(fault) => return Err(fault),
         }
     }
-    Ok(found)
+    Ok(())
 }

@@ -1,4 +1,4 @@
-use Rattle.std.proofs.Common.{◌≡◌, drop, pos}
+use Rattle.std.proofs.Common.{◌≡◌, drop}
 use Rattle.std.specs.List.{flat_map}
 use Rattle.sbx_asm.specs.Items.{stacks, first_or}
 use Rattle.sbx_asm.proofs.annotations.stack_of.Given as goal

@@ -1,6 +1,5 @@
-use Rattle.std.proofs.Common.{◌+◌, ◌≡◌, List, ◌∷◌, ◌++◌, [], ap, ◌∙◌}
+use Rattle.std.proofs.Common.{◌+◌, List, ◌∷◌, ◌++◌, [], ap, ◌∙◌}
 use Rattle.sbx_image.specs.Block.{Block}
-use Rattle.sbx_asm.specs.declared.place.Place.{Place}
 use Rattle.sbx_asm.specs.Items.{each, up_to, ends_block}
 use Rattle.sbx_asm.specs.Addresses.{code_address}
 use Rattle.sbx_asm.specs.Images.{block_with, block_at}

@@ -1,5 +1,4 @@
-use Rattle.std.proofs.Common.{◌≡◌, ◌-◌, inl, inr, arith}
-use Rattle.std.specs.Prelude.{slice_index}
+use Rattle.std.proofs.Common.{inl, inr, arith}
 use Rattle.std.proofs.lemmas.Bool.{eqb-true}
 use Rattle.sbx_asm.proofs.FirstLines.{is_clear, differs, with_return, without_return, last_line}
 use Rattle.sbx_asm.proofs.lines.first_line.Goals as goal

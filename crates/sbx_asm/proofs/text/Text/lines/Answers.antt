@@ -23,10 +23,10 @@ loop-index-preserved c =
           (other_lines c.as_slice-found.result.now c.loop-index.index this c.loop-index.tokens.now c.loop-index.rest.now is c.loop-index.invariant.read c.first_line.result.0.now c.first_line.result.1.now c.first_line.ensures.lines);
       counts = rw c.with_own-line.ensures.rest (counts_left c.as_slice-found.result.now c.loop-index.index this c.loop-index.tokens.now is c.loop-index.invariant.counts).1;
       meant = rw (
-            c.in_ok-push.ensures,
-            c.with_own-line.ensures.line
-                (own_line c.as_slice-found.result.now c.loop-index.index this c.loop-index.tokens.now c.loop-index.rest.now is c.loop-index.invariant.read c.first_line.result.0.now c.first_line.result.1.now c.first_line.ensures.lines),
-          )
+        c.in_ok-push.ensures,
+        c.with_own-line.ensures.line
+            (own_line c.as_slice-found.result.now c.loop-index.index this c.loop-index.tokens.now c.loop-index.rest.now is c.loop-index.invariant.read c.first_line.result.0.now c.first_line.result.1.now c.first_line.ensures.lines),
+      )
           (next_item c.loop-index.lines (items_of c.args.self.now) c.loop-index.index c.loop-index.rest.now c.loop-index.invariant.meant c.first_line.result.0.now c.first_line.result.1.now c.first_line.ensures.lines);
     }
 

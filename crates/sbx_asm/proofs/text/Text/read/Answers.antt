@@ -1,4 +1,4 @@
-use Rattle.std.proofs.Common.{List, subst, ◌≡◌, ℕ, length, arith}
+use Rattle.std.proofs.Common.{List, subst, ℕ, arith}
 use Rattle.sbx_asm.specs.Lines.{lines_of}
 use Rattle.sbx_asm.specs.Reads.{Keeps}
 use Rattle.sbx_asm.proofs.Keeping.{all_read}

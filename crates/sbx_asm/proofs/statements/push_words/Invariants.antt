@@ -1,6 +1,0 @@
-use Rattle.std.proofs.Common.{◌≡◌, ◌++◌, take, map}
-use Rattle.v8_formats.specs.Spelling.{spelling}
-use Rattle.sbx_asm.proofs.statements.push_words.Given as goal
-
-abbrev pub invariant-loop-instruction : goal.invariant-loop-instruction
-invariant-loop-instruction l = l.words ≡ l.fn.words ++ map spelling (take l.instruction-index l.instructions)
