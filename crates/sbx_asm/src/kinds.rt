@@ -9,7 +9,7 @@ use sbx_directives::{Directive, Keyword, Statement};
 pub fn starts_function(line: &Line<'_>) -> bool
     ensures { result ≡ starts_function line.now }
 {
-    match line.said {
+    match line.said() {
         Ok(Statement::Directive(Directive::Function { .. })) => true,
         _ => false,
     }
@@ -19,7 +19,7 @@ pub fn starts_function(line: &Line<'_>) -> bool
 pub fn ends_function(line: &Line<'_>) -> bool
     ensures { result ≡ ends_function line.now }
 {
-    match line.said {
+    match line.said() {
         Ok(Statement::Directive(Directive::Function { .. })) => true,
         Ok(Statement::Malformed(Keyword::Function, _)) => true,
         _ => false,
@@ -30,7 +30,7 @@ pub fn ends_function(line: &Line<'_>) -> bool
 pub fn is_block(line: &Line<'_>) -> bool
     ensures { result ≡ is_block line.now }
 {
-    match line.said {
+    match line.said() {
         Ok(Statement::Directive(Directive::Block(_))) => true,
         Ok(Statement::Malformed(Keyword::Block, _)) => true,
         _ => false,
@@ -48,7 +48,7 @@ pub fn ends_block(line: &Line<'_>) -> bool
 pub fn is_text(line: &Line<'_>) -> bool
     ensures { result ≡ is_text line.now }
 {
-    match line.said {
+    match line.said() {
         Ok(Statement::Directive(Directive::Text)) => true,
         _ => false,
     }
@@ -58,7 +58,7 @@ pub fn is_text(line: &Line<'_>) -> bool
 pub fn is_data(line: &Line<'_>) -> bool
     ensures { result ≡ is_data line.now }
 {
-    match line.said {
+    match line.said() {
         Ok(Statement::Directive(Directive::Data)) => true,
         _ => false,
     }
@@ -68,7 +68,7 @@ pub fn is_data(line: &Line<'_>) -> bool
 pub fn is_region(line: &Line<'_>) -> bool
     ensures { result ≡ is_region line.now }
 {
-    match line.said {
+    match line.said() {
         Ok(Statement::Directive(Directive::Region { .. })) => true,
         _ => false,
     }
@@ -78,7 +78,7 @@ pub fn is_region(line: &Line<'_>) -> bool
 pub fn has_bytes(line: &Line<'_>) -> bool
     ensures { result ≡ has_bytes line.now }
 {
-    match line.said {
+    match line.said() {
         Ok(Statement::Directive(Directive::Values(..))) => true,
         Ok(Statement::Directive(Directive::Skip(count))) => count > 0,
         _ => false,

@@ -68,7 +68,7 @@ impl Draft {
         match self
             .region
             .bytes
-            .push_values(width, &scope, line.bytes, line.tokens())
+            .push_values(width, &scope, line.bytes(), line.tokens())
         {
             Ok(()) => {}
             Err(DataFault::UnknownSymbol) => {
@@ -155,7 +155,7 @@ impl Draft {
             table,
             here: self.place.next_word,
         };
-        match parse_instr(line.bytes, line.tokens(), &scope) {
+        match parse_instr(line.bytes(), line.tokens(), &scope) {
             Ok(instructions) => push_words(&mut self.words, instructions.as_slice())?,
             Err(fault) => self.note(Cause::Syntax(fault)),
         }
@@ -199,7 +199,7 @@ impl Draft {
     ) -> Result<(), AllocError>
         ensures { IfOk result (λ _. self.new ≡ line_does (worth table.now) line.now line.now.said self.old) }
     {
-        match line.said {
+        match line.said() {
             Ok(statement) => self.statement_does(alloc, table, line, statement)?,
             Err(fault) => {
                 self.note(Cause::Text(fault));
@@ -219,7 +219,7 @@ impl Draft {
     ) -> Result<(), AllocError>
         ensures { IfOk result (λ _. self.new ≡ draft_item (worth table.now) self.old line.now) }
     {
-        self.begin_line(line.number);
+        self.begin_line(line.number());
         let place = self.place.old_after(line);
         self.line_does(alloc, table, line)?;
         self.place = place;
