@@ -4,6 +4,7 @@ pub mod Items
 pub mod Addresses
 pub mod Rules
 pub mod Reads
+pub mod Told
 pub mod Tables
 pub mod Contexts
 pub mod Images

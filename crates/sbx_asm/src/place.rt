@@ -87,7 +87,7 @@ fn fits_behind(offset: u32, bytes: u128) -> bool
 fn data_length(bytes: u32, line: &Line<'_>) -> u128
     ensures { result ≡ data_length bytes line.now.said }
 {
-    match line.said {
+    match line.said() {
         Ok(Statement::Directive(Directive::Values(width, count))) => bytes_of_values(width, count),
         Ok(Statement::Directive(Directive::Skip(count))) => u128::from(count),
         Ok(Statement::Directive(Directive::Align(unit))) => u128::from(padding(unit, bytes)),

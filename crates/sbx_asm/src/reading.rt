@@ -1,41 +1,63 @@
 //! A line of a source, as it was read.
-ghost use Rattle.std.specs.Prelude.{◌≡◌, Ok, Err, drop, ◌*◌};
+ghost use Rattle.std.specs.Prelude.{◌≡◌, IfOk, Ok, Err, drop, ◌*◌};
 ghost use Rattle.sbx_text.specs.Tokens.{tokens_of};
 ghost use Rattle.v8_syntax.specs.Statements.{statement_length};
+ghost use Rattle.sbx_directives.specs.Directives.{statement_of};
 ghost use Rattle.sbx_asm.specs.Items.{item_of, label_names};
 ghost use Rattle.sbx_asm.specs.Addresses.{code_length};
+ghost use Rattle.sbx_asm.specs.Told.{said_of, IsCounted};
 
 use sbx_directives::{Statement, label_count, read_statement};
 use sbx_text::{TextFault, Token};
+use std::alloc::{AllocError, Global};
 use std::marker::Model;
 use v8_syntax::length_of;
+
+/// What stands behind a line's labels, or why it has no tokens. Most lines have an instruction, so what is rarer lies elsewhere.
+#[derive(Drop)]
+enum Told {
+    Nothing,
+    /// It takes so many words.
+    Instruction(usize),
+    Other(Box<Statement>),
+    Fault(TextFault),
+}
 
 /// A line of a source. Contracts see the item that it is.
 #[derive(Drop)]
 pub struct Line<'a> {
     /// From 1.
-    pub number: usize,
-    pub bytes: &'a [u8],
+    number: usize,
+    bytes: &'a [u8],
     /// None where the line has a fault of its text.
     tokens: &'a [Token],
     /// How many labels its tokens begin with.
     label_count: usize,
-    /// How many words what stands behind them takes, if it is an instruction.
-    words: usize,
-    /// What stands behind the labels, or why there are no tokens.
-    pub said: Result<Statement, TextFault>,
+    told: Told,
 }
 
 impl<'a> Model for Line<'a> {
     ghost use Rattle.std.specs.Prelude.{◌≡◌, ◌*◌, drop};
-    ghost use Rattle.v8_syntax.specs.Statements.{statement_length};
     ghost use Rattle.sbx_asm.specs.Items.{Item, label_names};
+    ghost use Rattle.sbx_asm.specs.Told.{said_of, IsCounted};
 
     ghost Value = { Item };
 
-    ghost view = { λ l. record { number = l.number; labels = label_names l.bytes.now l.label_count l.tokens.now; bytes = l.bytes.now; tokens = drop (2 * l.label_count) l.tokens.now; said = l.said } };
+    ghost view = { λ l. record { number = l.number; labels = label_names l.bytes.now l.label_count l.tokens.now; bytes = l.bytes.now; tokens = drop (2 * l.label_count) l.tokens.now; said = said_of l.told } };
 
-    ghost invariant = { λ l. l.words ≡ statement_length l.bytes.now (drop (2 * l.label_count) l.tokens.now) };
+    ghost invariant = { λ l. IsCounted l.told l.bytes.now (drop (2 * l.label_count) l.tokens.now) };
+}
+
+/// What some tokens of a line say.
+fn told_by(alloc: Global, line: &[u8], tokens: &[Token]) -> Result<Told, AllocError>
+    ensures said { IfOk result (λ told. said_of told ≡ Ok (statement_of line.now tokens.now)) }
+    ensures counted { IfOk result (λ told. IsCounted told line.now tokens.now) }
+{
+    match read_statement(line, tokens) {
+        Statement::Nothing => Ok(Told::Nothing),
+        Statement::Instruction => Ok(Told::Instruction(length_of(line, tokens))),
+        statement => Ok(Told::Other(Box::new(alloc, statement)?)),
+    }
 }
 
 /// The tokens behind so many labels.
@@ -51,19 +73,23 @@ fn behind_labels(tokens: &[Token], count: usize) -> &[Token]
 
 impl<'a> Line<'a> {
     /// The line of that number with its tokens.
-    pub fn with_tokens(number: usize, bytes: &'a [u8], tokens: &'a [Token]) -> Line<'a>
-        ensures { Ok tokens.now ≡ tokens_of bytes.now → result ≡ item_of (number, bytes.now) }
+    pub fn with_tokens(
+        alloc: Global,
+        number: usize,
+        bytes: &'a [u8],
+        tokens: &'a [Token],
+    ) -> Result<Line<'a>, AllocError>
+        ensures { IfOk result (λ line. Ok tokens.now ≡ tokens_of bytes.now → line ≡ item_of (number, bytes.now)) }
     {
         let label_count = label_count(bytes, tokens);
-        let behind = behind_labels(tokens, label_count);
-        Line {
+        let told = told_by(alloc, bytes, behind_labels(tokens, label_count))?;
+        Ok(Line {
             number,
             bytes,
             tokens,
             label_count,
-            words: length_of(bytes, behind),
-            said: Ok(read_statement(bytes, behind)),
-        }
+            told,
+        })
     }
 
     /// The line of that number that has no tokens for a fault.
@@ -75,8 +101,7 @@ impl<'a> Line<'a> {
             bytes,
             tokens: &[],
             label_count: 0,
-            words: 1,
-            said: Err(fault),
+            told: Told::Fault(fault),
         }
     }
 
@@ -98,7 +123,12 @@ impl<'a> Line<'a> {
     pub fn said(&self) -> Result<Statement, TextFault>
         ensures { result ≡ self.now.said }
     {
-        self.said
+        match &self.told {
+            Told::Nothing => Ok(Statement::Nothing),
+            Told::Instruction(_) => Ok(Statement::Instruction),
+            Told::Other(statement) => Ok(**statement),
+            Told::Fault(fault) => Err(*fault),
+        }
     }
 
     /// How many labels it has, and tokens that begin with them.
@@ -119,14 +149,18 @@ impl<'a> Line<'a> {
     pub fn code_len(&self) -> u128
         ensures { result ≡ 4 * statement_length self.now.bytes self.now.tokens }
     {
-        4 * self.words as u128
+        let words = match &self.told {
+            Told::Instruction(words) => *words,
+            _ => length_of(self.bytes, self.tokens()),
+        };
+        4 * words as u128
     }
 
     /// How many bytes of code the line takes.
     pub fn code_length(&self) -> u128
         ensures { result ≡ code_length self.now }
     {
-        match self.said {
+        match self.said() {
             Ok(Statement::Instruction) => self.code_len(),
             Err(_) => 4,
             _ => 0,

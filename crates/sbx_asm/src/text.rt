@@ -85,23 +85,31 @@ impl Kept {
     }
 }
 
-/// A line of that number that has these tokens, of which it takes its own, and those behind them.
-fn with_own<'a>(
+/// The line of that number that has the first of some tokens.
+fn line_with<'a>(
+    alloc: Global,
     number: usize,
     bytes: &'a [u8],
     found: Found,
     tokens: &'a [Token],
-) -> (Line<'a>, &'a [Token])
+) -> Result<Line<'a>, AllocError>
     requires { count_of found ≤ length tokens.now }
-    ensures line { own found tokens.now ≡ tokens_of bytes.now → result.0 ≡ item_of (number, bytes.now) }
-    ensures rest { result.1.now ≡ drop (count_of found) tokens.now }
+    ensures { IfOk result (λ line. own found tokens.now ≡ tokens_of bytes.now → line ≡ item_of (number, bytes.now)) }
 {
     match found {
-        Found::Tokens(count) => {
-            let (own, rest) = tokens.split_at(count);
-            (Line::with_tokens(number, bytes, own), rest)
-        }
-        Found::Fault(fault) => (Line::with_fault(number, bytes, fault), tokens),
+        Found::Tokens(count) => Line::with_tokens(alloc, number, bytes, tokens.split_at(count).0),
+        Found::Fault(fault) => Ok(Line::with_fault(number, bytes, fault)),
+    }
+}
+
+/// The tokens behind those of a line.
+fn behind(found: Found, tokens: &[Token]) -> &[Token]
+    requires { count_of found ≤ length tokens.now }
+    ensures { result.now ≡ drop (count_of found) tokens.now }
+{
+    match found {
+        Found::Tokens(count) => tokens.split_at(count).1,
+        Found::Fault(_) => tokens,
     }
 }
 
@@ -133,10 +141,10 @@ impl<'a> Text<'a> {
         let mut tokens = self.kept.tokens.as_slice();
         for index in 0..found.len() {
             let (bytes, after) = first_line(rest);
-            let (line, others) = with_own(index + 1, bytes, found[index], tokens);
+            let line = line_with(alloc, index + 1, bytes, found[index], tokens)?;
             lines.push(line)?;
             rest = after;
-            tokens = others;
+            tokens = behind(found[index], tokens);
         }
         Ok(lines)
     }

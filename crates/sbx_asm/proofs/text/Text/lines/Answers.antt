@@ -10,8 +10,12 @@ pub first_line-requires : goal.first_line-requires
 first_line-requires c =
     is_left c.as_slice-found.result.now c.loop-index.index _ c.loop-index.tokens.now c.loop-index.rest.now (drop_more c.as_slice-found.result.now c.loop-index.index (Tokens 0) (omega arith)) c.loop-index.invariant.read
 
-pub with_own-line-requires : goal.with_own-line-requires
-with_own-line-requires c =
+pub line_with-requires : goal.line_with-requires
+line_with-requires c =
+    (counts_left c.as_slice-found.result.now c.loop-index.index _ c.loop-index.tokens.now (drop_more c.as_slice-found.result.now c.loop-index.index (Tokens 0) c.loop-index-test.true) c.loop-index.invariant.counts).0
+
+pub behind-tokens-requires : goal.behind-tokens-requires
+behind-tokens-requires c =
     (counts_left c.as_slice-found.result.now c.loop-index.index _ c.loop-index.tokens.now (drop_more c.as_slice-found.result.now c.loop-index.index (Tokens 0) c.loop-index-test.true) c.loop-index.invariant.counts).0
 
 pub loop-index-preserved : goal.loop-index-preserved
@@ -19,12 +23,12 @@ loop-index-preserved c =
     let this : Found = get_or c.as_slice-found.result.now c.loop-index.index (Tokens 0) in
     let is : drop c.loop-index.index c.as_slice-found.result.now ≡ this ∷ drop (c.loop-index.index + 1) c.as_slice-found.result.now = drop_more c.as_slice-found.result.now c.loop-index.index (Tokens 0) c.loop-index-test.true in
     record {
-      read = rw c.with_own-line.ensures.rest
+      read = rw c.behind-tokens.ensures
           (other_lines c.as_slice-found.result.now c.loop-index.index this c.loop-index.tokens.now c.loop-index.rest.now is c.loop-index.invariant.read c.first_line.result.0.now c.first_line.result.1.now c.first_line.ensures.lines);
-      counts = rw c.with_own-line.ensures.rest (counts_left c.as_slice-found.result.now c.loop-index.index this c.loop-index.tokens.now is c.loop-index.invariant.counts).1;
+      counts = rw c.behind-tokens.ensures (counts_left c.as_slice-found.result.now c.loop-index.index this c.loop-index.tokens.now is c.loop-index.invariant.counts).1;
       meant = rw (
         c.in_ok-push.ensures,
-        c.with_own-line.ensures.line
+        c.in_ok-line.ensures
             (own_line c.as_slice-found.result.now c.loop-index.index this c.loop-index.tokens.now c.loop-index.rest.now is c.loop-index.invariant.read c.first_line.result.0.now c.first_line.result.1.now c.first_line.ensures.lines),
       )
           (next_item c.loop-index.lines (items_of c.args.self.now) c.loop-index.index c.loop-index.rest.now c.loop-index.invariant.meant c.first_line.result.0.now c.first_line.result.1.now c.first_line.ensures.lines);
