@@ -2,6 +2,7 @@
 use Rattle.std.proofs.Common.{◌≡◌, ℕ, zero, suc, ◌-◌, ◌<◌, Bool, true, false, List, [], ◌∷◌, ◌++◌, map, Option, Some, None, refl, sym, ap, ◌∙◌, subst, arith}
 use Rattle.std.specs.Prelude.{◌&&◌, ◌||◌, not, if◌then◌else◌}
 use Rattle.std.specs.List.{list_any}
+use Rattle.std.proofs.lemmas.Bool.{false≢true, true≢false}
 use Rattle.std.proofs.lemmas.Bool.Decides.{nat_tests}
 use Rattle.v8_formats.specs.declared.instr.Branch.{Branch}
 use Rattle.v8_meaning.specs.declared.operation.Operation.{Operation}
@@ -56,8 +57,8 @@ module _ (parts : Parts) (f b i : ℕ) (well : has_bad_shape parts f b i ≡ fal
 
   alone : (s t u : Bool) → (s && (t || u)) ≡ false → t ≡ true → s ≡ false
   alone false t u k e = refl
-  alone true true u k e = absurd (cc)
-  alone true false u k e = absurd (cc)
+  alone true true u k e = absurd (true≢false k)
+  alone true false u k e = absurd (false≢true e)
 
   -- no transfer stands in a slot
   no_slot : is_transfer op ≡ true → is_transfer before ≡ false
@@ -65,9 +66,9 @@ module _ (parts : Parts) (f b i : ℕ) (well : has_bad_shape parts f b i ≡ fal
 
   last_of : (s t u : Bool) → (s && not t && not u) ≡ false → s ≡ true → t ≡ false → u ≡ true
   last_of true false true k e g = refl
-  last_of true false false k e g = absurd (cc)
-  last_of true true u k e g = absurd (cc)
-  last_of false t u k e g = absurd (cc)
+  last_of true false false k e g = absurd (true≢false k)
+  last_of true true u k e g = absurd (true≢false g)
+  last_of false t u k e g = absurd (false≢true e)
 
   -- a branch's slot ends its block
   pub ends_block : is_branch before ≡ true → suc i < words_in parts f b → ⊥

@@ -1,6 +1,7 @@
 -- What the condition codes of a comparison, and of a value, say of words.
 use Rattle.std.proofs.Common.{◌≡◌, ◌≢◌, ℕ, ◌^◌, ◌<◌, ◌≤◌, Bool, true, false, ◌||◌, refl, arith, inl, inr, ◌⊎◌}
 use Rattle.std.specs.Prelude.{◌==◌, not, nat_le, ℤ, pos, negsuc, ◌-ℤ◌, ◌≤ℤ◌, ◌<ℤ◌}
+use Rattle.std.proofs.lemmas.Bool.{false≢true, true≢false}
 use Rattle.std.proofs.lemmas.Bool.Decides.{nat_tests, Decides-eqb}
 use Rattle.std.proofs.lemmas.Int.{ints}
 use Rattle.v8_alu.specs.Conditions.{holds, differ}
@@ -50,8 +51,8 @@ less-says-at x y true true p q e f h =
     let d = signed-difference x y p q (omega (arith, ints)) (omega (arith, ints)) in
     let s = sign-true (difference x y false) (omega arith) e in
     omega (arith, ints)
-less-says-at x y true false p q e f h = absurd (cc)
-less-says-at x y false true p q e f h = absurd (cc)
+less-says-at x y true false p q e f h = absurd (false≢true h)
+less-says-at x y false true p q e f h = absurd (false≢true h)
 less-says-at x y false false p q e f h =
     let z = inexact (signed x -ℤ signed y -ℤ pos 0) f in
     let cx = signed-word x p in
@@ -71,8 +72,8 @@ less-denies-at x y true false p q e f h =
     let cz = signed-word (difference x y false) (omega arith) in
     let s = sign-true (difference x y false) (omega arith) e in
     grind (arith, ints)
-less-denies-at x y true true p q e f h = absurd (cc)
-less-denies-at x y false false p q e f h = absurd (cc)
+less-denies-at x y true true p q e f h = absurd (true≢false h)
+less-denies-at x y false false p q e f h = absurd (true≢false h)
 less-denies-at x y false true p q e f h =
     let z = is_signed_word-says (signed x -ℤ signed y -ℤ pos 0) f in
     let low = z.0 in let high = z.1 in

@@ -1,3 +1,4 @@
+use Rattle.std.proofs.lemmas.Grind.{common_steps}
 use Rattle.std.proofs.Common.{rules, arith, ◌^◌, ◌*ℤ◌, ◌≤◌, unsigned_abs, FitsSigned}
 use Rattle.std.specs.Int.{w128}
 use Rattle.std.proofs.lemmas.Int.{fits_signed_mul, to_z-of_z}
@@ -18,3 +19,6 @@ returns-clause-bound c =
     let fy : FitsSigned w128 y = search rules in
     let bound : unsigned_abs (x *ℤ y) ≤ 2 ^ 72 = product_within x y low high in
     rw (to_z-of_z w128 x fx, to_z-of_z w128 y fy, to_z-of_z w128 (x *ℤ y) fits) (bound)
+
+pub returns-clause-value : goal.returns-clause-value
+returns-clause-value c = grind (arith, common_steps)

@@ -1,3 +1,4 @@
+use Rattle.std.proofs.lemmas.Grind.{common_steps}
 use Rattle.std.proofs.Common.{◌^◌, length, rules, arith, ap, sym, subst, List}
 use Rattle.sbx_form.specs.declared.terms.FormTerm.{FormTerm}
 use Rattle.sbx_form.specs.Forms.{AreWithin}
@@ -19,3 +20,9 @@ add_terms-requires c =
         ),
       ),
     )
+
+pub with_constant-constant-requires : goal.with_constant-constant-requires
+with_constant-constant-requires c = grind (arith, common_steps)
+
+pub scaled-requires : goal.scaled-requires
+scaled-requires c = grind (arith, common_steps)

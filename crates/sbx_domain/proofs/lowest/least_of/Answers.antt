@@ -1,3 +1,4 @@
+use Rattle.std.proofs.lemmas.Grind.{common_steps}
 use Rattle.std.proofs.Common.{◌≡◌, ◌≤◌, ◌^◌, ℤ, ◌+ℤ◌, ◌*ℤ◌, arith, rules, pos, ap, ◌∙◌, to_z, of_z, drop, ◌+◌, get_or}
 use Rattle.std.specs.Int.{int_min, w128}
 use Rattle.std.specs.Prelude.{unsigned_abs}
@@ -40,3 +41,6 @@ loop-term-preserved c =
 
 pub returns-clause-value : goal.returns-clause-value
 returns-clause-value c = least_all (ends_known (known c.args.start.now)) c.args.terms.now c.loop-term.term-index _ _ c.loop-term-test.false c.loop-term.invariant.value
+
+pub plus-least-requires-clause-one : goal.plus-least-requires-clause-one
+plus-least-requires-clause-one c = grind (arith, common_steps)

@@ -1,3 +1,4 @@
+use Rattle.std.proofs.lemmas.Grind.{common_steps}
 use Rattle.std.proofs.Common.{◌≡◌, length, None, refl, ◌∙◌, arith, length-set, rules}
 use Rattle.sbx_domain.proofs.Moves.{all_filled, nothing_filled, one_more_filled}
 use Rattle.sbx_domain.proofs.moving.clear_entries.Goals as goal
@@ -17,3 +18,6 @@ loop-location-preserved g c =
 pub returns-clause-cleared : goal.returns-clause-cleared
 returns-clause-cleared g c =
     λ k. all_filled g.row.T.Denot c.loop-location.location (λ j. None) c.args.entries.now c.loop-location.entries (omega (arith, c.loop-location-test.false)) (λ j past. refl) c.loop-location.invariant.1 k
+
+pub offset_bounds-entries-location : goal.offset_bounds-entries-location
+offset_bounds-entries-location g c = grind (arith, common_steps)

@@ -1,3 +1,4 @@
+use Rattle.std.proofs.lemmas.Grind.{common_steps}
 use Rattle.std.proofs.Common.{◌≡◌, ◌-◌, length, ap, ◌∙◌, arith, length-set, Bool, true, if◌then◌else◌, slice_index_or, None}
 use Rattle.std.specs.Prelude.{nat_le}
 use Rattle.std.proofs.lemmas.Bool.Decides.{nat_tests}
@@ -20,3 +21,6 @@ pub returns-clause-moved : goal.returns-clause-moved
 returns-clause-moved g c =
     λ k. (let from : nat_le c.loop-left.left k ≡ true = grind (arith, nat_tests, c.loop-left-test.false) in
     c.loop-left.invariant.2 k ∙ ap (λ (t : Bool). if t then after_save g.row.T.Denot c.args.entries.now k else slice_index_or c.args.entries.now k None) from)
+
+pub offset_bounds-entries-left : goal.offset_bounds-entries-left
+offset_bounds-entries-left g c = grind (arith, common_steps)

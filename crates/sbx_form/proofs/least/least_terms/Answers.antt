@@ -1,3 +1,4 @@
+use Rattle.std.proofs.lemmas.Grind.{common_steps}
 use Rattle.std.proofs.Common.{◌≡◌, ℤ, ◌+ℤ◌, arith, rules, pos, ap, ◌∙◌, to_z, of_z}
 use Rattle.std.specs.Int.{w128}
 use Rattle.std.proofs.lemmas.Int.{to_z-of_z}
@@ -29,3 +30,9 @@ loop-term-preserved c =
 
 pub returns : goal.returns
 returns c = least_all (ends_of c.args.ranges.now) c.args.terms.now c.loop-term.term-index _ _ c.loop-term-test.false c.loop-term.invariant.value
+
+pub plus-least-requires-clause-one : goal.plus-least-requires-clause-one
+plus-least-requires-clause-one c = grind (arith, common_steps)
+
+pub least_term-requires : goal.least_term-requires
+least_term-requires c = grind (arith, common_steps)

@@ -1,3 +1,4 @@
+use Rattle.std.proofs.lemmas.Grind.{common_steps}
 use Rattle.std.proofs.Common.{◌≡◌, ℕ, ℤ, ◌+◌, ◌*◌, ◌*ℤ◌, ◌^◌, ◌≤◌, pos, rules, arith, List, drop, get_or, length, sym, ap, ◌∙◌, subst, to_z, of_z, w32}
 use Rattle.std.proofs.lemmas.Int.{to_z-of_z}
 use mir.Val.{SFits}
@@ -41,3 +42,6 @@ pub returns : goal.returns
 returns g c =
     let f : SFits w32 c.args.times = search rules in
     all_added (to_z w32 (of_z w32 c.args.times)) c.args.times c.args.more.now c.loop-term.terms.items c.loop-term.term-index c.args.terms.now.items c.loop-term-test.false (to_z-of_z w32 c.args.times f) c.loop-term.invariant.value
+
+pub loop-term-init : goal.loop-term-init
+loop-term-init g c = grind (arith, common_steps)

@@ -1,3 +1,4 @@
+use Rattle.std.proofs.lemmas.Grind.{common_steps}
 use Rattle.std.proofs.Common.{rules, ◌≡◌, ℕ, ◌<◌, ◌++◌, ℤ, pos, ◌+ℤ◌, List, length, take, drop, get_or, ap, ◌∙◌, sym, arith, to_z, of_z}
 use Rattle.std.specs.Int.{w128}
 use Rattle.std.proofs.lemmas.Int.{to_z-of_z}
@@ -34,3 +35,6 @@ returns-else-place-len-clause-splits g c =
       | else-place-len-via-else-place-len w ↦ absurd (omega arith)
     ])
     (c.requires.splits d)
+
+pub returns-then-deref-place-clause-small : goal.returns-then-deref-place-clause-small
+returns-then-deref-place-clause-small g c = grind (arith, common_steps)

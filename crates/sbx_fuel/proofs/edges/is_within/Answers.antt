@@ -1,3 +1,4 @@
+use Rattle.std.proofs.lemmas.Grind.{common_steps}
 use Rattle.std.proofs.Common.{◌≡◌, ◌∙◌, ◌^◌, ℤ, List, ap, sym, subst, pos, arith, rules, true, false, to_z, of_z, Some, Option, map, w64}
 use Rattle.std.specs.Prelude.{◌-ℤ◌}
 use Rattle.std.specs.Int.{w128}
@@ -43,3 +44,9 @@ returns-clause-above c = λ e h.
     (let t = exact.within_is (first_of c.args.function.now c.args.number c.args.block.now) (fuel_of c.args.function.now c.args.number c.args.block.now) c.args.budget
     c.requires.kept.ranges (record { ascend = c.requires.kept.ascend; nonzero = c.requires.kept.nonzero }) h in
     let s : false ≡ true = sym e ∙ (sum_is c ∙ t) in absurd cc)
+
+pub is_natural_sum-requires-clause-number : goal.is_natural_sum-requires-clause-number
+is_natural_sum-requires-clause-number c = grind (arith, common_steps)
+
+pub is_natural_sum-requires-clause-least : goal.is_natural_sum-requires-clause-least
+is_natural_sum-requires-clause-least c = grind (arith, common_steps)

@@ -1,4 +1,5 @@
-use Rattle.std.proofs.Common.{sym, subst}
+use Rattle.std.proofs.lemmas.Grind.{common_steps}
+use Rattle.std.proofs.Common.{sym, subst, arith}
 use Rattle.sbx_rules.specs.Forms.{Form}
 use Rattle.sbx_rules.specs.Known.{Known, known}
 use Rattle.sbx_rules.specs.Fuel.{IsPaid}
@@ -39,3 +40,6 @@ returns-else-has_empty_range-clause-unpaid c = λ e h.
     (subst (λ g. IsPaid (first_of c.index-functions-f.result c.args.b c.index-as_slice-b.result) (fuel_of c.index-functions-f.result c.args.b c.index-as_slice-b.result) c.args.weight (known c.args.now.now) g)
     (fuel_is c.args.image.now c.args.f c.args.target c.index-functions-f.result c.index-as_slice-target.result t)
     (of_block (λ (d : Known) (g : Form). IsPaid d g c.args.weight (known c.args.now.now) (fuel_at c.args.image.now c.args.f c.args.target)) c.args.image.now c.args.f c.args.b c.index-functions-f.result c.index-as_slice-b.result s h)))
+
+pub lasts_for-requires-clause-some : goal.lasts_for-requires-clause-some
+lasts_for-requires-clause-some c = grind (arith, common_steps)

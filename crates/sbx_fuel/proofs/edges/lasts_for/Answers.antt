@@ -1,3 +1,4 @@
+use Rattle.std.proofs.lemmas.Grind.{common_steps}
 use Rattle.std.proofs.Common.{◌≡◌, ◌∙◌, ℤ, List, ap, sym, pos, arith, rules, true, false, to_z, of_z, Option, w64}
 use Rattle.std.specs.Prelude.{◌-ℤ◌}
 use Rattle.std.specs.Int.{w128}
@@ -55,3 +56,18 @@ returns-clause-unpaid c = λ e h.
     (known c.args.now.now) (fuel_of c.args.function.now c.args.target c.args.next.now) c.requires.kept.ranges c.requires.some
     (record { ascend = c.requires.kept.ascend; nonzero = c.requires.kept.nonzero }) (record { ascend = c.requires.next_kept.ascend; nonzero = c.requires.next_kept.nonzero }) h in
     let s : false ≡ true = sym e ∙ (sum_is c ∙ t) in absurd cc)
+
+pub is_natural_sum-requires-clause-number : goal.is_natural_sum-requires-clause-number
+is_natural_sum-requires-clause-number c = grind (arith, common_steps)
+
+pub is_natural_sum-requires-clause-least : goal.is_natural_sum-requires-clause-least
+is_natural_sum-requires-clause-least c = grind (arith, common_steps)
+
+pub is_natural_sum-requires-clause-other : goal.is_natural_sum-requires-clause-other
+is_natural_sum-requires-clause-other c = grind (arith, common_steps)
+
+pub taken_by-requires-clause-small : goal.taken_by-requires-clause-small
+taken_by-requires-clause-small c = grind (arith, common_steps)
+
+pub least_at_start-requires-clause-small : goal.least_at_start-requires-clause-small
+least_at_start-requires-clause-small c = grind (arith, common_steps)

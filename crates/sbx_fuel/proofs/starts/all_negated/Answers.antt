@@ -1,4 +1,5 @@
-use Rattle.std.proofs.Common.{◌^◌, sym, subst, pos, take}
+use Rattle.std.proofs.lemmas.Grind.{common_steps}
+use Rattle.std.proofs.Common.{◌^◌, sym, subst, pos, take, arith}
 use Rattle.sbx_form.specs.declared.terms.FormTerm.{FormTerm}
 use Rattle.sbx_form.specs.Forms.{AreWithin}
 use Rattle.sbx_form.proofs.Bounds.{within_at}
@@ -16,3 +17,6 @@ pub returns-clause-small : goal.returns-clause-small
 returns-clause-small c =
     subst (AreWithin (2 ^ 31)) (sym c.loop-term.invariant.value)
     (negated_within (2 ^ 31) (take c.loop-term.term-index c.args.terms.now) (within_front (2 ^ 31) c.loop-term.term-index c.args.terms.now c.requires.small))
+
+pub loop-term-preserved : goal.loop-term-preserved
+loop-term-preserved c = grind (arith, common_steps)

@@ -1,3 +1,4 @@
+use Rattle.std.proofs.lemmas.Grind.{common_steps}
 use Rattle.std.proofs.Common.{◌≡◌, ◌∙◌, ◌+◌, ◌<◌, ◌^◌, ◌++◌, List, [], ◌∷◌, length, drop, ap, sym, subst, pos, arith, true, false, get_or}
 use Rattle.arrayvec.specs.ArrayVec.{array_vec_len}
 use Rattle.sbx_image.specs.Term.{Term}
@@ -42,3 +43,9 @@ loop-term-preserved g c =
             small = subst (AreWithin (2 ^ 31)) (sym items) c.loop-term.invariant.small;
           }
     ]
+
+pub returns-clause-value : goal.returns-clause-value
+returns-clause-value g c = grind (arith, common_steps)
+
+pub push-requires : goal.push-requires
+push-requires g c = grind (arith, common_steps)

@@ -1,3 +1,4 @@
+use Rattle.std.proofs.lemmas.Grind.{common_steps}
 use Rattle.std.proofs.Common.{◌≡◌, ℤ, ◌+◌, ◌*◌, ◌^◌, ◌≤◌, List, length, arith, sym, ap, subst, rules, to_z, of_z, unsigned_abs}
 use Rattle.std.specs.Int.{w128}
 use Rattle.std.proofs.lemmas.Int.{to_z-of_z}
@@ -35,3 +36,9 @@ returns-in_default-clause-within c = λ m h. wider_bound m (m + 2 ^ 66) c.args.t
 
 pub returns-in-Some-clause-value : goal.returns-in-Some-clause-value
 returns-in-Some-clause-value c = search rules
+
+pub add_times-requires-clause-small_form : goal.add_times-requires-clause-small_form
+add_times-requires-clause-small_form c = grind (arith, common_steps)
+
+pub add_times-requires-clause-small_times : goal.add_times-requires-clause-small_times
+add_times-requires-clause-small_times c = grind (arith, common_steps)

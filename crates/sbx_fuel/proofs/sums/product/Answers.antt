@@ -1,3 +1,4 @@
+use Rattle.std.proofs.lemmas.Grind.{common_steps}
 use Rattle.std.proofs.Common.{◌≡◌, ◌*ℤ◌, ◌^◌, arith, to_z, of_z}
 use Rattle.std.specs.Int.{w128}
 use Rattle.std.proofs.lemmas.Int.{fits_signed_mul, to_z-of_z}
@@ -19,3 +20,6 @@ returns-clause-bound c =
     let f : SFits w128 (c.args.times *ℤ c.args.number) = fits_signed_mul w128 c.args.times c.args.number (2 ^ 31) (2 ^ 40) c.requires.small_times c.requires.small (omega arith) in
     let e : to_z w128 (of_z w128 (c.args.times *ℤ c.args.number)) ≡ c.args.times *ℤ c.args.number = to_z-of_z w128 (c.args.times *ℤ c.args.number) f in
     rw (a, b, e) (product_small c.args.times c.args.number c.requires.small_times c.requires.small)
+
+pub overflow_mul-result : goal.overflow_mul-result
+overflow_mul-result c = grind (arith, common_steps)

@@ -1,3 +1,5 @@
+use Rattle.std.proofs.Common.{arith}
+use Rattle.std.proofs.lemmas.Grind.{common_steps}
 use Rattle.std.proofs.lemmas.Result.{err_from_is_err_and}
 use Rattle.sbx_image.specs.Reading.{items_at}
 use Rattle.sbx_image.proofs.Loops.{goes_on, ends, is_done}
@@ -21,3 +23,6 @@ returns g c =
     let item_at = g.T.Readable.item_at c.args.setting in
     let at = g.T.Readable.at in
     is_done item_at c.loop.items.items c.args.count c.loop.counter (at c.loop.state c.loop.rest.now) (items_at item_at c.args.count (at c.args.first c.args.bytes.now)) c.loop-test.false c.loop.invariant
+
+pub loop-init : goal.loop-init
+loop-init g c = grind (arith, common_steps)

@@ -1,4 +1,5 @@
-use Rattle.std.proofs.Common.{rules}
+use Rattle.std.proofs.lemmas.Grind.{common_steps}
+use Rattle.std.proofs.Common.{rules, arith}
 use Rattle.sbx_port.proofs.carrying.deliver.Goals as goal
 
 pub returns-in-Ok-eq0-clause-nothing : goal.returns-in-Ok-eq0-clause-nothing
@@ -21,3 +22,9 @@ returns-in-Ok-eq0-clause-fault g c = assumption
 
 pub returns-in-Ok-eq0-2-clause-fault : goal.returns-in-Ok-eq0-2-clause-fault
 returns-in-Ok-eq0-2-clause-fault g c = assumption
+
+pub returns-in-Ok-eq0-2-clause-held : goal.returns-in-Ok-eq0-2-clause-held
+returns-in-Ok-eq0-2-clause-held g c = grind (arith, common_steps)
+
+pub returns-in-Ok-eq0-clause-held : goal.returns-in-Ok-eq0-clause-held
+returns-in-Ok-eq0-clause-held g c = grind (arith, common_steps)

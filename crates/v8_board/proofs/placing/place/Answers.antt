@@ -1,4 +1,5 @@
-use Rattle.std.proofs.Common.{◌≡◌, ℕ, ◌*◌, List, length, ap, sym, subst, ◌∙◌}
+use Rattle.std.proofs.lemmas.Grind.{common_steps}
+use Rattle.std.proofs.Common.{◌≡◌, ℕ, ◌*◌, List, length, ap, sym, subst, ◌∙◌, arith}
 use Rattle.sbx_image.specs.Region.{Region}
 use Rattle.sbx_image.specs.Regions.{laid, page_rights}
 use Rattle.v8_contained.specs.Layout.{Pages, data_count}
@@ -26,3 +27,12 @@ returns-clause-ram g c =
     (subst (λ (ws : List ℕ). HasWords 0x10000 ws (1024 * pages.code) m3 m4) c.words.ensures
     (subst (λ k. HasWords 0x10000 c.words.result.now k m3 m4) c.code_words.ensures c.set_words-4.ensures.ram))
     (subst (λ (rs : List Region). HasBytesOf 0x50000 (laid rs) (4096 * length (page_rights rs)) m4 m5) c.regions-2.ensures.value c.place_data.ensures.data))
+
+pub returns-clause-bytes : goal.returns-clause-bytes
+returns-clause-bytes g c = assumption
+
+pub returns-clause-port : goal.returns-clause-port
+returns-clause-port g c = grind (arith, common_steps)
+
+pub place_data-requires : goal.place_data-requires
+place_data-requires g c = grind (arith, common_steps)

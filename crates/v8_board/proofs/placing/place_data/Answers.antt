@@ -1,3 +1,4 @@
+use Rattle.std.proofs.lemmas.Grind.{common_steps}
 use Rattle.std.proofs.Common.{ℕ, ◌+◌, ◌*◌, ◌<◌, List, length, refl, ap, subst, ◌∙◌, arith}
 use Rattle.v8_contained.specs.Placing.{HasBytesOf}
 use Rattle.v8_map.specs.declared.TheConstants.{DATA_PLACE}
@@ -29,3 +30,6 @@ loop-region-preserved g c =
       ended = c.set_bytes.ensures.ended ∙ l.invariant.ended;
       stopped = c.set_bytes.ensures.stopped ∙ l.invariant.stopped;
     }
+
+pub returns-clause-data : goal.returns-clause-data
+returns-clause-data g c = grind (arith, common_steps)

@@ -36,3 +36,6 @@ loop-region-preserved c =
       rights = rights_filled c.args.regions.now l.region-index c.region-item.result less c.region-item.is c.requires l.pages more l.invariant.count taken l.rights _ l.invariant.rights
           (take-put_mid l.pages (l.pages + more - l.pages) l.rights c.fill.new.self (l.pages + more) (omega arith) (omega arith) ∙ ap (λ ws. take l.pages l.rights ++ ws) filled);
     }
+
+pub returns-clause-rights : goal.returns-clause-rights
+returns-clause-rights c = grind (arith, common_steps)

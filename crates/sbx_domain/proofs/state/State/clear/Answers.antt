@@ -1,3 +1,4 @@
+use Rattle.std.proofs.lemmas.Grind.{common_steps}
 use Rattle.std.proofs.Common.{◌≡◌, ℕ, List, length, take, drop, ◌++◌, Option, None, false, ap, ◌∙◌, arith}
 use Rattle.std.proofs.Math.Seq.{take-append_seam}
 use Rattle.sbx_domain.proofs.Tables.{nothing_in_cleared}
@@ -14,3 +15,6 @@ returns c =
     let size : length ws ≡ length c.self.inside.entries.items = c.clear_entries.ensures.size ∙ ap length c.as_mut_slice.ensures.value in
     ap (λ (zs : List (Option Entry)). known (record { entries = zs; y = None; icc = false; relation = None })) (whole c.self.inside.entries.len ws (drop (length ws) c.self.inside.entries.items) (omega (arith, size, c.self.inside.entries.ok.0)))
     ∙ nothing_in_cleared ws c.clear_entries.ensures.cleared
+
+pub invariant_of-self : goal.invariant_of-self
+invariant_of-self c = grind (arith, common_steps)

@@ -1,3 +1,4 @@
+use Rattle.std.proofs.lemmas.Grind.{common_steps}
 use Rattle.std.proofs.Common.{◌≡◌, length, ap, sym, ◌∙◌, arith}
 use Rattle.sbx_domain.proofs.Tables.{known_narrowed, known_unnarrowed}
 use Rattle.sbx_domain.proofs.state.State.narrow.Goals as goal
@@ -15,3 +16,6 @@ pub returns-else-from-lt-LOCATIONS : goal.returns-else-from-lt-LOCATIONS
 returns-else-from-lt-LOCATIONS c =
     let size : length c.args.self.now.entries ≡ 1040 = ap (λ (t : Table). length t.entries) (sym c.self.view_is) ∙ c.self.invariant in
     known_unnarrowed c.args.self.now c.args.location c.args.range size (omega (arith, c.if-from-lt-LOCATIONS.false, c.from.ensures))
+
+pub invariant_of-self : goal.invariant_of-self
+invariant_of-self c = grind (arith, common_steps)

@@ -1,3 +1,4 @@
+use Rattle.std.proofs.lemmas.Grind.{common_steps}
 use Rattle.std.proofs.Common.{◌≡◌, ℕ, List, length, take, drop, ◌++◌, Option, None, ap, ◌∙◌, arith, slice_index_or, if◌then◌else◌, ◌+◌}
 use Rattle.std.proofs.Math.Seq.{take-append_seam}
 use Rattle.sbx_domain.proofs.Tables.{known_popped}
@@ -18,3 +19,6 @@ returns c =
     ∙ (known_popped s ws (λ k. c.restore_entries.ensures.moved k
     ∙ ap (λ (xs : List (Option Entry)). if is_global k then slice_index_or xs k None else (if is_out k then slice_index_or xs (k + 16) None else None)) c.as_mut_slice.ensures.value)
     ∙ ap (λ (t : Table). restored (known t)) c.self.view_is)
+
+pub invariant_of-self : goal.invariant_of-self
+invariant_of-self c = grind (arith, common_steps)

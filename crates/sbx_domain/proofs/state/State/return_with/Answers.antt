@@ -1,3 +1,4 @@
+use Rattle.std.proofs.lemmas.Grind.{common_steps}
 use Rattle.std.proofs.Common.{◌≡◌, ℕ, List, length, take, drop, ◌++◌, Option, None, false, ap, ◌∙◌, arith, slice_index_or, if◌then◌else◌}
 use Rattle.std.proofs.Math.Seq.{take-append_seam}
 use Rattle.sbx_domain.proofs.Tables.{known_returned}
@@ -18,3 +19,6 @@ returns c =
     ∙ (known_returned s c.args.results.now ws (λ k. c.return_entries.ensures.moved k
     ∙ ap (λ (xs : List (Option Entry)). if is_kept_by_calls k then slice_index_or xs k None else result_entry c.args.results.now k) c.as_mut_slice.ensures.value)
     ∙ ap (λ (t : Table). called c.args.results.now (known t)) c.self.view_is)
+
+pub invariant_of-self : goal.invariant_of-self
+invariant_of-self c = grind (arith, common_steps)

@@ -1,3 +1,4 @@
+use Rattle.std.proofs.lemmas.Grind.{common_steps}
 use Rattle.std.proofs.Common.{◌≡◌, ℕ, List, length, take, drop, ◌++◌, Option, None, false, ap, ◌∙◌, arith, slice_index_or, if◌then◌else◌, ◌-◌}
 use Rattle.std.proofs.Math.Seq.{take-append_seam}
 use Rattle.sbx_domain.proofs.Tables.{known_saved}
@@ -22,3 +23,6 @@ returns c = λ frame. λ fields. (
     ap knows (whole c.self.inside.entries.len ws (drop (length ws) c.self.inside.entries.items) (omega (arith, size, c.self.inside.entries.ok.0)))
     ∙ (known_saved s ws (λ k. c.save_entries.ensures.moved k ∙ ap (λ (xs : List (Option Entry)). if is_in k then slice_index_or xs (k - 16) None else None) c.as_mut_slice.ensures.value) frame fields
     ∙ ap (λ (t : Table). transferred frame (Save fields) (known t)) c.self.view_is))
+
+pub invariant_of-self : goal.invariant_of-self
+invariant_of-self c = grind (arith, common_steps)

@@ -1,3 +1,4 @@
+use Rattle.std.proofs.lemmas.Grind.{common_steps}
 use Rattle.std.proofs.Common.{ap, ◌∙◌, arith}
 use Rattle.std.proofs.lemmas.Bool.Decides.{nat_tests}
 use Rattle.sbx_domain.proofs.Tables.{known_written, known_unwritten}
@@ -16,3 +17,6 @@ returns-else-location-gt0 c = known_unwritten c.args.self.now c.args.location c.
   | else-location-gt0-via-then-location-gt0+else-from-lt-LOCATIONS w ↦ grind (arith, nat_tests, w.if-from-lt-LOCATIONS)
   | else-location-gt0-via-else-location-gt0 w ↦ grind (arith, nat_tests, w.if-location-gt0)
 ])
+
+pub invariant_of-self : goal.invariant_of-self
+invariant_of-self c = grind (arith, common_steps)

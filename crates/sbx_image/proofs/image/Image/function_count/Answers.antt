@@ -1,5 +1,10 @@
-use Rattle.std.proofs.Common.{rules}
+use Rattle.std.proofs.lemmas.Grind.{common_steps}
+use Rattle.sbx_parts.proofs.Limits.{functions_within}
+use Rattle.std.proofs.Common.{rules, arith}
 use Rattle.sbx_image.proofs.image.Image.function_count.Goals as goal
 
 pub returns : goal.returns
 returns c = search rules
+
+pub overflow_cast-result : goal.overflow_cast-result
+overflow_cast-result c = grind (arith, common_steps, functions_within)

@@ -1,4 +1,5 @@
-use Rattle.std.proofs.Common.{subst, rules}
+use Rattle.std.proofs.lemmas.Grind.{common_steps}
+use Rattle.std.proofs.Common.{subst, rules, arith}
 use Rattle.sbx_flat.specs.Turns.{turn}
 use Rattle.sbx_plain.specs.Comes.{Turns}
 use Rattle.sbx_plain.specs.Shows.{filled}
@@ -12,3 +13,6 @@ loop-count-preserved c = record {
       reaches_more c.args.image.now c.args.fill c.args.self.now c.loop-count.self c.step.new.self c.loop-count.path.items c.place-place.result c.push.new.self.items (search rules) c.loop-count.invariant.reached c.place-place.ensures step (search rules);
   steps = search rules;
 }
+
+pub loop-count-init : goal.loop-count-init
+loop-count-init c = grind (arith, common_steps)

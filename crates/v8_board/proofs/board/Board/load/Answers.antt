@@ -45,3 +45,15 @@ pub returns-clause-calls : goal.returns-clause-calls
 returns-clause-calls g c =
     let port : c.boot.new.self.bus.port ≡ c.self.inside.machine.bus.port = ap (λ (m : Memory g.row.P.Denot). m.port) c.boot.ensures.bus ∙ c.place.ensures.port ∙ ap (λ (m : Memory g.row.P.Denot). m.port) c.bus_mut.ensures.value in
     ap g.P.Port.calls port ∙ ap (λ (s : Seen g.row.N). s.calls) c.self.view_is
+
+pub y-word-requires : goal.y-word-requires
+y-word-requires g c = grind (arith, common_steps)
+
+pub boot-requires : goal.boot-requires
+boot-requires g c = grind (arith, common_steps)
+
+pub invariant_of-self : goal.invariant_of-self
+invariant_of-self g c = grind (arith, common_steps)
+
+pub bus_mut-requires : goal.bus_mut-requires
+bus_mut-requires g c = grind (arith, common_steps)

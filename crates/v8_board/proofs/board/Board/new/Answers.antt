@@ -1,11 +1,12 @@
-use Rattle.std.proofs.Common.{◌≡◌, length, ap, ◌∙◌, lit<, refl, rules}
+use Rattle.std.proofs.lemmas.Grind.{common_steps}
+use Rattle.std.proofs.Common.{◌≡◌, length, ap, ◌∙◌, lit<, refl, rules, arith}
 use Rattle.v8_core.specs.Ram.{AreBytes}
 use Rattle.v8_contained.specs.declared.Memory.{Memory}
 use Rattle.v8_board.proofs.Contained.{blank_bytes, boots_state}
 use Rattle.v8_board.proofs.board.Board.new.Goals as goal
 
 pub invariant_of-result : goal.invariant_of-result
-invariant_of-result g c = search rules
+invariant_of-result g c = grind (arith, common_steps)
 
 pub returns-clause-made : goal.returns-clause-made
 returns-clause-made g c =
@@ -30,3 +31,6 @@ returns-clause-failed g c = ap g.P.Port.failed (ap (λ (m : Memory g.row.P.Denot
 
 pub returns-clause-calls : goal.returns-clause-calls
 returns-clause-calls g c = ap g.P.Port.calls (ap (λ (m : Memory g.row.P.Denot). m.port) c.new-2.ensures.bus ∙ c.in_ok-new.ensures.port)
+
+pub new-requires-2 : goal.new-requires-2
+new-requires-2 g c = grind (arith, common_steps)

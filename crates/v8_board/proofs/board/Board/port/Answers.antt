@@ -1,4 +1,5 @@
-use Rattle.std.proofs.Common.{◌≡◌, ap, ◌∙◌}
+use Rattle.std.proofs.lemmas.Grind.{common_steps}
+use Rattle.std.proofs.Common.{◌≡◌, ap, ◌∙◌, arith}
 use Rattle.v8_contained.specs.declared.Memory.{Memory}
 use Rattle.v8_board.specs.Seen.{Seen}
 use Rattle.v8_board.proofs.board.Board.port.Goals as goal
@@ -27,3 +28,6 @@ pub returns-clause-fault : goal.returns-clause-fault
 returns-clause-fault g c =
     let is : c.port.result.now ≡ c.self.inside.machine.bus.port = c.port.ensures ∙ ap (λ (m : Memory g.row.P.Denot). m.port) c.bus.ensures in
     ap g.P.Port.fault is ∙ ap (λ (s : Seen g.row.N). s.fault) c.self.view_is
+
+pub bus-requires : goal.bus-requires
+bus-requires g c = grind (arith, common_steps)

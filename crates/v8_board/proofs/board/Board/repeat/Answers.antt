@@ -24,3 +24,11 @@ returns-clause-calls g c =
 
 pub returns-clause-own : goal.returns-clause-own
 returns-clause-own g c = c.step.ensures.own
+
+pub step-requires : goal.step-requires
+unfolding turned
+step-requires g c = grind (arith, common_steps)
+
+pub invariant_of-self : goal.invariant_of-self
+unfolding turned
+invariant_of-self g c = grind (arith, common_steps)

@@ -63,3 +63,12 @@ returns-in-Err-clause-count g c = rw (sym c.loop-done.invariant.1) c.in-Err.ensu
 
 pub returns-in-Err-clause-own : goal.returns-in-Err-clause-own
 returns-in-Err-clause-own g c = c.in-Err.ensures.own
+
+pub ending-requires : goal.ending-requires
+ending-requires g c = assumption
+
+pub outcome-requires-2 : goal.outcome-requires-2
+outcome-requires-2 g c = assumption
+
+pub outcome-requires : goal.outcome-requires
+outcome-requires g c = assumption

@@ -1,3 +1,5 @@
+use Rattle.std.proofs.Common.{arith}
+use Rattle.std.proofs.lemmas.Grind.{common_steps}
 use Rattle.v8_board.proofs.Contained.{ok_kept_by, result_kept}
 use Rattle.v8_board.proofs.board.Board.step.Goals as goal
 
@@ -12,3 +14,12 @@ returns-in-None-clause-turn_is g c = ok_kept_by g.row.N c.args.self.now.state c.
 
 pub returns-in-Some-clause-turn_is : goal.returns-in-Some-clause-turn_is
 returns-in-Some-clause-turn_is g c = ok_kept_by g.row.N c.args.self.now.state c.repeat.new.self.state c.repeat.result c.repeat.ensures.turn
+
+pub ending-requires : goal.ending-requires
+ending-requires g c = assumption
+
+pub repeat-requires : goal.repeat-requires
+repeat-requires g c = grind (arith, common_steps)
+
+pub turn-requires : goal.turn-requires
+turn-requires g c = grind (arith, common_steps)

@@ -1,4 +1,5 @@
-use Rattle.std.proofs.Common.{rules, ap, sym, subst, ◌≤◌, ◌+◌}
+use Rattle.std.proofs.lemmas.Grind.{common_steps}
+use Rattle.std.proofs.Common.{rules, ap, sym, subst, ◌≤◌, ◌+◌, arith}
 use Rattle.v8_core.specs.Calls.{calls_by}
 use Rattle.v8_contained.specs.Board.{board}
 use Rattle.v8_board.specs.Seen.{Seen, turned}
@@ -30,3 +31,15 @@ returns-in-Err-clause-calls g c =
 
 pub returns-in-Err-clause-own : goal.returns-in-Err-clause-own
 returns-in-Err-clause-own g c = c.in-Err.ensures.own
+
+pub invariant_of-self : goal.invariant_of-self
+unfolding turned
+invariant_of-self g c = grind (arith, common_steps)
+
+pub step-requires : goal.step-requires
+unfolding turned
+step-requires g c = grind (arith, common_steps)
+
+pub invariant_of-self-in-Err : goal.invariant_of-self-in-Err
+unfolding turned
+invariant_of-self-in-Err g c = grind (arith, common_steps)

@@ -1,4 +1,5 @@
-use Rattle.std.proofs.Common.{rules}
+use Rattle.std.proofs.lemmas.Grind.{common_steps}
+use Rattle.std.proofs.Common.{rules, arith}
 use Rattle.v8_core.proofs.machine.Machine.new.Goals as goal
 
 pub returns-clause-cpu : goal.returns-clause-cpu
@@ -9,3 +10,9 @@ returns-clause-mmu g c = search rules
 
 pub invariant_of-result : goal.invariant_of-result
 invariant_of-result g c = c.new-2.ensures _ _
+
+pub returns-clause-file : goal.returns-clause-file
+returns-clause-file g c = assumption
+
+pub new-requires : goal.new-requires
+new-requires g c = grind (arith, common_steps)

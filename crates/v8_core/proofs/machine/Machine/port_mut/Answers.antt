@@ -1,10 +1,11 @@
-use Rattle.std.proofs.Common.{rules, sym, subst}
+use Rattle.std.proofs.lemmas.Grind.{common_steps}
+use Rattle.std.proofs.Common.{arith, rules, sym, subst}
 use Rattle.v8_mmu.specs.Walked.{root_of}
 use Rattle.v8_cache.specs.Holds.{Holds}
 use Rattle.v8_core.proofs.machine.Machine.port_mut.Goals as goal
 
 pub returns : goal.returns
-returns g c = search rules
+returns g c = grind (arith, common_steps)
 
 -- RAM stays, whatever the port is left as
 pub invariant_of-self-lent : goal.invariant_of-self-lent

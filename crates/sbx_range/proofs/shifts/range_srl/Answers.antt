@@ -1,0 +1,16 @@
+use Rattle.std.proofs.Common.{arith}
+use Rattle.std.proofs.lemmas.Grind.{common_steps}
+use Rattle.sbx_range.specs.Rows.{range_srl}
+use Rattle.sbx_range.proofs.shifts.range_srl.Goals as goal
+
+pub returns-else-k-eq0 : goal.returns-else-k-eq0
+unfolding range_srl
+returns-else-k-eq0 c = grind (arith, common_steps)
+
+pub overflow_sub-power : goal.overflow_sub-power
+unfolding range_srl
+overflow_sub-power c = grind (arith, common_steps)
+
+pub returns-then-k-eq0 : goal.returns-then-k-eq0
+unfolding range_srl
+returns-then-k-eq0 c = grind (arith, common_steps)
