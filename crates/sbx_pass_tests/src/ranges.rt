@@ -1,5 +1,5 @@
 //! The table of ranges, row by row, with its edges.
-use crate::reading::{Table, wrong_row};
+use crate::reading::{Table, are_so};
 use sbx_range::{
     BYTE_OR_END, Range, SIGNED_HALF, all, differences_fit, excludes_zero, is_single, is_within,
     known, range_of_address, range_of_division, range_of_written_y, range_of_y, sums_fit,
@@ -129,10 +129,7 @@ const ROWS_OF_SUMS_AND_DIFFERENCES: [(Table, &str); 8] = [
 
 #[test]
 fn sums_and_differences(rt: HostRuntime) {
-    for (table, rows) in ROWS_OF_SUMS_AND_DIFFERENCES {
-        let wrong = wrong_row(table, rows);
-        assert!(rt; wrong.is_empty(), "{wrong}");
-    }
+    are_so(&rt, &ROWS_OF_SUMS_AND_DIFFERENCES);
 }
 
 const ROWS_OF_BITS: [(Table, &str); 6] = [
@@ -146,10 +143,7 @@ const ROWS_OF_BITS: [(Table, &str); 6] = [
 
 #[test]
 fn bits(rt: HostRuntime) {
-    for (table, rows) in ROWS_OF_BITS {
-        let wrong = wrong_row(table, rows);
-        assert!(rt; wrong.is_empty(), "{wrong}");
-    }
+    are_so(&rt, &ROWS_OF_BITS);
 }
 
 const ROWS_OF_COMPLEMENTS: [(Table, &str); 6] = [
@@ -163,10 +157,7 @@ const ROWS_OF_COMPLEMENTS: [(Table, &str); 6] = [
 
 #[test]
 fn complements(rt: HostRuntime) {
-    for (table, rows) in ROWS_OF_COMPLEMENTS {
-        let wrong = wrong_row(table, rows);
-        assert!(rt; wrong.is_empty(), "{wrong}");
-    }
+    are_so(&rt, &ROWS_OF_COMPLEMENTS);
 }
 
 const ROWS_OF_SHIFTS_AND_PRODUCTS: [(Table, &str); 8] = [
@@ -182,10 +173,7 @@ const ROWS_OF_SHIFTS_AND_PRODUCTS: [(Table, &str); 8] = [
 
 #[test]
 fn shifts_and_products(rt: HostRuntime) {
-    for (table, rows) in ROWS_OF_SHIFTS_AND_PRODUCTS {
-        let wrong = wrong_row(table, rows);
-        assert!(rt; wrong.is_empty(), "{wrong}");
-    }
+    are_so(&rt, &ROWS_OF_SHIFTS_AND_PRODUCTS);
 }
 
 const ROWS_OF_QUOTIENTS_AND_TAGGED_OPERATIONS: [(Table, &str); 3] = [
@@ -196,10 +184,7 @@ const ROWS_OF_QUOTIENTS_AND_TAGGED_OPERATIONS: [(Table, &str); 3] = [
 
 #[test]
 fn quotients_and_tagged_operations(rt: HostRuntime) {
-    for (table, rows) in ROWS_OF_QUOTIENTS_AND_TAGGED_OPERATIONS {
-        let wrong = wrong_row(table, rows);
-        assert!(rt; wrong.is_empty(), "{wrong}");
-    }
+    are_so(&rt, &ROWS_OF_QUOTIENTS_AND_TAGGED_OPERATIONS);
 }
 
 const FOUR: Range = Range {
@@ -300,7 +285,7 @@ const KNOWN: [(u32, Range); 4] = [
 
 #[test]
 fn known_words(rt: HostRuntime) {
-    for (word, want) in KNOWN {
+    for &(word, want) in &KNOWN {
         assert!(rt; known(word) == want && is_single(want), "{word}");
     }
 }

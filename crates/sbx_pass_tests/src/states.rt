@@ -6,6 +6,7 @@ use crate::programs::{
 };
 use sbx_domain::State;
 use sbx_image::Cell;
+use std::process::Abort;
 use v8_alu::Op;
 use v8_formats::{Operand, Three};
 use v8_word::{Cond, Reg};
@@ -38,13 +39,19 @@ fn wrong(state: &mut State, cells: &[Cell], rows: &[Row]) -> Option<usize> {
     first_wrong(state, rows)
 }
 
+/// Asserts that no program has a wrong row.
+fn are_right(rt: &impl Abort, state: &mut State) {
+    for (name, cells, rows) in &PROGRAMS {
+        if let Some(row) = wrong(state, cells, rows) {
+            panic!(rt; "{name}, row {row}");
+        }
+    }
+}
+
 #[test]
 fn programs(rt: HostRuntime) {
     if let Ok(mut state) = State::new(rt.alloc()) {
-        for (name, cells, rows) in &PROGRAMS {
-            let row = wrong(&mut state, cells, rows);
-            assert!(rt; row.is_none(), "{name}, row {row:?}");
-        }
+        are_right(&rt, &mut state);
     }
 }
 
@@ -78,13 +85,17 @@ fn left_of(state: &mut State, word: u32, cond: Cond) -> Option<(i32, i32)> {
     Some((left.lo, left.hi))
 }
 
+/// Asserts that what is left after each comparison is as told.
+fn are_left(rt: &impl Abort, state: &mut State) {
+    for &(word, cond, want) in &COMPARISONS {
+        assert!(rt; left_of(state, word, cond) == want, "{word:08X} {cond:?}");
+    }
+}
+
 #[test]
 fn branches_after_a_comparison(rt: HostRuntime) {
     if let Ok(mut state) = State::new(rt.alloc()) {
-        for (word, cond, want) in &COMPARISONS {
-            let left = left_of(&mut state, *word, *cond);
-            assert!(rt; left == *want, "{word:08X} {cond:?}: {left:?}");
-        }
+        are_left(&rt, &mut state);
     }
 }
 
