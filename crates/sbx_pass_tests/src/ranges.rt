@@ -211,15 +211,27 @@ const HIGH: Range = Range {
     alignment: 2,
 };
 
+/// Whether operands of which one is not a multiple of 4, or whose sum or difference is past the ends, may have no tagged result.
+fn may_trap() -> bool {
+    let (add, sub) = (TaggedOp::TaggedAdd, TaggedOp::TaggedSub);
+    !(tagged_fits(add, FOUR, EVEN)
+        || tagged_fits(sub, EVEN, FOUR)
+        || tagged_fits(add, HIGH, FOUR)
+        || tagged_fits(sub, LOW, FOUR))
+}
+
 #[test]
 fn results_that_may_be_missing(rt: HostRuntime) {
-    let add = TaggedOp::TaggedAdd;
-    let sub = TaggedOp::TaggedSub;
-    assert!(rt; !tagged_fits(add, FOUR, EVEN) && !tagged_fits(sub, EVEN, FOUR));
-    assert!(rt; !tagged_fits(add, HIGH, FOUR) && !tagged_fits(sub, LOW, FOUR));
-    assert!(rt; !sums_fit(HIGH, FOUR) && differences_fit(HIGH, FOUR));
+    assert!(rt; may_trap() && !sums_fit(HIGH, FOUR) && differences_fit(HIGH, FOUR));
     assert!(rt; excludes_zero(FOUR) && !excludes_zero(LOW) && !excludes_zero(HIGH));
 }
+
+/// Every word.
+const EVERY_WORD: Range = Range {
+    lo: i32::MIN,
+    hi: i32::MAX,
+    alignment: 0,
+};
 
 const FIVE: Range = Range {
     lo: 5,
@@ -239,11 +251,19 @@ const NEXT_PLACE: Range = Range {
     alignment: 0,
 };
 
+/// Whether Y is any word after a step of a multiplication, and as it was after a sum.
+fn is_y() -> bool {
+    range_of_y(Op::MulsCc, FOUR) == all(0) && range_of_y(Op::Addx, FOUR) == FOUR
+}
+
+/// Whether words that are written to Y are known where both are.
+fn is_written_y() -> bool {
+    range_of_written_y(FIVE, FIVE) == known(0) && range_of_written_y(FIVE, FOUR) == all(0)
+}
+
 #[test]
 fn y_and_addresses(rt: HostRuntime) {
-    assert!(rt; range_of_y(Op::MulsCc, FOUR) == all(0) && range_of_y(Op::Addx, FOUR) == FOUR);
-    assert!(rt; range_of_written_y(FIVE, FIVE) == known(0));
-    assert!(rt; range_of_written_y(FIVE, FOUR) == all(0));
+    assert!(rt; is_y() && is_written_y());
     assert!(rt; range_of_division(FOUR, FOUR, FOUR) == all(0));
     assert!(rt; range_of_address(PLACE, FIVE) == NEXT_PLACE);
 }
@@ -290,9 +310,26 @@ fn known_words(rt: HostRuntime) {
     }
 }
 
+/// Ranges, and whether the first is within the second.
+const WITHIN: [(Range, Range, bool); 7] = [
+    (FOUR, EVEN, true),
+    (FOUR, HIGH, true),
+    (EVEN, FOUR, false),
+    (LOW, HIGH, false),
+    (HIGH, LOW, false),
+    (SIGNED_HALF, EVERY_WORD, true),
+    (BYTE_OR_END, FOUR, false),
+];
+
 #[test]
 fn wider_ranges(rt: HostRuntime) {
-    assert!(rt; is_within(FOUR, EVEN) && is_within(FOUR, HIGH) && !is_within(EVEN, FOUR));
-    assert!(rt; !is_within(LOW, HIGH) && !is_within(HIGH, LOW) && !is_single(FOUR));
-    assert!(rt; is_within(SIGNED_HALF, all(0)) && !is_within(BYTE_OR_END, FOUR));
+    for &(inner, outer, within) in &WITHIN {
+        assert!(rt;
+            is_within(inner, outer) == within,
+            "{} {}",
+            inner.lo,
+            outer.lo
+        );
+    }
+    assert!(rt; all(0) == EVERY_WORD && !is_single(FOUR));
 }

@@ -11,8 +11,10 @@ use v8_alu::Op;
 use v8_formats::{Operand, Three};
 use v8_word::{Cond, Reg};
 
-/// Names of programs, the cells that they start with, and their rows.
-const PROGRAMS: [(&str, &[Cell], &[Row]); 18] = [
+/// The name of a program, the cells that it starts with, and its rows.
+type Program = (&'static str, &'static [Cell], &'static [Row]);
+
+static PROGRAMS: [Program; 18] = [
     ("set", &[], &SET),
     ("no locations", &[], &NO_LOCATIONS),
     ("unset", &[], &UNSET),
@@ -39,9 +41,14 @@ fn wrong(state: &mut State, cells: &[Cell], rows: &[Row]) -> Option<usize> {
     first_wrong(state, rows)
 }
 
+/// The programs. A function that names a table costs the prover by all that stands in it, so this one does nothing else.
+fn all_programs() -> &'static [Program] {
+    &PROGRAMS
+}
+
 /// Asserts that no program has a wrong row.
-fn are_right(rt: &impl Abort, state: &mut State) {
-    for (name, cells, rows) in &PROGRAMS {
+fn are_right(rt: &impl Abort, state: &mut State, programs: &[Program]) {
+    for (name, cells, rows) in programs {
         if let Some(row) = wrong(state, cells, rows) {
             panic!(rt; "{name}, row {row}");
         }
@@ -51,7 +58,7 @@ fn are_right(rt: &impl Abort, state: &mut State) {
 #[test]
 fn programs(rt: HostRuntime) {
     if let Ok(mut state) = State::new(rt.alloc()) {
-        are_right(&rt, &mut state);
+        are_right(&rt, &mut state, all_programs());
     }
 }
 

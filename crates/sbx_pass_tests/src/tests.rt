@@ -47,15 +47,21 @@ fn is_told(
     Ok(first_fault(&image, here, other) == row.told)
 }
 
+/// The rows. A function that names a table costs the prover by all that stands in it, so this one does nothing else.
+fn all_rows() -> &'static [Row<'static>] {
+    &ROWS
+}
+
 /// Asserts that each row's verdict is.
 fn are_told(
     rt: &impl Abort,
     alloc: Global,
+    rows: &[Row<'_>],
     here: &mut State,
     other: &mut State,
 ) -> Result<(), Fail> {
-    for number in 0..ROWS.len() {
-        assert!(rt; is_told(alloc, &ROWS[number], here, other)?, "row {number}");
+    for number in 0..rows.len() {
+        assert!(rt; is_told(alloc, &rows[number], here, other)?, "row {number}");
     }
     Ok(())
 }
@@ -65,5 +71,5 @@ fn verdicts_are_these(rt: HostRuntime) -> Result<(), Fail> {
     let alloc = rt.alloc();
     let mut here = State::new(alloc)?;
     let mut other = State::new(alloc)?;
-    are_told(&rt, alloc, &mut here, &mut other)
+    are_told(&rt, alloc, all_rows(), &mut here, &mut other)
 }
