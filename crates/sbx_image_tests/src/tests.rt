@@ -50,14 +50,19 @@ fn is_told(alloc: Global, bytes: &[u8], wanted: Option<ImageFault>) -> bool {
     }
 }
 
-/// Whether an image is written as the bytes that it was read from.
-fn is_written_back(alloc: Global, bytes: &[u8]) -> bool {
-    let Ok(image) = read(alloc, bytes) else {
-        return false;
-    };
-    match written(alloc, &image) {
+/// Whether an image is written as these bytes.
+fn is_written_as(alloc: Global, image: &Image, bytes: &[u8]) -> bool {
+    match written(alloc, image) {
         Ok(text) => text.as_slice() == bytes,
         Err(AllocError) => false,
+    }
+}
+
+/// Whether an image is written as the bytes that it was read from.
+fn is_written_back(alloc: Global, bytes: &[u8]) -> bool {
+    match read(alloc, bytes) {
+        Ok(image) => is_written_as(alloc, &image, bytes),
+        Err(_) => false,
     }
 }
 
@@ -143,7 +148,7 @@ fn tells_the_end_of_the_bytes(rt: HostRuntime) {
     assert!(rt; is_trailing_told(rt.alloc()), "a byte more");
 }
 
-/// Bytes of `CALLS` that are replaced from a place on, and the fault that they get; none where they are an image.
+/// Bytes of an image that are replaced from a place on, and the fault that they get; none where they are an image.
 type Change = (usize, &'static [u8], Option<ImageFault>);
 
 /// Changes of the header.
@@ -237,38 +242,37 @@ fn replace(bytes: &mut [u8], place: usize, change: &[u8]) {
     }
 }
 
-/// Whether `CALLS` gets the fault of a change.
-fn is_change_told(alloc: Global, change: &Change) -> bool {
-    let mut bytes = CALLS;
-    replace(&mut bytes, change.0, change.1);
-    is_told(alloc, &bytes, change.2)
+/// Whether bytes, at most 220, get the fault of a change.
+fn is_change_told(alloc: Global, bytes: &[u8], change: &Change) -> bool {
+    let mut room = [0u8; 220];
+    replace(&mut room, 0, bytes);
+    replace(&mut room, change.0, change.1);
+    match room.get(..bytes.len()) {
+        Some(changed) => is_told(alloc, changed, change.2),
+        None => false,
+    }
 }
 
-/// Asserts that `CALLS` gets the fault of each change.
-fn are_changes_told(rt: &impl Abort, alloc: Global, changes: &[Change]) {
-    for change in changes {
-        assert!(rt;
-            is_change_told(alloc, change),
-            "at {} {:?}",
-            change.0,
-            change.1
-        );
+/// Asserts that bytes get the fault of each change.
+fn are_changes_told(rt: &impl Abort, alloc: Global, bytes: &[u8], changes: &[Change]) {
+    for number in 0..changes.len() {
+        assert!(rt; is_change_told(alloc, bytes, &changes[number]), "{number}");
     }
 }
 
 #[test]
 fn tells_the_first_bad_field_of_the_header(rt: HostRuntime) {
-    are_changes_told(&rt, rt.alloc(), &OF_HEADER);
+    are_changes_told(&rt, rt.alloc(), &CALLS, &OF_HEADER);
 }
 
 #[test]
 fn tells_the_first_bad_field_of_functions(rt: HostRuntime) {
-    are_changes_told(&rt, rt.alloc(), &OF_FUNCTIONS);
+    are_changes_told(&rt, rt.alloc(), &CALLS, &OF_FUNCTIONS);
 }
 
 #[test]
 fn tells_the_first_bad_field_of_blocks(rt: HostRuntime) {
-    are_changes_told(&rt, rt.alloc(), &OF_BLOCKS);
+    are_changes_told(&rt, rt.alloc(), &CALLS, &OF_BLOCKS);
 }
 
 /// Whether parts with so many pages and words get the fault, and come back as they are.
@@ -367,7 +371,7 @@ const SLANTED: Range = Range {
 /// How many params of a range, the frame, how many cells of that range, whether they go up, and the fault.
 type Small = (usize, Range, u32, u16, bool, Option<ImageFault>);
 
-const SMALL: [Small; 17] = [
+static SMALL: [Small; 17] = [
     (0, GOOD, 4096, 0, true, None),
     (6, GOOD, 0, 64, true, None),
     (1, BAD, 0, 0, true, Some(ImageFault::Range)),
@@ -387,15 +391,48 @@ const SMALL: [Small; 17] = [
     (0, BAD, 0, 2, false, Some(ImageFault::Range)), // of the first cell, before the second's location
 ];
 
-/// So many cells of a range, at the registers from 1 up, or down to 1.
-fn small_cells(alloc: Global, range: Range, count: u16, up: bool) -> Result<Vec<Cell>, ImageFault> {
+/// Parts of one word and one function of one block: their version, services, the bytes of each region and whether it may be written, how
+/// many params of a range, the frame, how many cells of that range at the registers from 1 up, or down to 1, and the depth. Then what they
+/// get: where the regions begin, if that is told, and the fault; none where they are an image.
+#[derive(Clone, Copy)]
+struct Made {
+    version: u16,
+    services: u16,
+    sizes: &'static [(usize, bool)],
+    params: usize,
+    range: Range,
+    frame: u32,
+    cells: u16,
+    up: bool,
+    depth: u16,
+    starts: Option<&'static [u32]>,
+    wanted: Option<ImageFault>,
+}
+
+const PLAIN: Made = Made {
+    version: 1,
+    services: 0,
+    sizes: &[],
+    params: 0,
+    range: GOOD,
+    frame: 0,
+    cells: 0,
+    up: true,
+    depth: 0,
+    starts: None,
+    wanted: None,
+};
+
+/// The cells of its block.
+fn cells_of(alloc: Global, made: &Made) -> Result<Vec<Cell>, ImageFault> {
     let mut cells = Vec::new(alloc);
-    for i in 0..count {
-        let location = if up {
+    for i in 0..made.cells {
+        let location = if made.up {
             i.wrapping_add(1)
         } else {
-            count.wrapping_sub(i)
+            made.cells.wrapping_sub(i)
         };
+        let range = made.range;
         cells.push(Cell { location, range })?;
     }
     Ok(cells)
@@ -408,78 +445,182 @@ fn one<T: Drop>(alloc: Global, item: T) -> Result<Items<T>, ImageFault> {
     Ok(Items::new(items))
 }
 
-/// A function of one block, with so many params of a range, a frame, and cells.
-fn small_function(
-    alloc: Global,
-    params: usize,
-    range: Range,
-    frame: u32,
-    cells: Vec<Cell>,
-) -> Result<Function, ImageFault> {
+/// Its block.
+fn block_of(alloc: Global, made: &Made) -> Result<Items<Block>, ImageFault> {
     let block = Block {
         address: 0x40000,
         fuel: 0,
-        cells: Items::new(cells),
+        cells: Items::new(cells_of(alloc, made)?),
         terms: Items::new(Vec::new(alloc)),
     };
-    let blocks = one(alloc, block)?;
-    Ok(Function {
+    one(alloc, block)
+}
+
+/// Its function.
+fn function_of(alloc: Global, made: &Made) -> Result<Items<Function>, ImageFault> {
+    let blocks = block_of(alloc, made)?;
+    let function = Function {
         kind: Kind::Leaf,
-        params: Items::new(vec![in alloc; range; params]?),
+        params: Items::new(vec![in alloc; made.range; made.params]?),
         results: Items::new(Vec::new(alloc)),
         entry: 0x40000,
-        frame,
+        frame: made.frame,
         stack_room: 0,
         budget: 0,
-        depth: 0,
+        depth: made.depth,
         blocks,
-    })
+    };
+    one(alloc, function)
 }
 
-/// Parts of one word and one function.
-fn small_parts(alloc: Global, function: Function) -> Result<Parts, ImageFault> {
+/// Its regions, of zeros.
+fn regions_of(alloc: Global, made: &Made) -> Result<Items<Region>, ImageFault> {
+    let mut regions = Vec::new(alloc);
+    for (count, writable) in made.sizes {
+        let bytes = Items::new(vec![in alloc; 0u8; *count]?);
+        regions.push(Region {
+            bytes,
+            writable: *writable,
+        })?;
+    }
+    Ok(Items::new(regions))
+}
+
+fn parts_of(alloc: Global, made: &Made) -> Result<Parts, ImageFault> {
+    let words = one(alloc, 0)?;
+    let regions = regions_of(alloc, made)?;
+    let functions = function_of(alloc, made)?;
     Ok(Parts {
-        version: 1,
-        services: Services(0),
-        words: one(alloc, 0)?,
-        regions: Items::new(Vec::new(alloc)),
+        version: made.version,
+        services: Services(made.services),
+        words,
+        regions,
         stack_pages: 1,
-        functions: one(alloc, function)?,
+        functions,
     })
-}
-
-/// The parts of a row of `SMALL`.
-fn row_parts(alloc: Global, row: &Small) -> Result<Parts, ImageFault> {
-    let (params, range, frame, count, up, _) = *row;
-    let cells = small_cells(alloc, range, count, up)?;
-    let function = small_function(alloc, params, range, frame, cells)?;
-    small_parts(alloc, function)
 }
 
 /// The same. Where a growth was refused, they are made once more.
-fn made_row_parts(alloc: Global, row: &Small) -> Result<Parts, ImageFault> {
-    match row_parts(alloc, row) {
+fn made_parts(alloc: Global, made: &Made) -> Result<Parts, ImageFault> {
+    match parts_of(alloc, made) {
         Ok(parts) => Ok(parts),
-        Err(_) => row_parts(alloc, row),
+        Err(_) => parts_of(alloc, made),
     }
 }
 
-/// Whether the parts of a row get its fault.
-fn is_row_told(alloc: Global, row: &Small) -> bool {
-    match made_row_parts(alloc, row) {
-        Ok(parts) => are_told(parts, 1, 1, row.5),
+/// Whether a region has this size, and may be written or not.
+fn is_sized(region: &Region, size: &(usize, bool)) -> bool {
+    region.bytes.len() == size.0 && region.writable == size.1
+}
+
+/// Whether these are regions of these sizes.
+fn are_sized(regions: &[Region], sizes: &[(usize, bool)]) -> bool {
+    for number in 0..regions.len() {
+        match sizes.get(number) {
+            Some(size) if is_sized(&regions[number], size) => {}
+            _ => return false,
+        }
+    }
+    regions.len() == sizes.len()
+}
+
+/// Whether the functions of an image have these depths, in turn.
+fn has_depths(image: &Image, depths: &[u16]) -> bool {
+    let functions = image.functions();
+    for number in 0..functions.len() {
+        match depths.get(number) {
+            Some(depth) if functions[number].depth == *depth => {}
+            _ => return false,
+        }
+    }
+    functions.len() == depths.len()
+}
+
+/// Whether the regions of an image begin at these addresses, and no region stands behind them.
+fn begin_at(image: &Image, starts: &[u32]) -> bool {
+    for index in 0..starts.len() {
+        if image.region_start(index) != Some(starts[index]) {
+            return false;
+        }
+    }
+    image.region_start(starts.len()).is_none() && image.region_start(usize::MAX).is_none()
+}
+
+/// Whether the regions of an image begin where this is told.
+fn begin_as_told(image: &Image, made: &Made) -> bool {
+    match made.starts {
+        Some(starts) => begin_at(image, starts),
+        None => true,
+    }
+}
+
+/// Whether an image has its parts.
+fn has_parts(image: &Image, made: &Made) -> bool {
+    image.stack_pages() == 1
+        && are_sized(image.regions(), made.sizes)
+        && has_depths(image, &[made.depth])
+        && begin_as_told(image, made)
+}
+
+/// Whether these bytes are read as its parts, and written back.
+fn are_read(alloc: Global, bytes: &[u8], made: &Made) -> bool {
+    match read(alloc, bytes) {
+        Ok(image) => has_parts(&image, made) && is_written_as(alloc, &image, bytes),
         Err(_) => false,
     }
 }
 
+/// Whether an image has its parts, and is written as bytes that are read so.
+fn is_kept(alloc: Global, image: &Image, made: &Made) -> bool {
+    match written(alloc, image) {
+        Ok(text) => has_parts(image, made) && are_read(alloc, text.as_slice(), made),
+        Err(AllocError) => false,
+    }
+}
+
+/// Whether parts that come back are these.
+fn are_back(back: &Parts, made: &Made) -> bool {
+    back.version == made.version
+        && back.stack_pages == 1
+        && back.words.len() == 1
+        && back.regions.len() == made.sizes.len()
+}
+
+/// Whether parts get their fault, and come back; where they are an image, it is kept.
+fn are_made_told(alloc: Global, parts: Parts, made: &Made) -> bool {
+    match Image::from_parts(parts) {
+        Ok(image) => made.wanted.is_none() && is_kept(alloc, &image, made),
+        Err((back, fault)) => made.wanted == Some(fault) && are_back(&back, made),
+    }
+}
+
+/// The same of what is to be made.
+fn is_made_told(alloc: Global, made: &Made) -> bool {
+    match made_parts(alloc, made) {
+        Ok(parts) => are_made_told(alloc, parts, made),
+        Err(_) => false,
+    }
+}
+
+/// Whether the parts of a row of `SMALL` do.
+fn is_small_told(alloc: Global, row: &Small) -> bool {
+    let (params, range, frame, cells, up, wanted) = *row;
+    let made = Made {
+        params,
+        range,
+        frame,
+        cells,
+        up,
+        wanted,
+        ..PLAIN
+    };
+    is_made_told(alloc, &made)
+}
+
 #[test]
 fn parts_of_functions(rt: HostRuntime) {
-    for row in &SMALL {
-        let (params, range, frame, cells, up, _) = *row;
-        assert!(rt;
-            is_row_told(rt.alloc(), row),
-            "at {params} {range:?} {frame} {cells} {up}"
-        );
+    for number in 0..SMALL.len() {
+        assert!(rt; is_small_told(rt.alloc(), &SMALL[number]), "{number}");
     }
 }
 
@@ -536,7 +677,7 @@ fn reads_the_data(rt: HostRuntime) {
 /// The version, services, the bytes of each region and whether it may be written, and the fault.
 type Data = (u16, u16, &'static [(usize, bool)], Option<ImageFault>);
 
-const DATA: [Data; 33] = [
+static DATA: [Data; 33] = [
     (1, 0, &[], None),
     (1, 0, &[(8, true)], None),
     (1, 0, &[(262_136, true)], None),
@@ -601,114 +742,30 @@ const DATA: [Data; 33] = [
     (3, 0, &[(262_144, true), (8, true)], Some(ImageFault::Limit)),
 ];
 
-/// Regions of zeros.
-fn zero_regions(alloc: Global, sizes: &[(usize, bool)]) -> Result<Items<Region>, ImageFault> {
-    let mut regions = Vec::new(alloc);
-    for (count, writable) in sizes {
-        let bytes = Items::new(vec![in alloc; 0u8; *count]?);
-        regions.push(Region {
-            bytes,
-            writable: *writable,
-        })?;
-    }
-    Ok(Items::new(regions))
-}
-
-/// Parts of one word and one function, with data.
-fn parts_with_data(
-    alloc: Global,
-    version: u16,
-    services: u16,
-    sizes: &[(usize, bool)],
-) -> Result<Parts, ImageFault> {
-    let function = small_function(alloc, 0, GOOD, 0, Vec::new(alloc))?;
-    let small = small_parts(alloc, function)?;
-    let regions = zero_regions(alloc, sizes)?;
-    Ok(Parts {
+/// Whether the parts of a row of `DATA` get its fault.
+fn are_data_told(alloc: Global, row: &Data) -> bool {
+    let (version, services, sizes, wanted) = *row;
+    let made = Made {
         version,
-        services: Services(services),
-        words: small.words,
-        regions,
-        stack_pages: small.stack_pages,
-        functions: small.functions,
-    })
-}
-
-/// Parts with data. Where a growth was refused, they are made once more.
-fn made_with_data(
-    alloc: Global,
-    version: u16,
-    services: u16,
-    sizes: &[(usize, bool)],
-) -> Result<Parts, ImageFault> {
-    match parts_with_data(alloc, version, services, sizes) {
-        Ok(parts) => Ok(parts),
-        Err(_) => parts_with_data(alloc, version, services, sizes),
-    }
-}
-
-/// Whether a region has this size, and may be written or not.
-fn is_sized(region: &Region, size: &(usize, bool)) -> bool {
-    region.bytes.len() == size.0 && region.writable == size.1
-}
-
-/// Whether these are regions of these sizes.
-fn are_sized(regions: &[Region], sizes: &[(usize, bool)]) -> bool {
-    for number in 0..regions.len() {
-        match sizes.get(number) {
-            Some(size) if is_sized(&regions[number], size) => {}
-            _ => return false,
-        }
-    }
-    regions.len() == sizes.len()
-}
-
-/// Whether an image is written as bytes that it is read from.
-fn is_kept(alloc: Global, image: &Image) -> bool {
-    match written(alloc, image) {
-        Ok(text) => is_written_back(alloc, text.as_slice()),
-        Err(AllocError) => false,
-    }
-}
-
-/// Whether parts with data of these sizes get their fault; where they are an image, it has them, and is written and read.
-fn are_sizes_told(
-    alloc: Global,
-    parts: Parts,
-    sizes: &[(usize, bool)],
-    wanted: Option<ImageFault>,
-) -> bool {
-    match Image::from_parts(parts) {
-        Ok(image) => {
-            wanted.is_none() && are_sized(image.regions(), sizes) && is_kept(alloc, &image)
-        }
-        Err((back, fault)) => wanted == Some(fault) && back.regions.len() == sizes.len(),
-    }
-}
-
-/// Whether the parts of a row get its fault.
-fn are_data_told(alloc: Global, &(version, services, sizes, wanted): &Data) -> bool {
-    match made_with_data(alloc, version, services, sizes) {
-        Ok(parts) => are_sizes_told(alloc, parts, sizes, wanted),
-        Err(_) => false,
-    }
+        services,
+        sizes,
+        wanted,
+        ..PLAIN
+    };
+    is_made_told(alloc, &made)
 }
 
 #[test]
 fn parts_of_data(rt: HostRuntime) {
-    for row in &DATA {
-        assert!(rt;
-            are_data_told(rt.alloc(), row),
-            "at {} {} {:?}",
-            row.0,
-            row.1,
-            row.2
-        );
+    for number in 0..DATA.len() {
+        assert!(rt; are_data_told(rt.alloc(), &DATA[number]), "{number}");
     }
 }
 
 /// Sizes of regions, and the addresses where they begin: the first with the data, each next one behind the last page before it.
-const STARTS: [(&[(usize, bool)], &[u32]); 5] = [
+type Start = (&'static [(usize, bool)], &'static [u32]);
+
+static STARTS: [Start; 5] = [
     (&[], &[]),
     (&[(8, false), (8, true)], &[0x80000, 0x81000]),
     (
@@ -724,36 +781,21 @@ const STARTS: [(&[(usize, bool)], &[u32]); 5] = [
     ),
 ];
 
-/// Whether the regions of an image begin at these addresses, and no region stands behind them.
-fn begin_at(image: &Image, starts: &[u32]) -> bool {
-    for index in 0..starts.len() {
-        if image.region_start(index) != Some(starts[index]) {
-            return false;
-        }
-    }
-    image.region_start(starts.len()).is_none() && image.region_start(usize::MAX).is_none()
-}
-
-/// Whether the regions of these parts begin at these addresses.
-fn begin_as_parts(parts: Parts, starts: &[u32]) -> bool {
-    match Image::from_parts(parts) {
-        Ok(image) => begin_at(&image, starts),
-        Err((_parts, _fault)) => false,
-    }
-}
-
 /// Whether regions of these sizes begin at these addresses.
-fn are_begun(alloc: Global, sizes: &[(usize, bool)], starts: &[u32]) -> bool {
-    match made_with_data(alloc, 2, 0, sizes) {
-        Ok(parts) => begin_as_parts(parts, starts),
-        Err(_) => false,
-    }
+fn are_begun(alloc: Global, row: &Start) -> bool {
+    let made = Made {
+        version: 2,
+        sizes: row.0,
+        starts: Some(row.1),
+        ..PLAIN
+    };
+    is_made_told(alloc, &made)
 }
 
 #[test]
 fn regions_begin_with_pages(rt: HostRuntime) {
-    for &(sizes, starts) in &STARTS {
-        assert!(rt; are_begun(rt.alloc(), sizes, starts), "{sizes:?}");
+    for number in 0..STARTS.len() {
+        assert!(rt; are_begun(rt.alloc(), &STARTS[number]), "{number}");
     }
 }
 
@@ -785,23 +827,9 @@ const OF_REGIONS: [Change; 13] = [
     (28, &[0, 0], None),
 ];
 
-/// Whether `REGIONS` gets the fault of a change.
-fn is_region_told(alloc: Global, change: &Change) -> bool {
-    let mut bytes = REGIONS;
-    replace(&mut bytes, change.0, change.1);
-    is_told(alloc, &bytes, change.2)
-}
-
 #[test]
 fn regions_are_read(rt: HostRuntime) {
-    for change in &OF_REGIONS {
-        assert!(rt;
-            is_region_told(rt.alloc(), change),
-            "at {} {:?}",
-            change.0,
-            change.1
-        );
-    }
+    are_changes_told(&rt, rt.alloc(), &REGIONS, &OF_REGIONS);
     assert!(rt; is_written_back(rt.alloc(), &REGIONS));
 }
 
@@ -837,13 +865,6 @@ const OF_DEPTHS: [Change; 14] = [
     (191, &[1, 1], Some(ImageFault::Limit)),
 ];
 
-/// Whether `DEEP` gets the fault of a change.
-fn is_depth_change_told(alloc: Global, change: &Change) -> bool {
-    let mut bytes = DEEP;
-    replace(&mut bytes, change.0, change.1);
-    is_told(alloc, &bytes, change.2)
-}
-
 /// Whether `DEEP` that is cut off within the head of its first function is short.
 fn are_cuts_told(alloc: Global) -> bool {
     for end in 80..92usize {
@@ -856,27 +877,8 @@ fn are_cuts_told(alloc: Global) -> bool {
 
 #[test]
 fn depths_are_read(rt: HostRuntime) {
-    for change in &OF_DEPTHS {
-        assert!(rt;
-            is_depth_change_told(rt.alloc(), change),
-            "at {} {:?}",
-            change.0,
-            change.1
-        );
-    }
+    are_changes_told(&rt, rt.alloc(), &DEEP, &OF_DEPTHS);
     assert!(rt; are_cuts_told(rt.alloc()) && is_written_back(rt.alloc(), &DEEP));
-}
-
-/// Whether the functions of an image have these depths, in turn.
-fn has_depths(image: &Image, depths: &[u16]) -> bool {
-    let functions = image.functions();
-    for number in 0..functions.len() {
-        match depths.get(number) {
-            Some(depth) if functions[number].depth == *depth => {}
-            _ => return false,
-        }
-    }
-    functions.len() == depths.len()
 }
 
 /// The parts of an image of version 1 as those of one of version 3, with the depths of `DEEP`.
@@ -893,10 +895,7 @@ fn deepened(image: Image) -> Parts {
 
 /// Whether an image has the depths of `DEEP`, and is written as its bytes.
 fn is_deep(alloc: Global, image: &Image) -> bool {
-    match written(alloc, image) {
-        Ok(text) => has_depths(image, &DEPTHS_OF_DEEP) && text.as_slice() == DEEP.as_slice(),
-        Err(AllocError) => false,
-    }
+    has_depths(image, &DEPTHS_OF_DEEP) && is_written_as(alloc, image, &DEEP)
 }
 
 /// Whether the image of some parts does.
@@ -923,7 +922,7 @@ fn depths_are_written(rt: HostRuntime) {
 /// The version, the depth of a function, the range of its one param, and the fault.
 type Depth = (u16, u16, Range, Option<ImageFault>);
 
-const DEPTHS: [Depth; 17] = [
+static DEPTHS: [Depth; 17] = [
     (1, 0, GOOD, None),
     (1, 1, GOOD, Some(ImageFault::Limit)),
     (1, 256, GOOD, Some(ImageFault::Limit)),
@@ -943,69 +942,23 @@ const DEPTHS: [Depth; 17] = [
     (3, 256, BAD, Some(ImageFault::Range)),
 ];
 
-/// Parts of one word and one function, of a version and with a depth.
-fn parts_with_depth(
-    alloc: Global,
-    version: u16,
-    depth: u16,
-    range: Range,
-) -> Result<Parts, ImageFault> {
-    let mut function = small_function(alloc, 1, range, 0, Vec::new(alloc))?;
-    function.depth = depth;
-    let mut parts = small_parts(alloc, function)?;
-    parts.version = version;
-    Ok(parts)
-}
-
-/// Whether a function of this depth is read from these bytes.
-fn is_depth_read(alloc: Global, bytes: &[u8], depth: u16) -> bool {
-    match read(alloc, bytes) {
-        Ok(image) => has_depths(&image, &[depth]),
-        Err(_) => false,
-    }
-}
-
-/// Whether an image has a function of this depth, and so has what is read of its bytes.
-fn keeps_depth(alloc: Global, image: &Image, depth: u16) -> bool {
-    match written(alloc, image) {
-        Ok(text) => has_depths(image, &[depth]) && is_depth_read(alloc, text.as_slice(), depth),
-        Err(AllocError) => false,
-    }
-}
-
-/// The parts of a row. Where a growth was refused, they are made once more.
-fn made_with_depth(alloc: Global, row: &Depth) -> Result<Parts, ImageFault> {
-    match parts_with_depth(alloc, row.0, row.1, row.2) {
-        Ok(parts) => Ok(parts),
-        Err(_) => parts_with_depth(alloc, row.0, row.1, row.2),
-    }
-}
-
-/// Whether the parts of a row get its fault; where they are an image, it keeps its depth.
-fn are_depths_told(alloc: Global, parts: Parts, row: &Depth) -> bool {
-    match Image::from_parts(parts) {
-        Ok(image) => row.3.is_none() && keeps_depth(alloc, &image, row.1),
-        Err((back, fault)) => row.3 == Some(fault) && back.version == row.0,
-    }
-}
-
-/// The same of a row alone.
+/// Whether the parts of a row of `DEPTHS` get its fault; where they are an image, it keeps its depth.
 fn is_depth_told(alloc: Global, row: &Depth) -> bool {
-    match made_with_depth(alloc, row) {
-        Ok(parts) => are_depths_told(alloc, parts, row),
-        Err(_) => false,
-    }
+    let (version, depth, range, wanted) = *row;
+    let made = Made {
+        version,
+        params: 1,
+        range,
+        depth,
+        wanted,
+        ..PLAIN
+    };
+    is_made_told(alloc, &made)
 }
 
 #[test]
 fn parts_of_depths(rt: HostRuntime) {
-    for row in &DEPTHS {
-        assert!(rt;
-            is_depth_told(rt.alloc(), row),
-            "at {} {} {:?}",
-            row.0,
-            row.1,
-            row.2
-        );
+    for number in 0..DEPTHS.len() {
+        assert!(rt; is_depth_told(rt.alloc(), &DEPTHS[number]), "{number}");
     }
 }

@@ -1,5 +1,5 @@
 //! Refinement, condition by condition: two ranges, and what is left of them where the condition holds, or nothing where it can't.
-use crate::reading::{Table, wrong_row};
+use crate::reading::{Table, are_so};
 use sbx_range::{Range, common};
 use v8_word::Cond;
 
@@ -66,10 +66,7 @@ const ROWS_OF_COMPARED: [(Table, &str); 10] = [
 
 #[test]
 fn compared(rt: HostRuntime) {
-    for (table, rows) in ROWS_OF_COMPARED {
-        let wrong = wrong_row(table, rows);
-        assert!(rt; wrong.is_empty(), "{wrong}");
-    }
+    are_so(&rt, &ROWS_OF_COMPARED);
 }
 
 const ROWS_OF_OTHER_CONDITIONS: [(Table, &str); 6] = [
@@ -83,10 +80,7 @@ const ROWS_OF_OTHER_CONDITIONS: [(Table, &str); 6] = [
 
 #[test]
 fn other_conditions(rt: HostRuntime) {
-    for (table, rows) in ROWS_OF_OTHER_CONDITIONS {
-        let wrong = wrong_row(table, rows);
-        assert!(rt; wrong.is_empty(), "{wrong}");
-    }
+    are_so(&rt, &ROWS_OF_OTHER_CONDITIONS);
 }
 
 const ROWS_OF_BY_VALUE: [(Table, &str); 6] = [
@@ -118,10 +112,7 @@ const ROWS_OF_BY_VALUE: [(Table, &str); 6] = [
 
 #[test]
 fn by_value(rt: HostRuntime) {
-    for (table, rows) in ROWS_OF_BY_VALUE {
-        let wrong = wrong_row(table, rows);
-        assert!(rt; wrong.is_empty(), "{wrong}");
-    }
+    are_so(&rt, &ROWS_OF_BY_VALUE);
 }
 
 const LOW: Range = Range {

@@ -1,5 +1,6 @@
 //! Rows of what is done to a state, and of what has to be known of it then.
 use sbx_domain::{State, least};
+use sbx_form::FormTerm;
 use sbx_image::Range;
 use v8_formats::decode;
 use v8_word::Cond;
@@ -47,16 +48,30 @@ pub enum Row {
     Codes(bool),
 }
 
+/// Whether a term is this multiple of this location.
+fn is_term(term: &FormTerm, want: &(u16, i128)) -> bool {
+    term.location == want.0 && term.coefficient == want.1
+}
+
+/// Whether these terms are as wanted, in turn.
+fn are_terms(terms: &[FormTerm], want: &[(u16, i128)]) -> bool {
+    for number in 0..terms.len() {
+        match want.get(number) {
+            Some(wanted) if is_term(&terms[number], wanted) => {}
+            _ => return false,
+        }
+    }
+    terms.len() == want.len()
+}
+
 fn has_form(state: &State, location: u16, constant: i64, want: &[(u16, i128)]) -> bool {
-    let Some(form) = state.form(location) else {
-        return false;
-    };
-    let terms = form.terms::<8>();
-    form.constant() == constant
-        && terms.len() == want.len()
-        && terms.iter().zip(want).all(|(term, (location, coefficient))| {
-            term.location == *location && term.coefficient == *coefficient
-        })
+    match state.form(location) {
+        Some(form) => {
+            let terms = form.terms::<8>();
+            form.constant() == constant && are_terms(&terms, want)
+        }
+        None => false,
+    }
 }
 
 /// Whether the least value of a location's form is this, over the ranges of another state.

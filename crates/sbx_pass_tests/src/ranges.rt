@@ -1,5 +1,5 @@
 //! The table of ranges, row by row, with its edges.
-use crate::reading::{Table, wrong_row};
+use crate::reading::{Table, are_so};
 use sbx_range::{
     BYTE_OR_END, Range, SIGNED_HALF, all, differences_fit, excludes_zero, is_single, is_within,
     known, range_of_address, range_of_division, range_of_written_y, range_of_y, sums_fit,
@@ -129,10 +129,7 @@ const ROWS_OF_SUMS_AND_DIFFERENCES: [(Table, &str); 8] = [
 
 #[test]
 fn sums_and_differences(rt: HostRuntime) {
-    for (table, rows) in ROWS_OF_SUMS_AND_DIFFERENCES {
-        let wrong = wrong_row(table, rows);
-        assert!(rt; wrong.is_empty(), "{wrong}");
-    }
+    are_so(&rt, &ROWS_OF_SUMS_AND_DIFFERENCES);
 }
 
 const ROWS_OF_BITS: [(Table, &str); 6] = [
@@ -146,10 +143,7 @@ const ROWS_OF_BITS: [(Table, &str); 6] = [
 
 #[test]
 fn bits(rt: HostRuntime) {
-    for (table, rows) in ROWS_OF_BITS {
-        let wrong = wrong_row(table, rows);
-        assert!(rt; wrong.is_empty(), "{wrong}");
-    }
+    are_so(&rt, &ROWS_OF_BITS);
 }
 
 const ROWS_OF_COMPLEMENTS: [(Table, &str); 6] = [
@@ -163,10 +157,7 @@ const ROWS_OF_COMPLEMENTS: [(Table, &str); 6] = [
 
 #[test]
 fn complements(rt: HostRuntime) {
-    for (table, rows) in ROWS_OF_COMPLEMENTS {
-        let wrong = wrong_row(table, rows);
-        assert!(rt; wrong.is_empty(), "{wrong}");
-    }
+    are_so(&rt, &ROWS_OF_COMPLEMENTS);
 }
 
 const ROWS_OF_SHIFTS_AND_PRODUCTS: [(Table, &str); 8] = [
@@ -182,10 +173,7 @@ const ROWS_OF_SHIFTS_AND_PRODUCTS: [(Table, &str); 8] = [
 
 #[test]
 fn shifts_and_products(rt: HostRuntime) {
-    for (table, rows) in ROWS_OF_SHIFTS_AND_PRODUCTS {
-        let wrong = wrong_row(table, rows);
-        assert!(rt; wrong.is_empty(), "{wrong}");
-    }
+    are_so(&rt, &ROWS_OF_SHIFTS_AND_PRODUCTS);
 }
 
 const ROWS_OF_QUOTIENTS_AND_TAGGED_OPERATIONS: [(Table, &str); 3] = [
@@ -196,10 +184,7 @@ const ROWS_OF_QUOTIENTS_AND_TAGGED_OPERATIONS: [(Table, &str); 3] = [
 
 #[test]
 fn quotients_and_tagged_operations(rt: HostRuntime) {
-    for (table, rows) in ROWS_OF_QUOTIENTS_AND_TAGGED_OPERATIONS {
-        let wrong = wrong_row(table, rows);
-        assert!(rt; wrong.is_empty(), "{wrong}");
-    }
+    are_so(&rt, &ROWS_OF_QUOTIENTS_AND_TAGGED_OPERATIONS);
 }
 
 const FOUR: Range = Range {
@@ -226,15 +211,27 @@ const HIGH: Range = Range {
     alignment: 2,
 };
 
+/// Whether operands of which one is not a multiple of 4, or whose sum or difference is past the ends, may have no tagged result.
+fn may_trap() -> bool {
+    let (add, sub) = (TaggedOp::TaggedAdd, TaggedOp::TaggedSub);
+    !(tagged_fits(add, FOUR, EVEN)
+        || tagged_fits(sub, EVEN, FOUR)
+        || tagged_fits(add, HIGH, FOUR)
+        || tagged_fits(sub, LOW, FOUR))
+}
+
 #[test]
 fn results_that_may_be_missing(rt: HostRuntime) {
-    let add = TaggedOp::TaggedAdd;
-    let sub = TaggedOp::TaggedSub;
-    assert!(rt; !tagged_fits(add, FOUR, EVEN) && !tagged_fits(sub, EVEN, FOUR));
-    assert!(rt; !tagged_fits(add, HIGH, FOUR) && !tagged_fits(sub, LOW, FOUR));
-    assert!(rt; !sums_fit(HIGH, FOUR) && differences_fit(HIGH, FOUR));
+    assert!(rt; may_trap() && !sums_fit(HIGH, FOUR) && differences_fit(HIGH, FOUR));
     assert!(rt; excludes_zero(FOUR) && !excludes_zero(LOW) && !excludes_zero(HIGH));
 }
+
+/// Every word.
+const EVERY_WORD: Range = Range {
+    lo: i32::MIN,
+    hi: i32::MAX,
+    alignment: 0,
+};
 
 const FIVE: Range = Range {
     lo: 5,
@@ -254,11 +251,19 @@ const NEXT_PLACE: Range = Range {
     alignment: 0,
 };
 
+/// Whether Y is any word after a step of a multiplication, and as it was after a sum.
+fn is_y() -> bool {
+    range_of_y(Op::MulsCc, FOUR) == all(0) && range_of_y(Op::Addx, FOUR) == FOUR
+}
+
+/// Whether words that are written to Y are known where both are.
+fn is_written_y() -> bool {
+    range_of_written_y(FIVE, FIVE) == known(0) && range_of_written_y(FIVE, FOUR) == all(0)
+}
+
 #[test]
 fn y_and_addresses(rt: HostRuntime) {
-    assert!(rt; range_of_y(Op::MulsCc, FOUR) == all(0) && range_of_y(Op::Addx, FOUR) == FOUR);
-    assert!(rt; range_of_written_y(FIVE, FIVE) == known(0));
-    assert!(rt; range_of_written_y(FIVE, FOUR) == all(0));
+    assert!(rt; is_y() && is_written_y());
     assert!(rt; range_of_division(FOUR, FOUR, FOUR) == all(0));
     assert!(rt; range_of_address(PLACE, FIVE) == NEXT_PLACE);
 }
@@ -300,14 +305,31 @@ const KNOWN: [(u32, Range); 4] = [
 
 #[test]
 fn known_words(rt: HostRuntime) {
-    for (word, want) in KNOWN {
+    for &(word, want) in &KNOWN {
         assert!(rt; known(word) == want && is_single(want), "{word}");
     }
 }
 
+/// Ranges, and whether the first is within the second.
+const WITHIN: [(Range, Range, bool); 7] = [
+    (FOUR, EVEN, true),
+    (FOUR, HIGH, true),
+    (EVEN, FOUR, false),
+    (LOW, HIGH, false),
+    (HIGH, LOW, false),
+    (SIGNED_HALF, EVERY_WORD, true),
+    (BYTE_OR_END, FOUR, false),
+];
+
 #[test]
 fn wider_ranges(rt: HostRuntime) {
-    assert!(rt; is_within(FOUR, EVEN) && is_within(FOUR, HIGH) && !is_within(EVEN, FOUR));
-    assert!(rt; !is_within(LOW, HIGH) && !is_within(HIGH, LOW) && !is_single(FOUR));
-    assert!(rt; is_within(SIGNED_HALF, all(0)) && !is_within(BYTE_OR_END, FOUR));
+    for &(inner, outer, within) in &WITHIN {
+        assert!(rt;
+            is_within(inner, outer) == within,
+            "{} {}",
+            inner.lo,
+            outer.lo
+        );
+    }
+    assert!(rt; all(0) == EVERY_WORD && !is_single(FOUR));
 }

@@ -2,6 +2,7 @@
 use sbx_range::{
     Pair, Range, range_of, range_of_division, range_of_tagged, refine, refine_by_value, tagged_fits,
 };
+use std::process::Abort;
 use std::str::SplitWhitespace;
 use v8_alu::{Op, TaggedOp};
 use v8_word::Cond;
@@ -77,11 +78,19 @@ fn holds(table: Table, line: &str) -> bool {
 }
 
 /// The first row that isn't so; empty where there is none.
-pub(crate) fn wrong_row<'a>(table: Table, rows: &'a str) -> &'a str {
+fn wrong_row<'a>(table: Table, rows: &'a str) -> &'a str {
     for line in rows.lines() {
         if !holds(table, line) {
             return line;
         }
     }
     ""
+}
+
+/// Asserts that the rows of these tables are so.
+pub(crate) fn are_so(rt: &impl Abort, tables: &[(Table, &str)]) {
+    for &(table, rows) in tables {
+        let wrong = wrong_row(table, rows);
+        assert!(rt; wrong.is_empty(), "{wrong}");
+    }
 }

@@ -21,7 +21,7 @@ pub const ECHO: &[u8] = &[
 
 /// A loop that copies its input, a program that does nothing, one that calls, an image for each of the rules 1 to 18 that breaks it, and
 /// some of version 3.
-pub const ROWS: [Row<'static>; 28] = [
+pub static ROWS: [Row<'static>; 28] = [
     Row {
         image: ECHO,
         told: None,

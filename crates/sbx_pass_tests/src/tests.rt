@@ -36,17 +36,33 @@ fn first_fault(image: &Image, here: &mut State, other: &mut State) -> Option<(us
     None
 }
 
-/// The row's verdict is the one that is told.
+/// Whether a row's verdict is the one that is told.
 fn is_told(
-    rt: &impl Abort,
     alloc: Global,
     row: &Row<'_>,
     here: &mut State,
     other: &mut State,
-) -> Result<(), Fail> {
+) -> Result<bool, Fail> {
     let image = image_of(alloc, row.image)?;
-    let told = first_fault(&image, here, other);
-    assert!(rt; told == row.told, "{told:?}");
+    Ok(first_fault(&image, here, other) == row.told)
+}
+
+/// The rows. A function that names a table costs the prover by all that stands in it, so this one does nothing else.
+fn all_rows() -> &'static [Row<'static>] {
+    &ROWS
+}
+
+/// Asserts that each row's verdict is.
+fn are_told(
+    rt: &impl Abort,
+    alloc: Global,
+    rows: &[Row<'_>],
+    here: &mut State,
+    other: &mut State,
+) -> Result<(), Fail> {
+    for number in 0..rows.len() {
+        assert!(rt; is_told(alloc, &rows[number], here, other)?, "row {number}");
+    }
     Ok(())
 }
 
@@ -55,8 +71,5 @@ fn verdicts_are_these(rt: HostRuntime) -> Result<(), Fail> {
     let alloc = rt.alloc();
     let mut here = State::new(alloc)?;
     let mut other = State::new(alloc)?;
-    for row in &ROWS {
-        is_told(&rt, alloc, row, &mut here, &mut other)?;
-    }
-    Ok(())
+    are_told(&rt, alloc, all_rows(), &mut here, &mut other)
 }

@@ -42,8 +42,10 @@ fn adding(param: u8, promised: u8, turns: u8) -> [u8; 158] {
     bytes
 }
 
-/// What the leaf asks for and promises, the turns, and what is told.
-const ADDINGS: [(u8, u8, u8, Option<Refusal>); 4] = [
+/// What a leaf asks for and promises, the turns, and what is told.
+type Adding = (u8, u8, u8, Option<Refusal>);
+
+const ADDINGS: [Adding; 4] = [
     (254, 255, 39, None),
     (
         254,
@@ -77,13 +79,21 @@ const ADDINGS: [(u8, u8, u8, Option<Refusal>); 4] = [
     ),
 ];
 
+/// Whether a row's verdict is told.
+fn is_adding_told(alloc: Global, row: &Adding) -> bool {
+    let bytes = adding(row.0, row.1, row.2);
+    is_told(alloc, &bytes, &row.3)
+}
+
 #[test]
 fn calls_are_checked(rt: HostRuntime) {
-    for (param, promised, turns, told) in ADDINGS {
-        let bytes = adding(param, promised, turns);
+    for row in &ADDINGS {
         assert!(rt;
-            is_told(rt.alloc(), &bytes, &told),
-            "{param} {promised} {turns}"
+            is_adding_told(rt.alloc(), row),
+            "{} {} {}",
+            row.0,
+            row.1,
+            row.2
         );
     }
 }

@@ -4,6 +4,7 @@ use sbx_flat::Place;
 use sbx_image::Image;
 use sbx_plain::{Ending, Plain, Ran, traffic, weight};
 use std::alloc::Global;
+use std::process::Abort;
 use std::test::Fail;
 
 /// Whether the run gives what the row says.
@@ -70,18 +71,20 @@ fn is_so(alloc: Global, row: &Row) -> Result<bool, Fail> {
     gives_both(alloc, &image, row)
 }
 
-#[test]
-fn programs_give_their_rows(rt: HostRuntime) -> Result<(), Fail> {
-    for row in &ROWS {
-        assert!(rt; is_so(rt.alloc(), row)?, "{}", row.name);
+/// Asserts that each row is so.
+fn are_so(rt: &impl Abort, alloc: Global, rows: &[Row]) -> Result<(), Fail> {
+    for row in rows {
+        assert!(rt; is_so(alloc, row)?, "{}", row.name);
     }
     Ok(())
 }
 
 #[test]
+fn programs_give_their_rows(rt: HostRuntime) -> Result<(), Fail> {
+    are_so(&rt, rt.alloc(), &ROWS)
+}
+
+#[test]
 fn long_loops_give_their_rows(rt: HostRuntime) -> Result<(), Fail> {
-    for row in &LOOPS {
-        assert!(rt; is_so(rt.alloc(), row)?, "{}", row.name);
-    }
-    Ok(())
+    are_so(&rt, rt.alloc(), &LOOPS)
 }

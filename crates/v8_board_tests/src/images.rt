@@ -31,20 +31,10 @@ pub(crate) fn image_of(alloc: Global, bytes: &[u8]) -> Result<Image, Fail> {
 }
 
 /// An image of raw words and data: one leaf function of one block, all services, and one page of stack.
-fn image_over(alloc: Global, words: &[u32], data: &[u8]) -> Result<Image, Fail> {
+pub(crate) fn image(alloc: Global, words: &[u32], data: &[u8]) -> Result<Image, Fail> {
     let mut bytes = Vec::new(alloc);
     put_image(&mut bytes, words, data)?;
     image_of(alloc, &bytes)
-}
-
-/// An image of raw words: one leaf function of one block, all services, and one page of stack.
-pub(crate) fn raw_image(alloc: Global, words: &[u32]) -> Result<Image, Fail> {
-    image_over(alloc, words, &[])
-}
-
-/// The same with eight bytes of data, all 0.
-pub(crate) fn data_image(alloc: Global, words: &[u32]) -> Result<Image, Fail> {
-    image_over(alloc, words, &[0; 8])
 }
 
 /// Puts the bytes of an image of version 2.

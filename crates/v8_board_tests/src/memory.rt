@@ -11,9 +11,14 @@ fn memory<'a>(alloc: Global, input: &'a [u8]) -> Result<Memory<Probe<'a>>, Alloc
     Memory::new(alloc, Probe::new(alloc, input, 0, PortFault::Writer))
 }
 
+/// A load.
+fn load(memory: &mut Memory<Probe<'_>>, pa: u64, size: Size) -> Result<u64, BusFault> {
+    memory.read(pa, size)
+}
+
 /// Whether a load of the first register gives this word, and the port was then called so often.
 fn loads(memory: &mut Memory<Probe<'_>>, word: u64, calls: u64) -> bool {
-    memory.read(0x1_0000_0000, Size::Word) == Ok(word) && memory.port().calls == calls
+    load(memory, 0x1_0000_0000, Size::Word) == Ok(word) && memory.port().calls == calls
 }
 
 /// Whether a store of a word at a place is done, and the device then has stopped so.
@@ -92,20 +97,19 @@ fn stores_put_out_and_stop(rt: HostRuntime) -> Result<(), Fail> {
 
 /// Whether nothing answers loads of this size there.
 fn refuses_loads(memory: &mut Memory<Probe<'_>>, pa: u64, size: Size) -> bool {
-    memory.read(pa, size) == Err(BusFault::Unanswered)
+    load(memory, pa, size) == Err(BusFault::Unanswered)
 }
 
-/// Whether nothing answers stores of words there.
-fn refuses_words(memory: &mut Memory<Probe<'_>>, pa: u64) -> bool {
-    memory.write(pa, Size::Word, 0x21) == Err(BusFault::Unanswered)
+/// Whether nothing answers stores of this size there.
+fn refuses_stores(memory: &mut Memory<Probe<'_>>, pa: u64, size: Size) -> bool {
+    memory.write(pa, size, 0x21) == Err(BusFault::Unanswered)
 }
 
 /// Whether nothing answers stores of bytes, halfwords and double words there.
 fn refuses_other_stores(memory: &mut Memory<Probe<'_>>, pa: u64) -> bool {
-    let refused = Err(BusFault::Unanswered);
-    memory.write(pa, Size::Byte, 0x21) == refused
-        && memory.write(pa, Size::Half, 0x21) == refused
-        && memory.write(pa, Size::Double, 0x21) == refused
+    refuses_stores(memory, pa, Size::Byte)
+        && refuses_stores(memory, pa, Size::Half)
+        && refuses_stores(memory, pa, Size::Double)
 }
 
 /// Whether nothing answers the exchanges of LDSTUB and SWAP there.
@@ -132,7 +136,7 @@ fn refuses_loads_at(memory: &mut Memory<Probe<'_>>, places: &[u64]) -> bool {
 /// Whether nothing answers stores of words at these places.
 fn refuses_words_at(memory: &mut Memory<Probe<'_>>, places: &[u64]) -> bool {
     for pa in places {
-        if !refuses_words(memory, *pa) {
+        if !refuses_stores(memory, *pa, Size::Word) {
             return false;
         }
     }

@@ -3,10 +3,28 @@ ghost use Rattle.std.specs.Prelude.{◌≡◌, ℕ};
 ghost use Rattle.v8_mmu.specs.Answers.{one_more};
 ghost use Rattle.v8_mmu.specs.Ram.{AreBytes};
 
-use std::alloc::Global;
+use std::alloc::{AllocError, Global};
 use v8_memory::Port;
 use v8_mmu::PortFault;
 use want::Want;
+
+/// A fault of a port, as tables name it.
+#[derive(Clone, Copy)]
+pub(crate) enum Fault {
+    Reader,
+    Writer,
+    Memory,
+}
+
+impl Fault {
+    pub(crate) fn told(self) -> PortFault {
+        match self {
+            Fault::Reader => PortFault::Reader,
+            Fault::Writer => PortFault::Writer,
+            Fault::Memory => PortFault::Memory(Want::from(AllocError)),
+        }
+    }
+}
 
 /// A port that takes its input from a slice, keeps its output and counts how often it is called. It fails once, at the call of the
 /// number `fails` from here on, or never if that is 0; a failing put tells the fault `at_put`.

@@ -1,120 +1,158 @@
 //! Raw runs, with their ends.
 ghost use Rattle.std.specs.Prelude.{◌≤◌, ℕ};
 
-use crate::images::{
-    EXIT, End, GET, GREETING, LOADS, NOP, PUT, STORES_AFTER_A_LOAD, data_image, raw_image,
-};
+use crate::images::{EXIT, End, GET, GREETING, LOADS, NOP, PUT, STORES_AFTER_A_LOAD, image};
 use crate::programs::{Shape, chain};
+use crate::rows::Code;
 use sbx_image::Image;
-use sbx_raw::{Ending, Outcome, PageUse, Raw, run_raw};
+use sbx_raw::{Outcome, PageUse, Raw, run_raw};
 use std::alloc::{AllocError, Global};
+use std::process::Abort;
 use std::test::Fail;
 
-/// Words with the end of their raw run at four windows, of at most so many turns: its turns, its overflows, and the fault status.
+/// A program with its data, on so many windows, with this input and at most so many turns; and how its raw run ends: with its turns,
+/// overflows and underflows, the fault status, the output, and where they are told the pages that were referenced and modified.
 struct Run {
-    words: &'static [u32],
+    code: Code,
+    data: &'static [u8],
+    windows: u32,
+    input: &'static [u8],
     limit: u64,
     end: End,
-    turns: u64,
-    overflows: u64,
+    counts: [u64; 3],
     status: u32,
+    output: &'static [u8],
+    pages: Option<PageUse>,
 }
 
-const RUNS: [Run; 10] = [
-    // as many as a second takes
-    Run {
-        words: &[0x1080_0000, NOP],
-        limit: 20_000_000,
-        end: End::Limit,
-        turns: 20_000_000,
-        overflows: 0,
-        status: 0,
-    },
-    Run {
-        words: &[0x1080_0000, NOP],
-        limit: 10,
-        end: End::Limit,
-        turns: 10,
-        overflows: 0,
-        status: 0,
-    },
-    Run {
-        words: &[0x1D3C_0040, 0x1080_0000, 0x9DE3_A000],
-        limit: 100,
-        end: End::ErrorMode(0x09),
-        turns: 19,
-        overflows: 1,
-        status: 0x3B6,
-    },
-    Run {
-        words: &[0x1D00_0100, 0x1080_0000, 0x9DE3_A000],
-        limit: 100,
-        end: End::ErrorMode(0x09),
-        turns: 19,
-        overflows: 1,
-        status: 0x3AA,
-    },
-    Run {
-        words: &[0x033C_0000, 0xC400_4000],
-        limit: 100,
-        end: End::Trapped(0x09),
-        turns: 4,
-        overflows: 0,
-        status: 0x30E,
-    },
-    Run {
-        words: &[0x0300_0100, 0xC020_4000],
-        limit: 100,
-        end: End::Trapped(0x09),
-        turns: 4,
-        overflows: 0,
-        status: 0x38A,
-    },
-    Run {
-        words: &[0xC400_0000],
-        limit: 100,
-        end: End::Trapped(0x09),
-        turns: 3,
-        overflows: 0,
-        status: 0x206,
-    },
-    Run {
-        words: &[0xC218_2001],
-        limit: 100,
-        end: End::Trapped(0x02),
-        turns: 3,
-        overflows: 0,
-        status: 0,
-    },
+/// Words at four windows, without data, input and output.
+macro_rules! words {
+    ($words:expr, $limit:expr => $end:expr, $counts:expr, $status:expr) => {
+        Run {
+            code: Code::Words($words),
+            data: &[],
+            windows: 4,
+            input: b"",
+            limit: $limit,
+            end: $end,
+            counts: $counts,
+            status: $status,
+            output: b"",
+            pages: None,
+        }
+    };
+}
+
+/// A chain, which puts `!` out.
+macro_rules! chain {
+    ($shape:expr, $windows:expr => $status:expr, $counts:expr) => {
+        Run {
+            code: Code::Chain($shape),
+            data: &[],
+            windows: $windows,
+            input: b"",
+            limit: 10_000,
+            end: End::Exit($status),
+            counts: $counts,
+            status: 0,
+            output: b"!",
+            pages: None,
+        }
+    };
+}
+
+/// Words over eight bytes of data, which reference a page of code and one of data.
+macro_rules! over_data {
+    ($words:expr, $windows:expr => $turns:expr, $modified:expr) => {
+        Run {
+            code: Code::Words($words),
+            data: &[0; 8],
+            windows: $windows,
+            input: b"",
+            limit: 100,
+            end: End::Exit(0),
+            counts: [$turns, 0, 0],
+            status: 0,
+            output: b"",
+            pages: Some(PageUse {
+                referenced: [1, 1, 0],
+                modified: $modified,
+            }),
+        }
+    };
+}
+
+/// Whatever the machine keeps of a page, a store after a load of it marks it as modified.
+///
+/// Windows are stored and loaded where there are too few, and every function of a chain returns to its caller. Of the 40 SAVEs all but
+/// the first N - 2 overflow, and of the 39 RESTOREs all but the first N - 2 underflow; each takes 24 turns more, the trap and the
+/// handler's 23.
+static RUNS: [Run; 21] = [
+    // as many turns as a second takes
+    words!(&[0x1080_0000, NOP], 20_000_000 => End::Limit, [20_000_000, 0, 0], 0),
+    words!(&[0x1080_0000, NOP], 10 => End::Limit, [10, 0, 0], 0),
+    words!(&[0x1D3C_0040, 0x1080_0000, 0x9DE3_A000], 100 => End::ErrorMode(0x09), [19, 1, 0], 0x3B6),
+    words!(&[0x1D00_0100, 0x1080_0000, 0x9DE3_A000], 100 => End::ErrorMode(0x09), [19, 1, 0], 0x3AA),
+    words!(&[0x033C_0000, 0xC400_4000], 100 => End::Trapped(0x09), [4, 0, 0], 0x30E),
+    words!(&[0x0300_0100, 0xC020_4000], 100 => End::Trapped(0x09), [4, 0, 0], 0x38A),
+    words!(&[0xC400_0000], 100 => End::Trapped(0x09), [3, 0, 0], 0x206),
+    words!(&[0xC218_2001], 100 => End::Trapped(0x02), [3, 0, 0], 0),
     // udiv %g0,%g0,%g1
-    Run {
-        words: &[0x8270_0000],
-        limit: 100,
-        end: End::Trapped(0x2A),
-        turns: 3,
-        overflows: 0,
-        status: 0,
-    },
+    words!(&[0x8270_0000], 100 => End::Trapped(0x2A), [3, 0, 0], 0),
     // taddcctv %g0,1,%g1
+    words!(&[0x8310_2001], 100 => End::Trapped(0x0A), [3, 0, 0], 0),
     Run {
-        words: &[0x8310_2001],
+        code: Code::Words(&GREETING),
+        data: &[],
+        windows: 8,
+        input: b"",
         limit: 100,
-        end: End::Trapped(0x0A),
-        turns: 3,
-        overflows: 0,
+        end: End::Exit(0),
+        counts: [16, 0, 0],
         status: 0,
+        output: b"Hi",
+        pages: Some(PageUse {
+            referenced: [1, 0, 0],
+            modified: [0, 0, 0],
+        }),
     },
+    // What is got is put out, and the end of the input is the exit word: 5 turns for each get and put, 3 for the exit.
+    Run {
+        code: Code::Words(&[GET, PUT, GET, PUT, GET, EXIT]),
+        data: &[],
+        windows: 8,
+        input: b"ab",
+        limit: 100,
+        end: End::Exit(0xFFFF_FFFF),
+        counts: [28, 0, 0],
+        status: 0,
+        output: b"ab",
+        pages: None,
+    },
+    chain!(Shape::Plain, 4 => 0, [2006, 38, 37]),
+    chain!(Shape::Plain, 5 => 0, [1958, 37, 36]),
+    chain!(Shape::Plain, 6 => 0, [1910, 36, 35]),
+    chain!(Shape::Plain, 32 => 0, [662, 10, 9]),
+    chain!(Shape::Result, 4 => 42, [2006, 38, 37]),
+    over_data!(&STORES_AFTER_A_LOAD, 4 => 7, [0, 1, 0]),
+    over_data!(&STORES_AFTER_A_LOAD, 8 => 7, [0, 1, 0]),
+    over_data!(&STORES_AFTER_A_LOAD, 32 => 7, [0, 1, 0]),
+    over_data!(&LOADS, 4 => 6, [0, 0, 0]),
 ];
 
-/// Whether a raw run is that of a row, without output.
+/// Whether a raw run is that of a row.
 fn is(raw: &Raw, run: &Run) -> bool {
+    let [turns, overflows, underflows] = run.counts;
     let wanted = Outcome {
         ending: run.end.ending(),
-        turns: run.turns,
-        overflows: run.overflows,
-        underflows: 0,
+        turns,
+        overflows,
+        underflows,
     };
-    raw.outcome == wanted && raw.fault_status == run.status && raw.output.is_empty()
+    raw.outcome == wanted
+        && raw.fault_status == run.status
+        && raw.output.as_slice() == run.output
+        && (run.pages.is_none() || run.pages == Some(raw.pages))
 }
 
 /// The raw run of an image on `N` windows.
@@ -129,47 +167,43 @@ fn run_on<const N: usize>(
     Ok(run_raw::<N>(alloc, image, input, limit)?)
 }
 
+/// The raw run of an image as a row has it.
+fn raw_of(alloc: Global, image: &Image, run: &Run) -> Result<Raw, Fail> {
+    match run.windows {
+        4 => run_on::<4>(alloc, image, run.input, run.limit),
+        5 => run_on::<5>(alloc, image, run.input, run.limit),
+        6 => run_on::<6>(alloc, image, run.input, run.limit),
+        8 => run_on::<8>(alloc, image, run.input, run.limit),
+        _ => run_on::<32>(alloc, image, run.input, run.limit),
+    }
+}
+
+/// The image of a row.
+fn image_of(alloc: Global, run: &Run) -> Result<Image, Fail> {
+    match run.code {
+        Code::Words(words) => image(alloc, words, run.data),
+        Code::Chain(shape) => image(alloc, chain(alloc, shape)?.as_slice(), run.data),
+    }
+}
+
+/// Whether the raw run of a row ends as it says.
 fn agrees(alloc: Global, run: &Run) -> Result<bool, Fail> {
-    let image = raw_image(alloc, run.words)?;
-    let raw = run_on::<4>(alloc, &image, b"", run.limit)?;
+    let image = image_of(alloc, run)?;
+    let raw = raw_of(alloc, &image, run)?;
     Ok(is(&raw, run))
 }
 
-#[test]
-fn raw_runs_end_as_worked_out(rt: HostRuntime) -> Result<(), Fail> {
-    for run in &RUNS {
-        assert!(rt; agrees(rt.alloc(), run)?, "{:?}", run.words);
+/// Asserts that each row's does.
+fn agree(rt: &impl Abort, alloc: Global, rows: &[Run]) -> Result<(), Fail> {
+    for number in 0..rows.len() {
+        assert!(rt; agrees(alloc, &rows[number])?, "{number}");
     }
     Ok(())
 }
 
-/// Whether a raw run of 16 turns has put `Hi` out, and referenced the first page of code alone.
-fn greets(raw: &Raw) -> bool {
-    let used = PageUse {
-        referenced: [1, 0, 0],
-        modified: [0, 0, 0],
-    };
-    raw.output.as_slice() == b"Hi".as_slice() && raw.outcome.turns == 16 && raw.pages == used
-}
-
-/// What is got is put out, and the end of the input is the exit word.
-fn echoes(raw: &Raw) -> bool {
-    raw.output.as_slice() == b"ab".as_slice() && raw.outcome.ending == Ending::Exit(0xFFFF_FFFF)
-}
-
-/// The raw run of words at eight windows.
-fn run_words(alloc: Global, words: &[u32], input: &[u8], limit: u64) -> Result<Raw, Fail> {
-    let image = raw_image(alloc, words)?;
-    run_on::<8>(alloc, &image, input, limit)
-}
-
 #[test]
-fn raw_runs_get_and_put(rt: HostRuntime) -> Result<(), Fail> {
-    let raw = run_words(rt.alloc(), &GREETING, b"", 100)?;
-    assert!(rt; greets(&raw), "{raw:?}");
-    let raw = run_words(rt.alloc(), &[GET, PUT, GET, PUT, GET, EXIT], b"ab", 100)?;
-    assert!(rt; echoes(&raw), "{raw:?}");
-    Ok(())
+fn raw_runs_end_as_worked_out(rt: HostRuntime) -> Result<(), Fail> {
+    agree(&rt, rt.alloc(), &RUNS)
 }
 
 /// So many bytes, each of which differs from its neighbours.
@@ -181,10 +215,11 @@ fn bytes_of(alloc: Global, count: u32) -> Result<Vec<u8>, AllocError> {
     Ok(bytes)
 }
 
-/// A run of 37,748,736 turns of a loop of 12 turns that gets a byte and puts it out.
+/// The raw run of 37,748,736 turns of a loop of 12 turns that gets a byte and puts it out.
 fn long_echo(alloc: Global, input: &[u8]) -> Result<Raw, Fail> {
     // ta 1; ta 2; ba .-8; nop
-    run_words(alloc, &[GET, PUT, 0x10BF_FFFE, NOP], input, 37_748_736)
+    let image = image(alloc, &[GET, PUT, 0x10BF_FFFE, NOP], &[])?;
+    run_on::<8>(alloc, &image, input, 37_748_736)
 }
 
 /// Whether a raw run of so many turns has put this out.
@@ -202,100 +237,5 @@ fn gives_back(alloc: Global) -> Result<bool, Fail> {
 #[test]
 fn long_outputs_are_kept(rt: HostRuntime) -> Result<(), Fail> {
     assert!(rt; gives_back(rt.alloc())?);
-    Ok(())
-}
-
-/// The image of a chain of 40 functions, each of which saves a window and calls the next; the last puts `!` out.
-fn chain_image(alloc: Global, shape: Shape) -> Result<Image, Fail> {
-    let words = chain(alloc, shape)?;
-    raw_image(alloc, &words)
-}
-
-/// A chain's raw run on `N` windows.
-fn chain_run<const N: usize>(alloc: Global, shape: Shape) -> Result<Raw, Fail>
-    requires { (4 ≤ N) × (N ≤ 32) }
-{
-    let image = chain_image(alloc, shape)?;
-    run_on::<N>(alloc, &image, b"", 10_000)
-}
-
-/// Whether a chain exits on `N` windows with this status, these counts, and `!` put out.
-fn chain_ends<const N: usize>(
-    alloc: Global,
-    shape: Shape,
-    status: u32,
-    counts: (u64, u64, u64),
-) -> Result<bool, Fail>
-    requires { (4 ≤ N) × (N ≤ 32) }
-{
-    let raw = chain_run::<N>(alloc, shape)?;
-    Ok(exits(&raw, status, counts) && raw.output.as_slice() == b"!".as_slice())
-}
-
-/// Whether a raw run exits with this status and these counts of turns, overflows and underflows.
-fn exits(raw: &Raw, status: u32, counts: (u64, u64, u64)) -> bool {
-    let told = &raw.outcome;
-    told.ending == Ending::Exit(status) && (told.turns, told.overflows, told.underflows) == counts
-}
-
-/// Whether chains end so on each of these counts of windows.
-fn chains_end(alloc: Global) -> Result<bool, Fail> {
-    Ok(
-        chain_ends::<4>(alloc, Shape::Plain, 0, (2006, 38, 37))?
-            && chain_ends::<5>(alloc, Shape::Plain, 0, (1958, 37, 36))?
-            && chain_ends::<6>(alloc, Shape::Plain, 0, (1910, 36, 35))?
-            && chain_ends::<32>(alloc, Shape::Plain, 0, (662, 10, 9))?
-            && chain_ends::<4>(alloc, Shape::Result, 42, (2006, 38, 37))?,
-    )
-}
-
-/// Windows are stored and loaded where there are too few, and every function returns to its caller. Of the 40 SAVEs all but the first
-/// N - 2 overflow, and of the 39 RESTOREs all but the first N - 2 underflow; each takes 24 turns more, the trap and the handler's 23.
-#[test]
-fn chains_of_calls_return(rt: HostRuntime) -> Result<(), Fail> {
-    assert!(rt; chains_end(rt.alloc())?);
-    Ok(())
-}
-
-/// A raw run over eight bytes of data.
-fn data_run<const N: usize>(alloc: Global, words: &[u32]) -> Result<Raw, Fail>
-    requires { (4 ≤ N) × (N ≤ 32) }
-{
-    let image = data_image(alloc, words)?;
-    run_on::<N>(alloc, &image, b"", 100)
-}
-
-/// Whether a raw run over eight bytes of data exits with 0 after so many turns, references a page of code and one of data, and
-/// modifies these.
-fn marks<const N: usize>(
-    alloc: Global,
-    words: &[u32],
-    turns: u64,
-    modified: [u64; 3],
-) -> Result<bool, Fail>
-    requires { (4 ≤ N) × (N ≤ 32) }
-{
-    let raw = data_run::<N>(alloc, words)?;
-    let used = PageUse {
-        referenced: [1, 1, 0],
-        modified,
-    };
-    Ok(exits(&raw, 0, (turns, 0, 0)) && raw.pages == used)
-}
-
-/// Whether pages are marked so on each of these counts of windows.
-fn marks_each(alloc: Global) -> Result<bool, Fail> {
-    Ok(
-        marks::<4>(alloc, &STORES_AFTER_A_LOAD, 7, [0, 1, 0])?
-            && marks::<8>(alloc, &STORES_AFTER_A_LOAD, 7, [0, 1, 0])?
-            && marks::<32>(alloc, &STORES_AFTER_A_LOAD, 7, [0, 1, 0])?
-            && marks::<4>(alloc, &LOADS, 6, [0, 0, 0])?,
-    )
-}
-
-/// A store after a load of its page marks that as modified, whatever the machine keeps of it.
-#[test]
-fn stores_mark_pages_that_were_loaded_from(rt: HostRuntime) -> Result<(), Fail> {
-    assert!(rt; marks_each(rt.alloc())?);
     Ok(())
 }

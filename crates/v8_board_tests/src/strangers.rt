@@ -1,12 +1,14 @@
 //! Code that nobody wrote: words by chance, whose runs stay contained.
 ghost use Rattle.std.specs.Prelude.{ℕ, ◌<◌, ◌≤◌};
 
-use crate::boards::{Tested, are_loaded_alike, board, load_both, step};
+use crate::boards::{Tested, board_over, load_image, put_words, step};
 use crate::images::regions_image;
-use std::alloc::Global;
+use crate::ports::Probe;
+use std::alloc::{AllocError, Global};
 use std::test::Fail;
 use v8_board::Ending;
 use v8_core::{DataAccess, Turn};
+use v8_mmu::PortFault;
 
 /// Numbers that look like chance, and are the same in each run.
 #[derive(Clone, Copy)]
@@ -139,15 +141,45 @@ fn are_allowed(board: &mut Tested, turns: u32) -> bool {
     true
 }
 
-/// Whether a board that runs these words keeps what was loaded, R and M aside.
-fn is_contained(
-    watched: &mut Tested,
-    fresh: &mut Tested,
-    alloc: Global,
-    words: &[u32],
-) -> Result<bool, Fail> {
-    load_both(watched, fresh, &regions_image(alloc, words)?);
-    Ok(are_allowed(watched, 500) && are_loaded_alike(watched, fresh))
+/// Loads a board with these words.
+fn load(board: &mut Tested, alloc: Global, words: &[u32]) -> Result<(), Fail> {
+    let image = regions_image(alloc, words)?;
+    load_image(board, &image);
+    Ok(())
+}
+
+/// A new board.
+fn board(alloc: Global) -> Result<Tested, AllocError> {
+    board_over(alloc, Probe::new(alloc, b"", 0, PortFault::Writer))
+}
+
+/// The trap table, the handlers and the tables, and the first pages of code and of data, R and M aside.
+fn first_pages(board: &Tested, alloc: Global) -> Result<Vec<Option<u32>>, AllocError> {
+    let mut words = Vec::new(alloc);
+    put_words(&mut words, board, 0, 0xB80)?;
+    put_words(&mut words, board, 0x1_0000, 1024)?;
+    put_words(&mut words, board, 0x5_0000, 1024)?;
+    Ok(words)
+}
+
+/// The same of a new board that is loaded with these words.
+fn loaded_pages(alloc: Global, words: &[u32]) -> Result<Vec<Option<u32>>, Fail> {
+    let mut fresh = board(alloc)?;
+    load(&mut fresh, alloc, words)?;
+    Ok(first_pages(&fresh, alloc)?)
+}
+
+/// Whether a board has them so.
+fn has_pages(board: &Tested, alloc: Global, pages: &[Option<u32>]) -> Result<bool, AllocError> {
+    let found = first_pages(board, alloc)?;
+    Ok(found.as_slice() == pages)
+}
+
+/// Whether a board that runs these words keeps what was loaded, as a new board has it, R and M aside.
+fn is_contained(watched: &mut Tested, alloc: Global, words: &[u32]) -> Result<bool, Fail> {
+    let pages = loaded_pages(alloc, words)?;
+    load(watched, alloc, words)?;
+    Ok(are_allowed(watched, 500) && has_pages(watched, alloc, &pages)?)
 }
 
 /// How often runs have ended in each way: by an exit, by a trap, in error mode, or not.
@@ -175,17 +207,12 @@ impl Ends {
     }
 }
 
-/// How many of a thousand programs of chance are contained, up to the first that isn't, with how their runs ended.
-fn contained(
-    watched: &mut Tested,
-    fresh: &mut Tested,
-    alloc: Global,
-    ends: &mut Ends,
-) -> Result<u32, Fail> {
+/// How many of a thousand programs of chance are contained, up to the first that isn't; it notes how their runs ended.
+fn contained(watched: &mut Tested, alloc: Global, ends: &mut Ends) -> Result<u32, Fail> {
     let mut dice = Dice { state: 1 };
     for number in 0..1000u32 {
         let words = stranger(&mut dice);
-        if !is_contained(watched, fresh, alloc, &words)? {
+        if !is_contained(watched, alloc, &words)? {
             return Ok(number);
         }
         ends.note(&watched.ending());
@@ -193,19 +220,22 @@ fn contained(
     Ok(1000)
 }
 
+/// The same on a new board.
+fn contained_on_a_board(alloc: Global, ends: &mut Ends) -> Result<u32, Fail> {
+    let mut watched = board(alloc)?;
+    contained(&mut watched, alloc, ends)
+}
+
 /// A thousand programs of chance, one after another on one board: none changes what was loaded with it, or reaches what isn't its own.
 #[test]
 fn strangers_are_contained(rt: HostRuntime) -> Result<(), Fail> {
-    let alloc = rt.alloc();
-    let mut watched = board(alloc, 0)?;
-    let mut fresh = board(alloc, 0)?;
     let mut ends = Ends {
         exits: 0,
         traps: 0,
         errors: 0,
         limits: 0,
     };
-    let number = contained(&mut watched, &mut fresh, alloc, &mut ends)?;
+    let number = contained_on_a_board(rt.alloc(), &mut ends)?;
     assert!(rt; number == 1000 && ends.has_all(), "program {number}");
     Ok(())
 }

@@ -1,8 +1,11 @@
 //! Traces, line by line.
-use crate::images::{EXIT, GREETING, NOP, raw_image};
+ghost use Rattle.std.specs.Prelude.{◌≤◌, ℕ};
+
+use crate::images::{EXIT, GREETING, NOP, image};
 use sbx_raw::{Ending, Line, Outcome, RunFault, make_line, trace};
 use std::alloc::Global;
 use std::io::{self, Write};
+use std::process::Abort;
 use std::test::Fail;
 use v8_core::{Event, Turn};
 use v8_word::TrapType;
@@ -32,7 +35,7 @@ struct Traced {
     text: &'static [u8],
 }
 
-const TRACES: [Traced; 5] = [
+static TRACES: [Traced; 5] = [
     Traced {
         words: &GREETING,
         limit: 100_000,
@@ -67,46 +70,95 @@ const TRACES: [Traced; 5] = [
     },
 ];
 
-/// Whether the trace of a row is its text.
-fn agrees(alloc: Global, traced: &Traced) -> Result<bool, Fail> {
-    let image = raw_image(alloc, traced.words)?;
-    let mut out = Vec::new(alloc);
-    let told = trace::<8, Vec<u8>>(alloc, &image, b"", traced.limit, &mut out);
-    Ok(told.is_ok() && out.as_slice() == traced.text)
+/// What is asked of a trace's outcome.
+#[derive(Clone, Copy)]
+enum Wanted {
+    /// That there is one.
+    Whole,
+    /// So many turns.
+    Turns(u64),
+    /// The limit, after so many turns.
+    Limit(u64),
+    /// Error mode, by a trap of this number.
+    ErrorMode(u8),
+    /// That the writer failed.
+    Failure,
 }
 
-#[test]
-fn traces_have_a_line_a_turn(rt: HostRuntime) -> Result<(), Fail> {
-    for traced in &TRACES {
-        assert!(rt;
-            agrees(rt.alloc(), traced)?,
-            "{:?} {}",
-            traced.words,
-            traced.limit
-        );
+/// Whether the outcome of a whole trace is as asked.
+fn is_whole(outcome: &Outcome, wanted: Wanted) -> bool {
+    match wanted {
+        Wanted::Whole => true,
+        Wanted::Turns(turns) => outcome.turns == turns,
+        Wanted::Limit(turns) => outcome.ending == Ending::Limit && outcome.turns == turns,
+        Wanted::ErrorMode(number) => outcome.ending == Ending::ErrorMode(TrapType::new(number)),
+        Wanted::Failure => false,
+    }
+}
+
+/// Whether a trace is told as asked.
+fn is_told(told: &Result<Outcome, RunFault>, wanted: Wanted) -> bool {
+    match told {
+        Ok(outcome) => is_whole(outcome, wanted),
+        Err(fault) => *fault == RunFault::Writer && matches!(wanted, Wanted::Failure),
+    }
+}
+
+/// Traces at most so many turns of raw words on `N` windows, without input, and tells whether the outcome is as asked.
+fn trace_words<const N: usize, W: Write>(
+    alloc: Global,
+    words: &[u32],
+    limit: u64,
+    wanted: Wanted,
+    out: &mut W,
+) -> Result<bool, Fail>
+    requires { (4 ≤ N) × (N ≤ 32) }
+{
+    let image = image(alloc, words, &[])?;
+    let told = trace::<N, W>(alloc, &image, b"", limit, out);
+    Ok(is_told(&told, wanted))
+}
+
+/// Whether the trace of a row is its text.
+fn agrees(alloc: Global, row: &Traced) -> Result<bool, Fail> {
+    let mut out = Vec::new(alloc);
+    let is_traced = trace_words::<8, Vec<u8>>(
+        alloc,
+        row.words,
+        row.limit,
+        Wanted::Whole,
+        &mut out,
+    )?;
+    Ok(is_traced && out.as_slice() == row.text)
+}
+
+/// Asserts that each row's is.
+fn agree(rt: &impl Abort, alloc: Global, rows: &[Traced]) -> Result<(), Fail> {
+    for number in 0..rows.len() {
+        assert!(rt; agrees(alloc, &rows[number])?, "{number}");
     }
     Ok(())
 }
 
-/// Whether a trace ends in error mode, and with the line that tells it.
-fn ends_in_error_mode(told: &Result<Outcome, RunFault>, text: &[u8]) -> bool {
-    match told {
-        Ok(told) => {
-            told.ending == Ending::ErrorMode(TrapType::new(0x09))
-                && text.ends_with(b"\n0000000019 00 s F0001020 E03BA000 error 09\n")
-        }
-        Err(_fault) => false,
-    }
+#[test]
+fn traces_have_a_line_a_turn(rt: HostRuntime) -> Result<(), Fail> {
+    agree(&rt, rt.alloc(), &TRACES)
+}
+
+/// Whether the trace of SAVEs with the stack pointer at the device ends in error mode, and with the line that tells it.
+fn tells_error_mode(alloc: Global) -> Result<bool, Fail> {
+    let mut out = Vec::new(alloc);
+    let words = [0x1D3C_0040, 0x1080_0000, 0x9DE3_A000];
+    let wanted = Wanted::ErrorMode(0x09);
+    let is_traced = trace_words::<4, Vec<u8>>(alloc, &words, 100, wanted, &mut out)?;
+    let line = b"\n0000000019 00 s F0001020 E03BA000 error 09\n";
+    Ok(is_traced && out.as_slice().ends_with(line))
 }
 
 /// The store of an overflow fails, and ends in error mode.
 #[test]
 fn error_mode_is_traced(rt: HostRuntime) -> Result<(), Fail> {
-    let alloc = rt.alloc();
-    let image = raw_image(alloc, &[0x1D3C_0040, 0x1080_0000, 0x9DE3_A000])?;
-    let mut out = Vec::new(alloc);
-    let told = trace::<4, Vec<u8>>(alloc, &image, b"", 100, &mut out);
-    assert!(rt; ends_in_error_mode(&told, out.as_slice()));
+    assert!(rt; tells_error_mode(rt.alloc())?);
     Ok(())
 }
 
@@ -130,11 +182,16 @@ impl Write for Counter {
 /// A loop of two turns, traced two million turns long, has as many lines, each of 38 bytes.
 #[test]
 fn long_traces_have_a_line_a_turn(rt: HostRuntime) -> Result<(), Fail> {
-    let alloc = rt.alloc();
-    let image = raw_image(alloc, &[0x1080_0000, NOP])?;
     let mut out = Counter { count: 0 };
-    let told = trace::<4, Counter>(alloc, &image, b"", 2_000_000, &mut out)?;
-    assert!(rt; (told.ending, told.turns, out.count) == (Ending::Limit, 2_000_000, 76_000_000));
+    let wanted = Wanted::Limit(2_000_000);
+    let is_traced = trace_words::<8, Counter>(
+        rt.alloc(),
+        &[0x1080_0000, NOP],
+        2_000_000,
+        wanted,
+        &mut out,
+    )?;
+    assert!(rt; is_traced && out.count == 76_000_000);
     Ok(())
 }
 
@@ -171,14 +228,6 @@ impl Write for Narrow {
     }
 }
 
-/// Whether a trace is told as whole, or as one whose writer failed.
-fn is_told(told: &Result<Outcome, RunFault>, whole: bool) -> bool {
-    match told {
-        Ok(told) => whole && told.turns == 16,
-        Err(fault) => !whole && *fault == RunFault::Writer,
-    }
-}
-
 /// Whether a writer has taken as many bytes as it had room for, and they are the front of the greeting's trace.
 fn has_the_front(out: &Narrow, room: usize) -> bool {
     GREETING_TRACE.starts_with(out.kept.as_slice()) && out.kept.len() == room
@@ -186,26 +235,33 @@ fn has_the_front(out: &Narrow, room: usize) -> bool {
 
 /// Whether a writer with this room gets the front of the greeting's trace, and the whole of it where there is room.
 fn gets_the_front(alloc: Global, room: usize, fails: bool, whole: bool) -> Result<bool, Fail> {
-    let image = raw_image(alloc, &GREETING)?;
     let mut out = Narrow {
         kept: Vec::new(alloc),
         room,
         fails,
     };
-    let told = trace::<8, Narrow>(alloc, &image, b"", 100, &mut out);
-    Ok(is_told(&told, whole) && has_the_front(&out, room))
+    let wanted = if whole {
+        Wanted::Turns(16)
+    } else {
+        Wanted::Failure
+    };
+    let is_traced = trace_words::<8, Narrow>(alloc, &GREETING, 100, wanted, &mut out)?;
+    Ok(is_traced && has_the_front(&out, room))
 }
+
+/// How much room a writer has, whether it fails or takes nothing where that is used up, and whether it gets the whole trace.
+const FRONTS: [(usize, bool, bool); 5] = [
+    (60, true, false),
+    (60, false, false),
+    (0, true, false),
+    (GREETING_TRACE.len(), true, false),
+    (GREETING_TRACE.len(), false, true),
+];
 
 /// What a writer took before it failed is the front of the trace.
 #[test]
 fn a_failing_writer_keeps_the_front(rt: HostRuntime) -> Result<(), Fail> {
-    for (room, fails, whole) in [
-        (60, true, false),
-        (60, false, false),
-        (0, true, false),
-        (GREETING_TRACE.len(), true, false),
-        (GREETING_TRACE.len(), false, true),
-    ] {
+    for &(room, fails, whole) in &FRONTS {
         assert!(rt;
             gets_the_front(rt.alloc(), room, fails, whole)?,
             "{room} {fails}"
@@ -214,9 +270,24 @@ fn a_failing_writer_keeps_the_front(rt: HostRuntime) -> Result<(), Fail> {
     Ok(())
 }
 
-/// Numbers of more than ten digits have as many as they need.
-#[test]
-fn great_numbers_are_whole(rt: HostRuntime) {
+/// Numbers of turns with their lines.
+const GREAT: [(u64, &[u8]); 3] = [
+    (
+        9_999_999_999,
+        b"9999999999 31 s FFFFFFFC -------- trap FF\n",
+    ),
+    (
+        10_000_000_000,
+        b"10000000000 31 s FFFFFFFC -------- trap FF\n",
+    ),
+    (
+        u64::MAX,
+        b"18446744073709551615 31 s FFFFFFFC -------- trap FF\n",
+    ),
+];
+
+/// Whether the line of a turn of this number is this text.
+fn is_line(line: &mut Line, number: u64, text: &[u8]) -> bool {
     let turn = Turn {
         event: Event::Trapped(TrapType::new(0xFF)),
         cwp: 31,
@@ -225,22 +296,15 @@ fn great_numbers_are_whole(rt: HostRuntime) {
         word: None,
         access: None,
     };
+    make_line(line, number, &turn);
+    line.as_slice() == text
+}
+
+/// Numbers of more than ten digits have as many as they need.
+#[test]
+fn great_numbers_are_whole(rt: HostRuntime) {
     let mut line = Line::new();
-    for (number, text) in [
-        (
-            9_999_999_999,
-            b"9999999999 31 s FFFFFFFC -------- trap FF\n".as_slice(),
-        ),
-        (
-            10_000_000_000,
-            b"10000000000 31 s FFFFFFFC -------- trap FF\n",
-        ),
-        (
-            u64::MAX,
-            b"18446744073709551615 31 s FFFFFFFC -------- trap FF\n",
-        ),
-    ] {
-        make_line(&mut line, number, &turn);
-        assert!(rt; line.as_slice() == text, "{number}");
+    for &(number, text) in &GREAT {
+        assert!(rt; is_line(&mut line, number, text), "{number}");
     }
 }

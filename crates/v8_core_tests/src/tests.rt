@@ -1,6 +1,7 @@
 //! Programs and traps with the states that they leave.
 use crate::small::Small;
 use std::alloc::AllocError;
+use std::process::Abort;
 use v8_core::{DataAccess, Event, Machine, Turn};
 use v8_mmu::{MmuRegs, PortFault, Stop};
 use v8_word::{Reg, Size, TrapType};
@@ -68,7 +69,7 @@ struct Program {
     psr_after: u32,
 }
 
-const PROGRAMS: [Program; 47] = [
+static PROGRAMS: [Program; 47] = [
     // or %g0,5,%g1; add %g1,7,%g2; sub %g2,%g1,%g3
     Program {
         psr: 0x20,
@@ -505,7 +506,7 @@ const PROGRAMS: [Program; 47] = [
 /// Words of which the last traps: PSR before them, the pages' ACC, the words, the trap, and the fault status that it leaves.
 type Trapping = (u32, u32, &'static [u32], u8, u32);
 
-const TRAPS: [Trapping; 41] = [
+static TRAPS: [Trapping; 41] = [
     // sethi 0x20000,%g1; jmpl %g1,%g0; nop
     (0x20, 3, &[0x03020000, 0x81C04000, 0x01000000], 0x01, 0x56),
     // unimp 0
@@ -635,16 +636,22 @@ fn has_state(machine: &Tested, program: &Program) -> bool {
     globals == program.globals && (machine.pc(), machine.psr()) == (program.pc, program.psr_after)
 }
 
-fn leaves_its_state(program: &Program) -> bool {
-    let mut machine = machine(3, program.psr, program.words);
-    makes(&mut machine, program.turns) && has_state(&machine, program)
+fn leaves_its_state(machine: &mut Tested, program: &Program) -> bool {
+    makes(machine, program.turns) && has_state(machine, program)
+}
+
+/// Asserts that each program does.
+fn leave_their_states(rt: &impl Abort, programs: &[Program]) {
+    for number in 0..programs.len() {
+        let program = &programs[number];
+        let check = Check::Leaves(*program);
+        assert!(rt; holds(3, program.psr, program.words, &check), "{number}");
+    }
 }
 
 #[test]
 fn programs_leave_the_state_of_the_manual(rt: HostRuntime) {
-    for program in &PROGRAMS {
-        assert!(rt; leaves_its_state(program), "{:?}", program.words);
-    }
+    leave_their_states(&rt, &PROGRAMS);
 }
 
 /// Steps up to the first turn that isn't an instruction that ran.
@@ -672,24 +679,33 @@ fn wrote_no_register(machine: &Tested, words: &[u32]) -> bool {
     global(machine, 2) == 0 && (words.len() > 1 || global(machine, 1) == 0)
 }
 
-fn traps_as_told(case: &Trapping) -> bool {
-    let (psr, acc, words, trap, status) = *case;
-    let mut machine = machine(acc, psr, words);
-    first_end(&mut machine) == Some(Event::Trapped(TrapType::new(trap)))
+fn traps_as_told(machine: &mut Tested, case: &Trapping) -> bool {
+    let (psr, _acc, words, trap, status) = *case;
+    first_end(machine) == Some(Event::Trapped(TrapType::new(trap)))
         && machine.fault_status() == status
-        && has_entered(&machine, psr, trap)
-        && wrote_no_register(&machine, words)
+        && has_entered(machine, psr, trap)
+        && wrote_no_register(machine, words)
+}
+
+/// Asserts that each case does.
+fn trap_as_told(rt: &impl Abort, cases: &[Trapping]) {
+    for number in 0..cases.len() {
+        let case = cases[number];
+        assert!(rt;
+            holds(case.1, case.0, case.2, &Check::Traps(case)),
+            "{number}"
+        );
+    }
 }
 
 #[test]
 fn traps_are_told_by_priority(rt: HostRuntime) {
-    for case in &TRAPS {
-        assert!(rt; traps_as_told(case), "{:?} {}", case.2, case.0);
-    }
+    trap_as_told(&rt, &TRAPS);
 }
 
 /// Whether a machine that ends in error mode by this trap stays there, with TBR telling it.
-fn stays_in_error_mode(machine: &mut Tested, psr: u32, trap: u8) -> bool {
+fn stays_in_error_mode(machine: &mut Tested, psr: u32, wim: u32, trap: u8) -> bool {
+    machine.set_wim(wim);
     let ended = Some(Event::ErrorMode(TrapType::new(trap)));
     first_end(machine) == ended
         && first_end(machine) == ended
@@ -699,19 +715,14 @@ fn stays_in_error_mode(machine: &mut Tested, psr: u32, trap: u8) -> bool {
 
 #[test]
 fn traps_while_disabled_are_error_mode(rt: HostRuntime) {
-    for (psr, wim, word, trap) in ERRORS {
-        let mut machine = machine(3, psr, &[word]);
-        machine.set_wim(wim);
-        assert!(rt;
-            stays_in_error_mode(&mut machine, psr, trap),
-            "{word} {psr}"
-        );
+    for &(psr, wim, word, trap) in &ERRORS {
+        let check = Check::StaysInErrorMode(psr, wim, trap);
+        assert!(rt; holds(3, psr, &[word], &check), "{word} {psr}");
     }
 }
 
-/// Whether a word of this kind accesses pages of this ACC.
-fn is_admitted(acc: u32, word: u32) -> bool {
-    let mut machine = machine(acc, 0xA0, &[word]);
+/// Whether the next word accesses its pages.
+fn is_admitted(machine: &mut Tested) -> bool {
     match machine.step() {
         Ok(turn) => {
             turn.event == Event::Ran && turn.access.is_some() && machine.fault_status() == 0
@@ -722,8 +733,11 @@ fn is_admitted(acc: u32, word: u32) -> bool {
 
 #[test]
 fn spaces_admit_what_their_pages_allow(rt: HostRuntime) {
-    for (acc, word) in ADMITTED {
-        assert!(rt; is_admitted(acc, word), "{word} {acc}");
+    for &(acc, word) in &ADMITTED {
+        assert!(rt;
+            holds(acc, 0xA0, &[word], &Check::IsAdmitted),
+            "{word} {acc}"
+        );
     }
 }
 
@@ -756,7 +770,7 @@ const ACCESSES: [(u32, Size, bool); 12] = [
 ];
 
 /// Whether the turn of a word tells this access of 7F8.
-fn tells(word: u32, size: Size, store: bool) -> bool {
+fn tells(machine: &mut Tested, word: u32, size: Size, store: bool) -> bool {
     let access = DataAccess {
         va: 0x7F8,
         pa: 0x7F8,
@@ -771,13 +785,16 @@ fn tells(word: u32, size: Size, store: bool) -> bool {
         word: Some(word),
         access: Some(access),
     };
-    machine(3, 0x23, &[word]).step() == Ok(turn)
+    machine.step() == Ok(turn)
 }
 
 #[test]
 fn turns_tell_what_moved(rt: HostRuntime) {
-    for (word, size, store) in ACCESSES {
-        assert!(rt; tells(word, size, store), "{word}");
+    for &(word, size, store) in &ACCESSES {
+        assert!(rt;
+            holds(3, 0x23, &[word], &Check::Tells(word, size, store)),
+            "{word}"
+        );
     }
 }
 
@@ -809,27 +826,25 @@ fn runs(machine: &mut Tested) -> bool {
 }
 
 /// Whether a word that finds this in %g1 leaves these words in %g1 and in the entry.
-fn leaves(word: u32, before: u32, after: u32, entry: u32) -> bool {
-    let mut machine = machine(3, 0x20, &[word]);
+fn leaves(machine: &mut Tested, before: u32, after: u32, entry: u32) -> bool {
     if let Some(first) = Reg::new(1) {
         machine.set_reg(first, before);
     }
-    root_entry(&machine) == Some(0xE)
-        && runs(&mut machine)
-        && global(&machine, 1) == after
-        && root_entry(&machine) == Some(entry)
+    root_entry(machine) == Some(0xE)
+        && runs(machine)
+        && global(machine, 1) == after
+        && root_entry(machine) == Some(entry)
 }
 
 /// Whether a fetch of the entry gives it with R, which is an UNIMP.
-fn fetches_its_mark() -> bool {
-    let mut machine = machine(3, 0x20, &[]);
+fn fetches_its_mark(machine: &mut Tested) -> bool {
     machine.set_pc(0xFFC);
     machine.set_npc(CODE);
     match machine.step() {
         Ok(turn) => {
             turn.event == Event::Trapped(TrapType::new(0x02))
                 && turn.word == Some(0x2E)
-                && root_entry(&machine) == Some(0x2E)
+                && root_entry(machine) == Some(0x2E)
         }
         Err(_) => false,
     }
@@ -838,29 +853,34 @@ fn fetches_its_mark() -> bool {
 /// R and M are set before the bytes of an access move.
 #[test]
 fn marks_come_before_the_bytes(rt: HostRuntime) {
-    for (word, before, after, entry) in OWN_ENTRY {
-        assert!(rt; leaves(word, before, after, entry), "{word}");
+    for &(word, before, after, entry) in &OWN_ENTRY {
+        let check = Check::MarksItsEntry(before, after, entry);
+        assert!(rt; holds(3, 0x20, &[word], &check), "{word}");
     }
-    assert!(rt; fetches_its_mark());
+    assert!(rt; holds(3, 0x20, &[], &Check::FetchesItsMark));
 }
 
 /// Whether words meet an annulled slot in window 0, and the fetches alone have marked the page.
-fn annul(words: &[u32]) -> bool {
-    let mut machine = machine(3, 0x20, words);
-    first_end(&mut machine) == Some(Event::Annulled)
+fn annuls(machine: &mut Tested) -> bool {
+    first_end(machine) == Some(Event::Annulled)
         && machine.psr() & 0x1F == 0
-        && root_entry(&machine) == Some(0x2E)
+        && root_entry(machine) == Some(0x2E)
 }
 
 #[test]
 fn annulled_turns_fetch_nothing(rt: HostRuntime) {
     // ba,a .+12; save %sp,-96,%sp; and after a comparison bne,a .+12; st %g0,[%g0+0xFFC]
-    assert!(rt; annul(&[0x30800003, 0x9DE3BFA0, 0]));
-    assert!(rt; annul(&[0x80A00000, 0x32800003, 0xC0202FFC]));
+    let over_a_save = [0x30800003, 0x9DE3BFA0, 0];
+    let over_a_store = [0x80A00000, 0x32800003, 0xC0202FFC];
+    assert!(rt; holds(3, 0x20, &over_a_save, &Check::Annuls));
+    assert!(rt; holds(3, 0x20, &over_a_store, &Check::Annuls));
 }
 
 /// Whether a turn whose port fails changes nothing, and is made once the port works.
 fn is_made_again(machine: &mut Tested, fault: PortFault) -> bool {
+    if !makes(machine, 1) {
+        return false;
+    }
     machine.bus_mut().broken = true;
     let is_undone = machine.step() == Err(fault)
         && machine.pc() == CODE + 4
@@ -869,19 +889,36 @@ fn is_made_again(machine: &mut Tested, fault: PortFault) -> bool {
     is_undone && makes(machine, 1) && machine.pc() == CODE + 8
 }
 
+/// A fault of a port, as tables name it.
+#[derive(Clone, Copy)]
+enum Fault {
+    Reader,
+    Writer,
+    Memory,
+}
+
+impl Fault {
+    fn told(self) -> PortFault {
+        match self {
+            Fault::Reader => PortFault::Reader,
+            Fault::Writer => PortFault::Writer,
+            Fault::Memory => PortFault::Memory(Want::from(AllocError)),
+        }
+    }
+}
+
+// %g1 = 10000000, and then a load, a store, an exchange of the device's word
+const FAILING: [(u32, Fault); 3] = [
+    (0xC4004000, Fault::Reader),
+    (0xC4204000, Fault::Writer),
+    (0xC4784000, Fault::Memory),
+];
+
 #[test]
 fn a_port_that_fails_changes_nothing(rt: HostRuntime) {
-    // %g1 = 10000000, and then a load, a store, an exchange of the device's word
-    for (word, fault) in [
-        (0xC4004000, PortFault::Reader),
-        (0xC4204000, PortFault::Writer),
-        (0xC4784000, PortFault::Memory(Want::from(AllocError))),
-    ] {
-        let mut machine = machine(3, 0x20, &[0x03040000, word]);
-        assert!(rt;
-            makes(&mut machine, 1) && is_made_again(&mut machine, fault),
-            "{word}"
-        );
+    for &(word, fault) in &FAILING {
+        let check = Check::IsMadeAgain(fault);
+        assert!(rt; holds(3, 0x20, &[0x03040000, word], &check), "{word}");
     }
 }
 
@@ -910,13 +947,15 @@ fn tells_the_end(machine: &mut Tested) -> bool {
     }
 }
 
+/// Whether the second turn exits, and the third tells the end again.
+fn ends(machine: &mut Tested) -> bool {
+    runs(machine) && exits(machine) && tells_the_end(machine)
+}
+
 #[test]
 fn an_exit_ends_the_machine(rt: HostRuntime) {
     // st %g1,[%g1] at the device
-    let mut machine = machine(3, 0x20, &[0x03040000, 0xC2204000]);
-    assert!(rt; runs(&mut machine));
-    assert!(rt; exits(&mut machine));
-    assert!(rt; tells_the_end(&mut machine));
+    assert!(rt; holds(3, 0x20, &[0x03040000, 0xC2204000], &Check::Ends));
 }
 
 /// Whether Y, WIM and TBR are these.
@@ -931,18 +970,28 @@ fn has_booted(machine: &Tested) -> bool {
         && (machine.reg(Reg::SP), machine.reg(Reg::O7)) == (0x000F_FFC0, 9)
 }
 
-#[test]
-fn state_registers_are_set_and_read(rt: HostRuntime) {
-    let mut machine = machine(3, 0x20, &[]);
-    let is_set = machine.set_psr(0xFF);
-    assert!(rt; !is_set && machine.psr() == 0x20);
+/// Whether a refused PSR changes nothing, and the other registers keep what is set, as far as there are bits for it.
+fn keeps_what_is_set(machine: &mut Tested) -> bool {
+    let is_refused = !machine.set_psr(0xFF) && machine.psr() == 0x20;
     machine.set_y(5);
     machine.set_wim(0x1FF);
     machine.set_tbr(0xABCD_EFFF);
     machine.set_reg(Reg::O7, 9);
-    assert!(rt; has_set(&machine, 5, 0xFF, 0xABCD_EFF0));
+    is_refused && has_set(machine, 5, 0xFF, 0xABCD_EFF0)
+}
+
+/// Whether a machine does, and boots then.
+fn sets_and_boots(machine: &mut Tested) -> bool {
+    if !keeps_what_is_set(machine) {
+        return false;
+    }
     machine.boot();
-    assert!(rt; has_booted(&machine));
+    has_booted(machine)
+}
+
+#[test]
+fn state_registers_are_set_and_read(rt: HostRuntime) {
+    assert!(rt; holds(3, 0x20, &[], &Check::SetsAndBoots));
 }
 
 /// The level of the page's entry that the machine keeps for an address.
@@ -956,15 +1005,34 @@ fn is_refused(machine: &mut Tested, status: u32) -> bool {
         && machine.fault_status() == status
 }
 
+/// Whether a load's page is kept, and a store to the word that it was found by takes it away.
+fn drops_what_is_stored(machine: &mut Tested) -> bool {
+    if kept_level(machine, 0x7F8).is_some() || !runs(machine) {
+        return false;
+    }
+    // An invalid entry at level 0: from supervisor instructions, of fault type 1.
+    kept_level(machine, 0x7F8) == Some(0)
+        && runs(machine)
+        && kept_level(machine, 0x7F8).is_none()
+        && is_refused(machine, 0x66)
+}
+
 /// A store to a table's word is seen by the next fetch, and takes with it what was kept by that word.
 #[test]
 fn a_stored_table_word_is_what_is_found(rt: HostRuntime) {
     // ld [%g0+0x7F8],%g2; st %g0,[%g0+0xFFC]
-    let mut machine = machine(3, 0xA0, &[0xC40027F8, 0xC0202FFC]);
-    assert!(rt; kept_level(&machine, 0x7F8).is_none() && runs(&mut machine));
-    assert!(rt; kept_level(&machine, 0x7F8) == Some(0) && runs(&mut machine));
-    // An invalid entry at level 0: from supervisor instructions, of fault type 1.
-    assert!(rt; kept_level(&machine, 0x7F8).is_none() && is_refused(&mut machine, 0x66));
+    let words = [0xC40027F8, 0xC0202FFC];
+    assert!(rt; holds(3, 0xA0, &words, &Check::DropsWhatIsStored));
+}
+
+/// Whether the third fetch is refused: at level 0, from user instructions, of fault type 3.
+fn is_refused_to_the_user(machine: &mut Tested) -> bool {
+    runs(machine) && runs(machine) && is_refused(machine, 0x4E)
+}
+
+/// Whether the third fetch is allowed.
+fn is_allowed_to_the_user(machine: &mut Tested) -> bool {
+    runs(machine) && runs(machine) && runs(machine) && root_entry(machine) == Some(0x2E)
 }
 
 /// A page that a supervisor's fetches find again and again is refused to the user who comes next.
@@ -972,11 +1040,51 @@ fn a_stored_table_word_is_what_is_found(rt: HostRuntime) {
 fn a_mode_that_ends_takes_its_page_with_it(rt: HostRuntime) {
     // nop; wr %g0,0x20,%psr; nop
     let words = [0x01000000, 0x81882020, 0x01000000];
-    let mut refused = machine(7, 0xA0, &words);
-    assert!(rt; runs(&mut refused) && runs(&mut refused));
-    // At level 0: from user instructions, of fault type 3.
-    assert!(rt; is_refused(&mut refused, 0x4E));
-    let mut allowed = machine(3, 0xA0, &words);
-    assert!(rt; runs(&mut allowed) && runs(&mut allowed) && runs(&mut allowed));
-    assert!(rt; root_entry(&allowed) == Some(0x2E));
+    assert!(rt; holds(7, 0xA0, &words, &Check::IsRefusedToTheUser));
+    assert!(rt; holds(3, 0xA0, &words, &Check::IsAllowedToTheUser));
+}
+
+/// What is asked of a machine that comes to some words.
+#[derive(Clone, Copy)]
+enum Check {
+    Leaves(Program),
+    Traps(Trapping),
+    StaysInErrorMode(u32, u32, u8),
+    IsAdmitted,
+    Tells(u32, Size, bool),
+    MarksItsEntry(u32, u32, u32),
+    FetchesItsMark,
+    Annuls,
+    IsMadeAgain(Fault),
+    Ends,
+    SetsAndBoots,
+    DropsWhatIsStored,
+    IsRefusedToTheUser,
+    IsAllowedToTheUser,
+}
+
+/// Whether a machine answers as asked.
+fn answers(machine: &mut Tested, check: &Check) -> bool {
+    match check {
+        Check::Leaves(program) => leaves_its_state(machine, program),
+        Check::Traps(case) => traps_as_told(machine, case),
+        Check::StaysInErrorMode(psr, wim, trap) => stays_in_error_mode(machine, *psr, *wim, *trap),
+        Check::IsAdmitted => is_admitted(machine),
+        Check::Tells(word, size, store) => tells(machine, *word, *size, *store),
+        Check::MarksItsEntry(before, after, entry) => leaves(machine, *before, *after, *entry),
+        Check::FetchesItsMark => fetches_its_mark(machine),
+        Check::Annuls => annuls(machine),
+        Check::IsMadeAgain(fault) => is_made_again(machine, fault.told()),
+        Check::Ends => ends(machine),
+        Check::SetsAndBoots => sets_and_boots(machine),
+        Check::DropsWhatIsStored => drops_what_is_stored(machine),
+        Check::IsRefusedToTheUser => is_refused_to_the_user(machine),
+        Check::IsAllowedToTheUser => is_allowed_to_the_user(machine),
+    }
+}
+
+/// Whether a machine that comes to these words, on pages of this ACC, does. No other function owns one.
+fn holds(acc: u32, psr: u32, words: &[u32], check: &Check) -> bool {
+    let mut machine = machine(acc, psr, words);
+    answers(&mut machine, check)
 }
