@@ -2,6 +2,7 @@
 use sbx_image::{Image, ImageFault, write};
 use sbx_reader::ImageReader;
 use std::alloc::{AllocError, Global};
+use std::process::Abort;
 
 /// The image that writes `Hi`: exit and put, six words, one leaf with one block.
 const HELLO: [u8; 86] = [
@@ -53,6 +54,12 @@ fn in_pieces(alloc: Global, bytes: &[u8], size: usize) -> Result<Image, ImageFau
     reader.finish()
 }
 
+/// Whether what is read of bytes in pieces of a size is the image that they spell.
+fn is_read_in_pieces(alloc: Global, bytes: &[u8], size: usize) -> bool {
+    let read = in_pieces(alloc, bytes, size);
+    is_image_of(alloc, bytes, &read)
+}
+
 /// Whether an image is the one that bytes spell; where a growth was refused, the answer says so.
 fn is_image_of(alloc: Global, bytes: &[u8], read: &Result<Image, ImageFault>) -> bool {
     match read {
@@ -79,7 +86,7 @@ fn is_refused(reader: ImageReader, fed: Result<(), ImageFault>, wanted: ImageFau
 }
 
 /// A byte of a worked image, what stands there in its place, the fault, and the byte at which it is told.
-#[derive(Clone, Copy, Debug)]
+#[derive(Clone, Copy)]
 struct Row {
     at: usize,
     byte: u8,
@@ -120,6 +127,13 @@ fn is_told(alloc: Global, bytes: &[u8], row: &Row) -> bool {
     match told {
         Some((i, fault)) => i == row.told && fault == row.fault,
         None => false,
+    }
+}
+
+/// The fault of each row is.
+fn are_told<R: Abort>(rt: &R, alloc: Global, bytes: &[u8], rows: &[Row]) {
+    for row in rows {
+        assert!(rt; is_told(alloc, bytes, row), "{} {}", row.at, row.byte);
     }
 }
 
@@ -179,8 +193,7 @@ fn rows_of_depths() -> [Row; 7] {
 fn pieces_of_any_size_are_the_image(rt: HostRuntime) {
     for bytes in IMAGES {
         for size in 1..120usize {
-            let read = in_pieces(rt.alloc(), bytes, size);
-            assert!(rt; is_image_of(rt.alloc(), bytes, &read));
+            assert!(rt; is_read_in_pieces(rt.alloc(), bytes, size), "{size}");
         }
     }
 }
@@ -197,49 +210,60 @@ fn in_two(alloc: Global, bytes: &[u8], cut: usize) -> Result<Image, ImageFault> 
     reader.finish()
 }
 
+/// Whether what is read of bytes in two pieces is the image that they spell.
+fn is_read_in_two(alloc: Global, bytes: &[u8], cut: usize) -> bool {
+    let read = in_two(alloc, bytes, cut);
+    is_image_of(alloc, bytes, &read)
+}
+
 #[test]
 fn empty_pieces_change_nothing(rt: HostRuntime) {
     for bytes in IMAGES {
         for cut in [1, bytes.len() / 2, bytes.len().saturating_sub(1)] {
-            let read = in_two(rt.alloc(), bytes, cut);
-            assert!(rt; is_image_of(rt.alloc(), bytes, &read));
+            assert!(rt; is_read_in_two(rt.alloc(), bytes, cut), "{cut}");
         }
     }
+}
+
+/// Whether the front of bytes is taken, and is short at its end; where a growth was refused, the answers say so.
+fn is_short(alloc: Global, front: &[u8]) -> bool {
+    let mut reader = ImageReader::new(alloc);
+    let fed = is_taken(reader.feed(front));
+    fed && matches!(
+        &reader.finish(),
+        Err(ImageFault::Short | ImageFault::Memory(_))
+    )
 }
 
 #[test]
 fn each_cut_is_short_at_the_end_alone(rt: HostRuntime) {
     for bytes in IMAGES {
         for count in 0..bytes.len() {
-            let mut reader = ImageReader::new(rt.alloc());
-            assert!(rt; is_taken(reader.feed(&bytes[..count])));
-            let end = reader.finish();
-            assert!(rt; matches!(&end, Err(ImageFault::Short | ImageFault::Memory(_))));
+            assert!(rt; is_short(rt.alloc(), &bytes[..count]), "{count}");
         }
     }
+}
+
+/// Whether a byte behind an image is told by both calls.
+fn is_trailing(alloc: Global, bytes: &[u8]) -> bool {
+    let mut reader = ImageReader::new(alloc);
+    let _ = reader.feed(bytes);
+    let fed = reader.feed(&[0]);
+    is_refused(reader, fed, ImageFault::Trailing)
 }
 
 #[test]
 fn a_further_byte_is_told_by_both_calls(rt: HostRuntime) {
     for bytes in IMAGES {
-        let mut reader = ImageReader::new(rt.alloc());
-        let _ = reader.feed(bytes);
-        let fed = reader.feed(&[0]);
-        assert!(rt; is_refused(reader, fed, ImageFault::Trailing));
+        assert!(rt; is_trailing(rt.alloc(), bytes));
     }
 }
 
 #[test]
 fn each_fault_is_told_at_the_end_of_its_field(rt: HostRuntime) {
-    for row in &rows() {
-        assert!(rt; is_told(rt.alloc(), &HELLO, row), "{row:?}");
-    }
-    for row in &rows_of_regions() {
-        assert!(rt; is_told(rt.alloc(), &REGIONS, row), "{row:?}");
-    }
-    for row in &rows_of_depths() {
-        assert!(rt; is_told(rt.alloc(), &DEEP, row), "{row:?}");
-    }
+    are_told(&rt, rt.alloc(), &HELLO, &rows());
+    are_told(&rt, rt.alloc(), &REGIONS, &rows_of_regions());
+    are_told(&rt, rt.alloc(), &DEEP, &rows_of_depths());
     let ninth_page = broken(27, 8, ImageFault::Limit, 63); // the last region passes 64 pages
     assert!(rt; is_told(rt.alloc(), &EIGHT, &ninth_page));
 }
@@ -269,8 +293,7 @@ fn is_greatest_read(alloc: Global, header: &[u8], size: usize) -> bool {
     let Ok(bytes) = greatest(alloc, header) else {
         return true;
     };
-    let read = in_pieces(alloc, bytes.as_slice(), size);
-    is_image_of(alloc, bytes.as_slice(), &read)
+    is_read_in_pieces(alloc, bytes.as_slice(), size)
 }
 
 /// Pieces of one byte cost no more time than their number, since what was read isn't read again.

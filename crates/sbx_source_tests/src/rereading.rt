@@ -45,7 +45,7 @@ static WORDS: [(u32, &str, u32); 23] = [
 fn goes_round<R: Abort>(rt: &R, alloc: Global, row: &(u32, &str, u32)) -> Result<(), Fail> {
     let (word, text, again) = *row;
     prints(rt, word, text);
-    let wanted = format!(in alloc; "{again:08X} ")?;
+    let wanted = format!(in alloc; "{again:08X}")?;
     gives(rt, alloc, text, &NAMELESS, wanted.as_str())?;
     gives(rt, alloc, text, &ELSEWHERE, wanted.as_str())
 }
@@ -116,7 +116,7 @@ static BARE: [(u32, &str); 3] = [
 /// A text of two tokens, of which the first is no mnemonic.
 fn is_bare<R: Abort>(rt: &R, alloc: Global, word: u32, text: &str) -> Result<(), Fail> {
     prints(rt, word, text);
-    gives(rt, alloc, text, &NAMELESS, "S1 ")?;
+    gives(rt, alloc, text, &NAMELESS, "S1")?;
     let found = tokens(alloc, text.as_bytes())?;
     assert!(rt; found.len() == 2, "{text}");
     Ok(())

@@ -1,5 +1,5 @@
 //! Sources that mean an image, and others.
-use super::{Case, HELLO, Reader, Told, Writer, is_answered};
+use super::{End, HELLO, Reader, Told, Writer, has_ends};
 use sbx_command::Job;
 use std::alloc::Global;
 
@@ -19,42 +19,28 @@ pub(super) const SOURCE: &[u8] = b".services exit,put
  ta 0
 ";
 
-/// A source, the calls that fail, and the status, the output and the line that its assembly has to end with.
-type End = (&'static [u8], [usize; 3], u8, &'static [u8], &'static [u8]);
-
-const ENDS: [End; 9] = [
-    (SOURCE, [0, 0, 0], 0, &HELLO, b""),
-    (SOURCE, [0, 1, 0], 0, &HELLO, b""),
-    (SOURCE, [1, 0, 0], 4, b"", b"file\n"),
-    (SOURCE, [0, 0, 1], 4, b"", b"output\n"),
-    (SOURCE, [0, 0, 2], 4, &HELLO, b"output\n"),
-    (b"", [0, 0, 1], 2, b"", b"line 1: A2\n"),
-    (b"x: nop", [0, 0, 0], 2, b"", b"line 1: A2\n"),
-    (b"\n\n add %o0\n $", [0, 0, 0], 2, b"", b"line 3: S2\n"),
-    (b" $\n add %o0\n", [0, 0, 0], 2, b"", b"line 1: X2\n"),
+/// Ends of the source's assembly.
+const ENDS: [End; 5] = [
+    ([0, 0, 0], 0, &HELLO, b""),
+    ([0, 1, 0], 0, &HELLO, b""),
+    ([1, 0, 0], 4, b"", b"file\n"),
+    ([0, 0, 1], 4, b"", b"output\n"),
+    ([0, 0, 2], 4, &HELLO, b"output\n"),
 ];
 
-/// Whether an assembly ends as it has to.
-fn is_assembled(alloc: Global, (file, fails, status, out, err): End) -> bool {
-    let case = Case {
-        job: &ASM,
-        file,
-        fails,
-        status,
-        out,
-        err,
-    };
-    is_answered(alloc, &case)
-}
+/// Sources that mean nothing, and the one end of each.
+const FAULTS: [(&[u8], [End; 1]); 4] = [
+    (b"", [([0, 0, 1], 2, b"", b"line 1: A2\n")]),
+    (b"x: nop", [([0, 0, 0], 2, b"", b"line 1: A2\n")]),
+    (b"\n\n add %o0\n $", [([0, 0, 0], 2, b"", b"line 3: S2\n")]),
+    (b" $\n add %o0\n", [([0, 0, 0], 2, b"", b"line 1: X2\n")]),
+];
 
 #[test]
 fn assembles(rt: HostRuntime) {
-    for end in ENDS {
-        let [file, input, output] = end.1;
-        assert!(rt;
-            is_assembled(rt.alloc(), end),
-            "at {file}, {input}, {output}"
-        );
+    has_ends(&rt, rt.alloc(), &ASM, SOURCE, &ENDS);
+    for (source, ends) in &FAULTS {
+        has_ends(&rt, rt.alloc(), &ASM, source, ends);
     }
 }
 

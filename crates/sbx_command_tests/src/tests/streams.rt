@@ -1,5 +1,5 @@
 //! Runs over streams: faults where the program reads and where it writes, an input that answers, and one without end.
-use super::{Case, RUN, Writer, is_answered};
+use super::{End, RUN, Writer, has_ends};
 use sbx_command::exit_status;
 use std::alloc::Global;
 use std::cell::Cell;
@@ -22,42 +22,23 @@ pub(super) const ECHO: [u8; 203] = [
     0x00, 0x00, 0x00, 0x00, 0x00, 0x00, 0x00, 0x00, 0x00, 0x00, 0x04,
 ];
 
-/// The calls at which the input and the output of an echo fail, and the status, the output and the line that it has to end with. The
-/// input are three bytes, one a call.
-type End = ([usize; 2], u8, &'static [u8], &'static [u8]);
-
-/// The first fault that a run meets is told, and what it put out until then stays.
+/// Ends of an echo, whose input are three bytes, one a call. The first fault that a run meets is told, and what it put out until then
+/// stays.
 const ENDS: [End; 9] = [
-    ([0, 0], 0, b"abc", b""),
-    ([1, 0], 4, b"", b"input\n"),
-    ([3, 0], 4, b"ab", b"input\n"),
-    ([4, 0], 4, b"abc", b"input\n"),
-    ([5, 0], 0, b"abc", b""),
-    ([2, 1], 4, b"", b"output\n"),
-    ([2, 2], 4, b"a", b"input\n"),
-    ([4, 3], 4, b"ab", b"output\n"),
-    ([0, 4], 4, b"abc", b"output\n"),
+    ([0, 0, 0], 0, b"abc", b""),
+    ([0, 1, 0], 4, b"", b"input\n"),
+    ([0, 3, 0], 4, b"ab", b"input\n"),
+    ([0, 4, 0], 4, b"abc", b"input\n"),
+    ([0, 5, 0], 0, b"abc", b""),
+    ([0, 2, 1], 4, b"", b"output\n"),
+    ([0, 2, 2], 4, b"a", b"input\n"),
+    ([0, 4, 3], 4, b"ab", b"output\n"),
+    ([0, 0, 4], 4, b"abc", b"output\n"),
 ];
-
-/// Whether an echo ends as it has to.
-fn is_echoed(alloc: Global, ([input, output], status, out, err): End) -> bool {
-    let case = Case {
-        job: &RUN,
-        file: &ECHO,
-        fails: [0, input, output],
-        status,
-        out,
-        err,
-    };
-    is_answered(alloc, &case)
-}
 
 #[test]
 fn echoes_up_to_a_fault(rt: HostRuntime) {
-    for end in ENDS {
-        let [input, output] = end.0;
-        assert!(rt; is_echoed(rt.alloc(), end), "at {input}, {output}");
-    }
+    has_ends(&rt, rt.alloc(), &RUN, &ECHO, &ENDS);
 }
 
 /// Gives `y` without end, a byte a call, but only where it has heard as many bytes as it gave.

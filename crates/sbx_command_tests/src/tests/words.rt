@@ -3,6 +3,7 @@ use super::sources::ASM;
 use super::{LIST, RUN, VERIFY};
 use sbx_words::{Job, Usage, Windows, read_words};
 use std::alloc::Global;
+use std::process::Abort;
 
 /// Whether a job is the wanted one; where none is wanted, it is not.
 fn is_wanted(found: &Job<'_>, job: Option<&Job<'_>>) -> bool {
@@ -74,93 +75,128 @@ fn is_trace_read(alloc: Global, line: &str, numbers: Option<(u32, u64)>) -> bool
     }
 }
 
-/// Lines and their jobs; none for a line that asks for nothing.
-const LINES: [(&str, Option<Job<'static>>); 22] = [
-    ("asm a.s a.img", Some(ASM)),
-    ("asm a.s", None),
-    ("asm", None),
-    ("asm a.s a.img b.img", None),
-    ("run a.img", Some(RUN)),
-    ("run", None),
-    ("verify a.img", Some(VERIFY)),
-    ("verify", None),
-    ("verify --limit 8 a.img", None),
-    ("list a.img", Some(LIST)),
-    ("list -- a.img", Some(LIST)),
-    ("list", None),
-    ("list a.img b.img", None),
-    ("list --windows 8 a.img", None),
-    ("list --help", None),
-    ("walk a.img", None),
-    ("help", None),
-    ("help list", None),
-    ("--help", None),
-    ("-h", None),
-    ("-V", None),
-    ("", None),
-];
+/// Lines and the names of their jobs; none for a line that asks for nothing.
+const LINES: &str = "asm a.s a.img = asm
+asm a.s = none
+asm = none
+asm a.s a.img b.img = none
+run a.img = run
+run = none
+verify a.img = verify
+verify = none
+verify --limit 8 a.img = none
+list a.img = list
+list -- a.img = list
+list = none
+list a.img b.img = none
+list --windows 8 a.img = none
+list --help = none
+walk a.img = none
+help = none
+help list = none
+--help = none
+-h = none
+-V = none
+ = none
+";
 
 /// Lines of `run` and their counts of windows; none for a line that asks for nothing.
-const RUNS: [(&str, Option<u32>); 16] = [
-    ("run a.img", Some(8)),
-    ("run --windows 32 a.img", Some(32)),
-    ("run --windows 4 a.img", Some(4)),
-    ("run --windows=5 a.img", Some(5)),
-    ("run a.img --windows 031", Some(31)),
-    ("run --windows 33 a.img", None),
-    ("run --windows 3 a.img", None),
-    ("run --windows 0 a.img", None),
-    ("run --windows 4294967300 a.img", None),
-    ("run --windows 18446744073709551624 a.img", None),
-    ("run --windows abc a.img", None),
-    ("run --windows +8 a.img", None),
-    ("run --windows= a.img", None),
-    ("run a.img --windows", None),
-    ("run --windows 8 --windows 8 a.img", None),
-    ("run --limit 8 a.img", None),
-];
+const RUNS: &str = "run a.img = 8
+run --windows 32 a.img = 32
+run --windows 4 a.img = 4
+run --windows=5 a.img = 5
+run a.img --windows 031 = 31
+run --windows 33 a.img = none
+run --windows 3 a.img = none
+run --windows 0 a.img = none
+run --windows 4294967300 a.img = none
+run --windows 18446744073709551624 a.img = none
+run --windows abc a.img = none
+run --windows +8 a.img = none
+run --windows= a.img = none
+run a.img --windows = none
+run --windows 8 --windows 8 a.img = none
+run --limit 8 a.img = none
+";
 
 /// Lines of `trace`, their counts of windows and their limits; none for a line that asks for nothing.
-const TRACES: [(&str, Option<(u32, u64)>); 20] = [
-    ("trace a.img", Some((8, 100_000))),
-    ("trace --limit 8 a.img", Some((8, 8))),
-    ("trace --limit=8 a.img", Some((8, 8))),
-    ("trace a.img --limit 008", Some((8, 8))),
-    ("trace --limit 0 a.img", Some((8, 0))),
-    ("trace --limit 9999999999 a.img", Some((8, 9_999_999_999))),
-    ("trace --windows 4 a.img", Some((4, 100_000))),
-    ("trace --windows 32 --limit 2 a.img", Some((32, 2))),
-    ("trace --limit 2 a.img --windows 31", Some((31, 2))),
-    ("trace --limit 10000000000 a.img", None),
-    ("trace --limit +8 a.img", None),
-    ("trace --limit -8 a.img", None),
-    ("trace --limit 0x8 a.img", None),
-    ("trace --limit= a.img", None),
-    ("trace --limit 8 --limit 8 a.img", None),
-    ("trace a.img --limit", None),
-    ("trace a.img b.img", None),
-    ("trace --limit 8", None),
-    ("trace --windows 33 a.img", None),
-    ("trace --windows 3 --limit 8 a.img", None),
-];
+const TRACES: &str = "trace a.img = 8 100000
+trace --limit 8 a.img = 8 8
+trace --limit=8 a.img = 8 8
+trace a.img --limit 008 = 8 8
+trace --limit 0 a.img = 8 0
+trace --limit 9999999999 a.img = 8 9999999999
+trace --windows 4 a.img = 4 100000
+trace --windows 32 --limit 2 a.img = 32 2
+trace --limit 2 a.img --windows 31 = 31 2
+trace --limit 10000000000 a.img = none
+trace --limit +8 a.img = none
+trace --limit -8 a.img = none
+trace --limit 0x8 a.img = none
+trace --limit= a.img = none
+trace --limit 8 --limit 8 a.img = none
+trace a.img --limit = none
+trace a.img b.img = none
+trace --limit 8 = none
+trace --windows 33 a.img = none
+trace --windows 3 --limit 8 a.img = none
+";
+
+/// The job of a name.
+fn job_named(name: &str) -> Option<Job<'static>> {
+    match name {
+        "asm" => Some(ASM),
+        "run" => Some(RUN),
+        "verify" => Some(VERIFY),
+        "list" => Some(LIST),
+        _ => None,
+    }
+}
+
+/// A count of windows and a limit.
+fn numbers_in(text: &str) -> Option<(u32, u64)> {
+    let (count, limit) = text.split_once(' ')?;
+    Some((count.parse().ok()?, limit.parse().ok()?))
+}
+
+/// What the rows of a table tell of their lines.
+#[derive(Clone, Copy)]
+enum Told {
+    Job,
+    Count,
+    Numbers,
+}
+
+/// Whether a row's line is read as the row tells.
+fn is_row_read(alloc: Global, told: Told, row: &str) -> bool {
+    let Some((line, wanted)) = row.split_once(" = ") else {
+        return false;
+    };
+    match told {
+        Told::Job => is_read(alloc, line, job_named(wanted).as_ref()),
+        Told::Count => is_run_read(alloc, line, wanted.parse().ok()),
+        Told::Numbers => is_trace_read(alloc, line, numbers_in(wanted)),
+    }
+}
+
+/// Each row of a table, a line each, is read so.
+fn are_read<R: Abort>(rt: &R, alloc: Global, told: Told, rows: &str) {
+    for row in rows.lines() {
+        assert!(rt; is_row_read(alloc, told, row), "at {row}");
+    }
+}
 
 #[test]
 fn reads_the_words(rt: HostRuntime) {
-    for (line, job) in &LINES {
-        assert!(rt; is_read(rt.alloc(), line, job.as_ref()), "at {line}");
-    }
+    are_read(&rt, rt.alloc(), Told::Job, LINES);
 }
 
 #[test]
 fn reads_a_count_of_windows(rt: HostRuntime) {
-    for (line, count) in RUNS {
-        assert!(rt; is_run_read(rt.alloc(), line, count), "at {line}");
-    }
+    are_read(&rt, rt.alloc(), Told::Count, RUNS);
 }
 
 #[test]
 fn reads_a_limit(rt: HostRuntime) {
-    for (line, numbers) in TRACES {
-        assert!(rt; is_trace_read(rt.alloc(), line, numbers), "at {line}");
-    }
+    are_read(&rt, rt.alloc(), Told::Numbers, TRACES);
 }
