@@ -1,5 +1,5 @@
 // Walks of page tables in RAM (appendix H, "Translation").
-ghost use Rattle.std.specs.Prelude.{◌≡◌, ℕ};
+ghost use Rattle.std.specs.Prelude.{◌≡◌, ◌<◌, ℕ};
 
 use std::process::Abort;
 use v8_mmu::laws::{
@@ -209,11 +209,16 @@ fn ram_of_path(rt: &impl Abort, words: [u32; 4]) -> Words<3072> {
     )
 }
 
+/// Whether the page of a path's address is found in RAM with its words.
+fn is_path_found(rt: &impl Abort, path: &Path) -> bool {
+    let bus = ram_of_path(rt, path.0);
+    is_found(&bus, path)
+}
+
 #[test]
 fn translates_at_each_level(rt: HostRuntime) {
     for path in &PATHS {
-        let bus = ram_of_path(&rt, path.0);
-        assert!(rt; is_found(&bus, path), "at level {}", path.3);
+        assert!(rt; is_path_found(&rt, path), "at level {}", path.3);
     }
 }
 
@@ -224,19 +229,24 @@ fn leads_to(bus: &Words<3072>, regs: &MmuRegs, va: u32, pa: u64) -> bool {
     }
 }
 
-#[test]
-fn wraps_table_addresses_at_36_bits(rt: HostRuntime) {
-    let bus = ram(&rt, &[(0, 0x1234_560e), (4, 0xffff_fffd)]);
+/// Whether a table's address past 36 bits wraps, and one within is as it is.
+fn wraps(bus: &Words<3072>) -> bool {
     let past = MmuRegs {
         table: 0xf_ffff_fffc,
         context: 1,
     };
-    assert!(rt; leads_to(&bus, &past, 0x1000_0000, 0x1_1000_0000));
     let named = MmuRegs {
         table: 4,
         context: 0,
     };
-    assert!(rt; leads_to(&bus, &named, 0x1000_0000, 0x1_2300_0000));
+    leads_to(bus, &past, 0x1000_0000, 0x1_1000_0000)
+        && leads_to(bus, &named, 0x1000_0000, 0x1_2300_0000)
+}
+
+#[test]
+fn wraps_table_addresses_at_36_bits(rt: HostRuntime) {
+    let bus = ram(&rt, &[(0, 0x1234_560e), (4, 0xffff_fffd)]);
+    assert!(rt; wraps(&bus));
 }
 
 /// Whether a walk is refused with this fault.
@@ -307,12 +317,17 @@ fn is_refused(bus: &Words<3072>, row: &Refused) -> bool {
     refuses_walk(bus, row.1, fault) && refuses_page(bus, row.1, fault)
 }
 
+/// The same in RAM with its words.
+fn is_row_refused(rt: &impl Abort, row: &Refused) -> bool {
+    let bus = ram(rt, &row.0);
+    is_refused(&bus, row)
+}
+
 #[test]
 fn refuses_where_the_path_ends(rt: HostRuntime) {
     for row in &REFUSED {
-        let bus = ram(&rt, &row.0);
         assert!(rt;
-            is_refused(&bus, row),
+            is_row_refused(&rt, row),
             "{} at {} of {}",
             row.2,
             row.3,
@@ -364,15 +379,19 @@ fn is_answered(bus: &Words<3072>, user: bool, kind: AccessKind, ft: u8) -> bool 
     answers(bus, Access { user, kind }, ft, at)
 }
 
+/// Whether pages of this access field allow what its row says.
+fn allows_its_row(rt: &impl Abort, acc: u32) -> bool
+    requires { acc < 8 }
+{
+    let bus = ram(rt, &[(0x2000, acc * 4 + 2)]);
+    let (user, supervisor) = FAULT_TYPES[acc as usize];
+    allows(&bus, true, user) && allows(&bus, false, supervisor)
+}
+
 #[test]
 fn allows_what_the_access_field_says(rt: HostRuntime) {
     for acc in 0..8u32 {
-        let bus = ram(&rt, &[(0x2000, acc * 4 + 2)]);
-        let (user, supervisor) = FAULT_TYPES[acc as usize];
-        assert!(rt;
-            allows(&bus, true, user) && allows(&bus, false, supervisor),
-            "{acc}"
-        );
+        assert!(rt; allows_its_row(&rt, acc), "{acc}");
     }
 }
 
@@ -408,11 +427,17 @@ const MARKS: [(u32, bool, u32); 3] = [
     (0x5066, false, 0x5066),
 ];
 
+/// Whether both ways mark the entry of a row.
+fn marks_its_entry(rt: &impl Abort, row: &(u32, bool, u32)) -> bool {
+    let (word, store, marked) = *row;
+    let mut bus = ram(rt, &[(0x2a00, word)]);
+    marks(&mut bus, word, store, marked)
+}
+
 #[test]
 fn marks_and_takes_marks_away(rt: HostRuntime) {
-    for &(word, store, marked) in &MARKS {
-        let mut bus = ram(&rt, &[(0x2a00, word)]);
-        assert!(rt; marks(&mut bus, word, store, marked), "{word:x}");
+    for row in &MARKS {
+        assert!(rt; marks_its_entry(&rt, row), "{:x}", row.0);
     }
 }
 
