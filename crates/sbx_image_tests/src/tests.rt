@@ -617,11 +617,16 @@ fn is_small_told(alloc: Global, row: &Small) -> bool {
     is_made_told(alloc, &made)
 }
 
+/// Asserts that each row of `SMALL` is.
+fn are_functions_told(rt: &impl Abort, alloc: Global, rows: &[Small]) {
+    for number in 0..rows.len() {
+        assert!(rt; is_small_told(alloc, &rows[number]), "{number}");
+    }
+}
+
 #[test]
 fn parts_of_functions(rt: HostRuntime) {
-    for number in 0..SMALL.len() {
-        assert!(rt; is_small_told(rt.alloc(), &SMALL[number]), "{number}");
-    }
+    are_functions_told(&rt, rt.alloc(), &SMALL);
 }
 
 /// Whether the data are one region of these bytes that may be written.
@@ -743,7 +748,7 @@ static DATA: [Data; 33] = [
 ];
 
 /// Whether the parts of a row of `DATA` get its fault.
-fn are_data_told(alloc: Global, row: &Data) -> bool {
+fn is_data_told(alloc: Global, row: &Data) -> bool {
     let (version, services, sizes, wanted) = *row;
     let made = Made {
         version,
@@ -755,11 +760,16 @@ fn are_data_told(alloc: Global, row: &Data) -> bool {
     is_made_told(alloc, &made)
 }
 
+/// Asserts that each row of `DATA` is.
+fn are_data_told(rt: &impl Abort, alloc: Global, rows: &[Data]) {
+    for number in 0..rows.len() {
+        assert!(rt; is_data_told(alloc, &rows[number]), "{number}");
+    }
+}
+
 #[test]
 fn parts_of_data(rt: HostRuntime) {
-    for number in 0..DATA.len() {
-        assert!(rt; are_data_told(rt.alloc(), &DATA[number]), "{number}");
-    }
+    are_data_told(&rt, rt.alloc(), &DATA);
 }
 
 /// Sizes of regions, and the addresses where they begin: the first with the data, each next one behind the last page before it.
@@ -792,11 +802,16 @@ fn are_begun(alloc: Global, row: &Start) -> bool {
     is_made_told(alloc, &made)
 }
 
+/// Asserts that each row of `STARTS` is.
+fn are_starts_told(rt: &impl Abort, alloc: Global, rows: &[Start]) {
+    for number in 0..rows.len() {
+        assert!(rt; are_begun(alloc, &rows[number]), "{number}");
+    }
+}
+
 #[test]
 fn regions_begin_with_pages(rt: HostRuntime) {
-    for number in 0..STARTS.len() {
-        assert!(rt; are_begun(rt.alloc(), &STARTS[number]), "{number}");
-    }
+    are_starts_told(&rt, rt.alloc(), &STARTS);
 }
 
 /// Two regions of 8 bytes, of which the first may be read alone.
@@ -956,9 +971,14 @@ fn is_depth_told(alloc: Global, row: &Depth) -> bool {
     is_made_told(alloc, &made)
 }
 
+/// Asserts that each row of `DEPTHS` is.
+fn are_depths_told(rt: &impl Abort, alloc: Global, rows: &[Depth]) {
+    for number in 0..rows.len() {
+        assert!(rt; is_depth_told(alloc, &rows[number]), "{number}");
+    }
+}
+
 #[test]
 fn parts_of_depths(rt: HostRuntime) {
-    for number in 0..DEPTHS.len() {
-        assert!(rt; is_depth_told(rt.alloc(), &DEPTHS[number]), "{number}");
-    }
+    are_depths_told(&rt, rt.alloc(), &DEPTHS);
 }
