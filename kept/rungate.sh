@@ -1,0 +1,2 @@
+cd /work/trees/gate
+time python3 tests/gate-cost
