@@ -1,2 +1,0 @@
-cd /work/trees/gate
-time python3 tests/gate-cost
