@@ -11,9 +11,9 @@ use Rattle.sbx_directives.specs.declared.directive.Width.{Width}
 use Rattle.sbx_directives.specs.declared.directive.Width.TheVariants as widths
 use Rattle.sbx_directives.specs.declared.fault.DataFault.{DataFault}
 use Rattle.sbx_directives.specs.declared.operand.Operand.{Operand}
-use Rattle.sbx_directives.specs.Operands.{operands_of}
-use Rattle.sbx_directives.specs.Directives.{value_count}
-use Rattle.sbx_directives.specs.Data.{of_bits, spelled, value_of, is_known, is_fit, bytes_of, listed, data_of}
+use Rattle.sbx_directives.specs.Directives.{operands_of, value_count}
+use Rattle.v8_syntax.specs.Statements.{of_bits}
+use Rattle.sbx_directives.specs.Data.{spelled, value_of, is_known, is_fit, bytes_of, listed, data_of}
 use Rattle.sbx_asm.proofs.Wholes.{flat_all}
 
 abbrev pub Bytes : List ℕ → Type 0

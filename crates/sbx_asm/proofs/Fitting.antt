@@ -17,7 +17,7 @@ use Rattle.sbx_image.specs.Spelling.{IsTyped, IsTypedRange, IsTypedCell, IsTyped
 use Rattle.sbx_directives.specs.declared.directive.Directive.TheVariants as directives
 use Rattle.sbx_directives.specs.declared.directive.Statement.TheVariants as statements
 use Rattle.sbx_directives.specs.declared.fault.DataFault.{DataFault}
-use Rattle.sbx_directives.specs.Lines.{label_count}
+use Rattle.sbx_directives.specs.Directives.{label_count}
 use Rattle.sbx_directives.specs.Data.{data_of}
 use Rattle.sbx_asm.specs.Items.{Item, Said, read_line, item_of, all_lines, items_of, each, up_to, is_region, ends_function, ends_block, services, params, results, depths, fuels, cells, terms, has, first_or}
 use Rattle.sbx_asm.specs.Addresses.{padding_of, code_address, data_offset, values_of}

@@ -15,8 +15,7 @@ use Rattle.sbx_image.specs.ImageFault.{ImageFault}
 use Rattle.sbx_image.specs.Parts.{Parts}
 use Rattle.sbx_image.specs.Rules.{parts_keep}
 use Rattle.sbx_directives.specs.declared.directive.Statement.TheVariants as statements
-use Rattle.sbx_directives.specs.Lines.{labels_first}
-use Rattle.sbx_directives.specs.Directives.{statement_of}
+use Rattle.sbx_directives.specs.Directives.{labels_first, statement_of}
 use Rattle.sbx_asm.specs.declared.fault.AsmFault.{AsmFault}
 use Rattle.sbx_asm.specs.Faults.{at, told, is_earlier}
 use Rattle.sbx_asm.specs.Items.{Item, label_names, read_line, items_of, each, behind}

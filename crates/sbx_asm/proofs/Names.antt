@@ -2,7 +2,7 @@
 use Rattle.std.proofs.Common.{◌≡◌, ℕ, suc, ◌-◌, ◌+◌, ◌≤◌, ◌<◌, List, [], ◌∷◌, drop, refl, sym, ap, ◌∙◌, arith}
 use Rattle.std.specs.List.{fold}
 use Rattle.sbx_text.specs.declared.Token.{Token}
-use Rattle.v8_syntax.specs.Words.{bytes_between}
+use Rattle.v8_syntax.specs.Statements.{bytes_between}
 use Rattle.sbx_asm.specs.Items.{label_names}
 
 module _ {S : Type 0} (f : S → List ℕ → S) (line : List ℕ) (count i : ℕ) (s : S) (total : S) where

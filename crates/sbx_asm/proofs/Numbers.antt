@@ -9,7 +9,7 @@ use Rattle.std.proofs.lemmas.Int.{ints}
 use Rattle.sbx_text.specs.declared.Token.{Token}
 use Rattle.v8_syntax.specs.declared.word.Word.{Word}
 use Rattle.v8_syntax.specs.declared.word.Word.TheVariants as words
-use Rattle.v8_syntax.specs.Words.{word_of}
+use Rattle.v8_syntax.specs.Statements.{word_of}
 use Rattle.sbx_image.specs.Services.{Services}
 use Rattle.sbx_image.specs.Rules.{is_coefficient}
 use Rattle.sbx_image.specs.Spelling.{IsTypedRange, IsTypedCell, IsTypedTerm}
@@ -21,8 +21,7 @@ use Rattle.sbx_directives.specs.declared.directive.Statement.{Statement}
 use Rattle.sbx_directives.specs.declared.directive.Statement.TheVariants as statements
 use Rattle.sbx_directives.specs.declared.operand.Operand.{Operand}
 use Rattle.sbx_directives.specs.declared.operand.Operand.TheVariants as operands
-use Rattle.sbx_directives.specs.Operands.{◌>>=◌, operands_of, is_between, integer_in, natural_in, range_of, coefficient, plain_name, location}
-use Rattle.sbx_directives.specs.Directives.{names, named_services, is_service, services_of, frames_of, right_of, value_count, directive_of, called, told, keyword_named, begun, statement_of}
+use Rattle.sbx_directives.specs.Directives.{◌>>=◌, operands_of, is_between, integer_in, natural_in, range_of, coefficient, plain_name, location, names, named_services, is_service, services_of, frames_of, right_of, value_count, directive_of, called, told, keyword_named, begun, statement_of}
 use Rattle.sbx_asm.specs.Items.{Said}
 use Rattle.sbx_asm.proofs.Wholes.{whatever}
 

@@ -1,5 +1,5 @@
 -- The instructions of a statement are spelled as words below 2 ^ 32.
-use Rattle.std.proofs.Common.{ℕ, ◌+◌, ◌%◌, ◌^◌, ◌<◌, ◌≤◌, Bool, not, eqb, ltb, leb, List, [], ◌∷◌, map, Option, None, Some, IfSome, Result, Ok, Err, IfOk, arith}
+use Rattle.std.proofs.Common.{ℕ, ◌+◌, ◌%◌, ◌^◌, ◌<◌, ◌≤◌, Bool, cond, not, eqb, ltb, leb, List, [], ◌∷◌, map, Option, None, Some, IfSome, Result, Ok, Err, IfOk, arith}
 use Rattle.std.specs.Prelude.{◌&&◌, ◌||◌, codes, take, drop}
 use Rattle.std.specs.Option.{option_map, option_or, unwrap_or}
 use Rattle.std.specs.Str.{bytes_eq}
@@ -23,9 +23,7 @@ use Rattle.v8_syntax.specs.declared.word.Word.TheVariants as words
 use Rattle.v8_syntax.specs.declared.word.NameKind.{NameKind}
 use Rattle.v8_syntax.specs.declared.expression.Base.TheVariants as bases
 use Rattle.v8_syntax.specs.declared.expression.Expression.{Expression}
-use Rattle.v8_syntax.specs.Words.{either, beside, groups, small_number, grouped, register_named, specials, word_at, word_of, words_of, bytes_between}
-use Rattle.v8_syntax.specs.Operands.{◌>>=◌, Reading, after_sign, after, number_first, register_first, end, plain, less, moved, named_expression, expression, word_in, operands_of}
-use Rattle.v8_syntax.specs.Statements.{sethi, or, set_instructions, is_symbolic, set_operands, set, named, of_condition, first_of, named_meaning, statement, source_meaning}
+use Rattle.v8_syntax.specs.Statements.{either, beside, groups, small_number, register_named, specials, word_at, word_of, words_of, bytes_between, ◌>>=◌, Reading, after_sign, after, number_first, register_first, end, plain, less, moved, named_expression, expression, word_in, operands_of, sethi, or, set_instructions, is_symbolic, set_operands, set, named, of_condition, first_of, named_meaning, name_first, source_meaning}
 use Rattle.sbx_asm.proofs.Wholes.{whatever}
 
 abbrev IsWord : ℕ → Type 0
@@ -68,7 +66,7 @@ beside_all P name (row ∷ rows) h = cond_both (bytes_eq name row.0) (Some row) 
 abbrev IsGroup : ℕ × ℕ → Type 0
 IsGroup group = group.0 + group.1 ≤ 32
 
-grouped_small : (group : ℕ × ℕ) (n : ℕ) → IsGroup group → Named (grouped group n)
+grouped_small : (group : ℕ × ℕ) (n : ℕ) → IsGroup group → Named (cond (ltb n group.1) (Some (group.0 + n)) None)
 grouped_small group n h = cond_both (ltb n group.1) (Some (group.0 + n)) None Named (λ e. let lt = ltb-true n group.1 e in omega arith) (λ _. tt)
 
 abbrev pointers : List (List ℕ × ℕ)
@@ -217,7 +215,7 @@ module _ (values : List ℕ → Option ℕ) (line : List ℕ) where
         cond_both (bytes_eq name (codes "set")) (set values line ws) _ Means (λ _. set_means ws h)
         (λ _. step_all IsWord AreSpelled (first_of values here line UnknownMnemonic forms name ws) _ (first_word UnknownMnemonic forms name ws) (λ w k. meaning_spelled w k))
 
-    statement_means : (ws : List Word) → AreSmall ws → Means (statement values here line ws)
+    statement_means : (ws : List Word) → AreSmall ws → Means (either (name_first line ws) (λ x. named_meaning values here line x.0 x.1) (Err UnknownMnemonic))
     statement_means (words.Name kind i j ∷ ws) h = named_means (bytes_between line i j) ws h.1
     statement_means _ h = tt
 

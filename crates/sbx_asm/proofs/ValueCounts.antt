@@ -10,7 +10,7 @@ use Rattle.sbx_text.specs.declared.fault.TextFault.{TextFault}
 use Rattle.sbx_text.specs.Tokens.{tokens_of}
 use Rattle.v8_syntax.specs.declared.word.Word.{Word}
 use Rattle.v8_syntax.specs.declared.word.Word.TheVariants as words
-use Rattle.v8_syntax.specs.Words.{word_of}
+use Rattle.v8_syntax.specs.Statements.{word_of}
 use Rattle.sbx_directives.specs.declared.directive.Width.{Width}
 use Rattle.sbx_directives.specs.declared.directive.Width.TheVariants as widths
 use Rattle.sbx_directives.specs.declared.directive.Keyword.{Keyword}
@@ -20,9 +20,7 @@ use Rattle.sbx_directives.specs.declared.directive.Directive.TheVariants as dire
 use Rattle.sbx_directives.specs.declared.directive.Statement.TheVariants as statements
 use Rattle.sbx_directives.specs.declared.fault.DataFault.TheVariants as data_faults
 use Rattle.sbx_directives.specs.declared.operand.Operand.{Operand}
-use Rattle.sbx_directives.specs.Lines.{label_count}
-use Rattle.sbx_directives.specs.Operands.{◌>>=◌, operands_of, integer_in, natural_in, range_of, coefficient, plain_name, location}
-use Rattle.sbx_directives.specs.Directives.{is_expression, services_of, frames_of, right_of, value_count, directive_of, called, told, keyword_named, begun, statement_of}
+use Rattle.sbx_directives.specs.Directives.{label_count, ◌>>=◌, operands_of, integer_in, natural_in, range_of, coefficient, plain_name, location, is_expression, services_of, frames_of, right_of, value_count, directive_of, called, told, keyword_named, begun, statement_of}
 use Rattle.sbx_directives.specs.Data.{bytes_of_width, fits, spelled, value_of, is_known, is_fit, bytes_of, listed, data_of}
 use Rattle.sbx_asm.specs.Items.{Item, Said, read_line, item_of, items_of, all_lines}
 use Rattle.sbx_asm.specs.Rules.{Values, value_rules}

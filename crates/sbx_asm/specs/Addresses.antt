@@ -6,7 +6,7 @@ use Rattle.v8_syntax.specs.Statements.{statement_length}
 use Rattle.sbx_image.specs.Regions.{pages_for}
 use Rattle.sbx_directives.specs.declared.directive.Directive.TheVariants as directives
 use Rattle.sbx_directives.specs.declared.directive.Statement.TheVariants as statements
-use Rattle.sbx_directives.specs.Lines.{text_of}
+use Rattle.sbx_directives.specs.Directives.{text_of}
 use Rattle.sbx_directives.specs.Data.{bytes_of_width}
 use Rattle.sbx_asm.specs.declared.place.Section.{Section}
 use Rattle.sbx_asm.specs.declared.place.Section.TheVariants.{Code, Data}

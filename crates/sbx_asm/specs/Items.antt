@@ -3,7 +3,7 @@ use Rattle.std.specs.Prelude.{ℕ, zero, suc, ◌+◌, ◌*◌, Bool, true, fals
 use Rattle.sbx_text.specs.declared.Token.{Token}
 use Rattle.sbx_text.specs.declared.fault.TextFault.{TextFault}
 use Rattle.sbx_text.specs.Tokens.{tokens_of}
-use Rattle.v8_syntax.specs.Words.{bytes_between}
+use Rattle.v8_syntax.specs.Statements.{bytes_between}
 use Rattle.sbx_image.specs.Range.{Range}
 use Rattle.sbx_image.specs.Cell.{Cell}
 use Rattle.sbx_image.specs.Services.{Services}
@@ -12,8 +12,7 @@ use Rattle.sbx_directives.specs.declared.directive.Keyword.TheVariants as keywor
 use Rattle.sbx_directives.specs.declared.directive.Directive.TheVariants as directives
 use Rattle.sbx_directives.specs.declared.directive.Statement.{Statement}
 use Rattle.sbx_directives.specs.declared.directive.Statement.TheVariants as statements
-use Rattle.sbx_directives.specs.Lines.{label_count}
-use Rattle.sbx_directives.specs.Directives.{statement_of}
+use Rattle.sbx_directives.specs.Directives.{label_count, statement_of}
 use Rattle.sbx_asm.specs.Lines.{lines_of}
 
 -- what stands behind the labels of a line, or why the line has no tokens

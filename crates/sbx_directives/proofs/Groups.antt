@@ -4,9 +4,9 @@ use Rattle.std.specs.Prelude.{not}
 use Rattle.std.specs.List.{prefix_len, slice_split}
 use Rattle.sbx_text.specs.declared.Token.{Token}
 use Rattle.v8_syntax.specs.declared.word.Word.{Word}
-use Rattle.v8_syntax.specs.Words.{word_of, words_of}
+use Rattle.v8_syntax.specs.Statements.{word_of, words_of}
 use Rattle.sbx_directives.specs.declared.operand.Operand.{Operand}
-use Rattle.sbx_directives.specs.Operands.{is_comma, operand_of, behind}
+use Rattle.sbx_directives.specs.Directives.{is_comma, operand_of, behind}
 
 -- the groups behind a first token
 abbrev behind_groups : List ℕ → List Token → List (List Word)

@@ -1,3 +1,5 @@
+pub mod Labels
+pub mod Dots
 pub mod Groups
 pub mod Counts
 pub mod Appending

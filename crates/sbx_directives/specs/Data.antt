@@ -1,9 +1,10 @@
 -- The values of a data directive as bytes.
-use Rattle.std.specs.Prelude.{◌≡◌, ◌≢◌, ℕ, ◌-◌, Bool, false, not, if◌then◌else◌, ℤ, pos, negsuc, ◌+ℤ◌, neg_ℤ, List, [], ◌++◌, drop, Option, Some, None, Result, Ok, Err, MatchResult}
+use Rattle.std.specs.Prelude.{◌≡◌, ◌≢◌, ℕ, Bool, false, not, if◌then◌else◌, ℤ, pos, negsuc, ◌+ℤ◌, neg_ℤ, List, [], ◌++◌, drop, Option, Some, None, Result, Ok, Err, MatchResult}
 use Rattle.std.specs.List.{flat_map, list_all}
 use Rattle.std.specs.Int.{w8, w16, w32, to_be_bytes}
 use Rattle.std.specs.Option.{is_some, is_none, option_map, option_map_or}
 use Rattle.sbx_text.specs.declared.Token.{Token}
+use Rattle.v8_syntax.specs.Statements.{of_bits}
 use Rattle.sbx_directives.specs.declared.directive.Width.{Width}
 use Rattle.sbx_directives.specs.declared.directive.Width.TheVariants as widths
 use Rattle.sbx_directives.specs.declared.fault.DataFault.{DataFault}
@@ -11,9 +12,7 @@ use Rattle.sbx_directives.specs.declared.fault.DataFault.TheVariants.{UnknownSym
 use Rattle.want.specs.Wants.{refused}
 use Rattle.sbx_directives.specs.declared.operand.Operand.{Operand}
 use Rattle.sbx_directives.specs.declared.operand.Operand.TheVariants as operands
-use Rattle.sbx_directives.specs.Lines.{text_of}
-use Rattle.sbx_directives.specs.Operands.{operands_of, is_between}
-use Rattle.sbx_directives.specs.Directives.{value_count}
+use Rattle.sbx_directives.specs.Directives.{text_of, operands_of, is_between, value_count}
 
 abbrev pub bytes_of_width : Width → ℕ
 bytes_of_width widths.Byte = 1
@@ -25,11 +24,6 @@ abbrev pub fits : Width → ℤ → Bool
 fits widths.Byte z = is_between (negsuc 127) (pos 255) z
 fits widths.Half z = is_between (negsuc 32767) (pos 65535) z
 fits widths.Word z = is_between (negsuc 2147483647) (pos 4294967295) z
-
--- a number as n bits, a negative one plus 2^n
-abbrev pub of_bits : ℕ → ℤ → ℕ
-of_bits room (pos n) = n
-of_bits room (negsuc n) = room - 1 - n
 
 -- the most significant byte first
 abbrev pub spelled : Width → ℤ → List ℕ

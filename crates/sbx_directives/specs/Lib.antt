@@ -1,4 +1,2 @@
-pub mod Lines
-pub mod Operands
 pub mod Directives
 pub mod Data

@@ -1,6 +1,6 @@
 // What a line asks for behind its labels.
 ghost use Rattle.std.specs.Prelude.{◌≡◌};
-ghost use Rattle.sbx_directives.specs.Lines.{text_of};
+ghost use Rattle.sbx_directives.specs.Directives.{text_of};
 
 use sbx_image::{Cell, Kind, Range, Services, Term};
 use v8_syntax::bytes_between;

@@ -1,12 +1,10 @@
 // The names of directives and annotations.
 ghost use Rattle.std.specs.Prelude.{◌≡◌, ℕ, List, map};
-ghost use Rattle.std.specs.Str.{bytes_eq};
-ghost use Rattle.std.specs.List.{find};
-ghost use Rattle.std.specs.Option.{option_map};
+ghost use Rattle.v8_syntax.specs.Statements.{beside};
 ghost use Rattle.sbx_directives.specs.Directives.{keyword_named};
 
 use crate::directive::Keyword;
-use v8_syntax::is_same;
+use v8_syntax::{is_same, sign_byte};
 
 static KEYWORDS: [(&str, Keyword); 18] = [
     (".text", Keyword::Text),
@@ -31,20 +29,23 @@ static KEYWORDS: [(&str, Keyword); 18] = [
 
 /// The keyword of the first of some names that is the one.
 fn first_named(keywords: &[(&str, Keyword)], name: &[u8]) -> Option<Keyword>
-    ensures { result ≡ option_map (λ x. x.1) (find (λ (x : List ℕ × Keyword). bytes_eq x.0 name.now) (map (λ x. (x.0.now, x.1)) keywords.now)) }
+    ensures { result ≡ beside name.now (map (λ x. (x.0.now, x.1)) keywords.now) }
 {
     for (text, keyword) in keywords {
-        if is_same(text.as_bytes(), name) {
+        if is_same(name, text.as_bytes()) {
             return Some(*keyword);
         }
     }
     None
 }
 
-/// The keyword of a name.
+/// The keyword of a name. All begin with a dot, and most names do not.
 #[tactic(auto, unfolding(crate::specs::Directives::keyword_named, crate::specs::Directives::named_keywords))]
 pub fn keyword_named(name: &[u8]) -> Option<Keyword>
     ensures { result ≡ keyword_named name.now }
 {
+    if sign_byte(name) != b'.' {
+        return None;
+    }
     first_named(&KEYWORDS, name)
 }

@@ -1,6 +1,6 @@
 // Numbers, ranges and locations among the operands of a directive.
 ghost use Rattle.std.specs.Prelude.{◌≡◌, ◌≤◌, ◌+◌, ℕ, pos, negsuc, ◌≤ℤ◌, IfSome};
-ghost use Rattle.sbx_directives.specs.Operands.{integer_in, natural_in, range_of, coefficient, plain_name, slot, location, behind};
+ghost use Rattle.sbx_directives.specs.Directives.{integer_in, natural_in, range_of, coefficient, plain_name, slot, location, behind};
 
 use crate::directive::{Name, text_of};
 use crate::operand::{Operand, next_operand, none};
@@ -9,7 +9,7 @@ use sbx_text::Token;
 use v8_syntax::is_same;
 
 /// A number from `low` to `high`.
-#[tactic(auto, unfolding(crate::specs::Operands::integer_in))]
+#[tactic(auto, unfolding(crate::specs::Directives::integer_in))]
 pub fn integer_in(low: i64, high: i64, operand: Operand) -> Option<i64>
     ensures value { result ≡ integer_in low high operand }
     ensures least { IfSome result (λ z. low ≤ℤ z) }
@@ -28,7 +28,7 @@ pub fn integer_in(low: i64, high: i64, operand: Operand) -> Option<i64>
 }
 
 /// A number that is not negative, from `low` to `high`.
-#[tactic(auto, unfolding(crate::specs::Operands::natural_in))]
+#[tactic(auto, unfolding(crate::specs::Directives::natural_in))]
 pub fn natural_in(low: u64, high: u64, operand: Operand) -> Option<u64>
     ensures value { result ≡ natural_in low high operand }
     ensures greatest { IfSome result (λ n. n ≤ high) }
@@ -54,7 +54,7 @@ pub fn signed_word(operand: Operand) -> Option<i32>
 }
 
 /// `LO,HI,AL` behind a first token, `LO` at most `HI`.
-#[tactic(auto, unfolding(crate::specs::Operands::range_of))]
+#[tactic(auto, unfolding(crate::specs::Directives::range_of))]
 pub fn range_of(line: &[u8], tokens: &[Token]) -> Option<Range>
     ensures { result ≡ range_of (behind line.now tokens.now) }
 {
@@ -112,7 +112,7 @@ fn slot(name: &[u8], number: u64) -> Option<u16>
 }
 
 /// A register but %g0, or a frame word.
-#[tactic(auto, unfolding(crate::specs::Operands::location))]
+#[tactic(auto, unfolding(crate::specs::Directives::location))]
 pub fn location(line: &[u8], operand: Operand) -> Option<u16>
     ensures { result ≡ location line.now operand }
 {

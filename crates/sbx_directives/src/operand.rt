@@ -1,8 +1,8 @@
 // What stands between the commas of a directive.
 ghost use Rattle.std.specs.Prelude.{◌≡◌, ◌≢◌, ℕ, ◌<◌, ◌≤◌, MatchOption, IfSome, not, List, [], ◌∷◌, length, drop};
 ghost use Rattle.std.specs.List.{prefix_len};
-ghost use Rattle.v8_syntax.specs.Words.{word_of, words_of};
-ghost use Rattle.sbx_directives.specs.Operands.{operand_of, is_comma, behind, operands_of};
+ghost use Rattle.v8_syntax.specs.Statements.{word_of, words_of};
+ghost use Rattle.sbx_directives.specs.Directives.{operand_of, is_comma, behind, operands_of};
 
 use crate::directive::Name;
 use sbx_text::Token;
@@ -25,7 +25,7 @@ pub enum Operand {
     Other,
 }
 
-#[tactic(auto, unfolding(crate::specs::Operands::operand_of))]
+#[tactic(auto, unfolding(crate::specs::Directives::operand_of))]
 fn of_one(word: Word) -> Operand
     ensures { result ≡ operand_of (word ∷ []) }
 {
@@ -37,7 +37,7 @@ fn of_one(word: Word) -> Operand
     }
 }
 
-#[tactic(auto, unfolding(crate::specs::Operands::operand_of))]
+#[tactic(auto, unfolding(crate::specs::Directives::operand_of))]
 fn of_two(first: Word, second: Word) -> Operand
     ensures { result ≡ operand_of (first ∷ second ∷ []) }
 {
@@ -50,7 +50,7 @@ fn of_two(first: Word, second: Word) -> Operand
     }
 }
 
-#[tactic(auto, unfolding(crate::specs::Operands::operand_of))]
+#[tactic(auto, unfolding(crate::specs::Directives::operand_of))]
 fn of_three(first: Word, second: Word, third: Word) -> Operand
     ensures { result ≡ operand_of (first ∷ second ∷ third ∷ []) }
 {
@@ -66,7 +66,7 @@ fn of_three(first: Word, second: Word, third: Word) -> Operand
 }
 
 /// The operand that some tokens are.
-#[tactic(auto, unfolding(crate::specs::Operands::operand_of))]
+#[tactic(auto, unfolding(crate::specs::Directives::operand_of))]
 fn operand_of(line: &[u8], tokens: &[Token]) -> Operand
     ensures { result ≡ operand_of (words_of line.now tokens.now) }
 {

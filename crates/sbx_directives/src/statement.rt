@@ -1,9 +1,10 @@
 // What stands behind the labels of a line.
-ghost use Rattle.std.specs.Prelude.{◌≡◌, ◌≤◌, if◌then◌else◌, pos, negsuc};
+ghost use Rattle.std.specs.Prelude.{◌≡◌, ◌≤◌, if◌then◌else◌, pos, negsuc, codes, false, true, [], ◌∷◌};
+ghost use Rattle.sbx_image.specs.Kind.TheVariants.{Leaf, Framed};
+ghost use Rattle.v8_syntax.specs.Statements.{beside};
 ghost use Rattle.std.specs.List.{list_any, list_all};
 ghost use Rattle.sbx_directives.specs.declared.directive.Keyword.TheVariants as keywords;
-ghost use Rattle.sbx_directives.specs.Operands.{integer_in, behind};
-ghost use Rattle.sbx_directives.specs.Directives.{names, frames_of, right_of, is_service, named_services, services_of, is_expression, value_count, directive_of, called, told, statement_of};
+ghost use Rattle.sbx_directives.specs.Directives.{integer_in, behind, names, frames_of, right_of, is_service, named_services, services_of, is_expression, value_count, directive_of, called, told, statement_of};
 
 use crate::directive::{Directive, Keyword, Name, Statement, Width, text_of};
 use crate::keyword::keyword_named;
@@ -23,13 +24,31 @@ fn names(wanted: &[u8], line: &[u8], operand: &Operand) -> bool
     }
 }
 
+fn kind_named(name: &[u8]) -> Option<Kind>
+    ensures { result ≡ beside name.now ((codes "leaf", Leaf) ∷ (codes "framed", Framed) ∷ []) }
+{
+    if is_same(name, b"leaf") {
+        Some(Kind::Leaf)
+    } else if is_same(name, b"framed") {
+        Some(Kind::Framed)
+    } else {
+        None
+    }
+}
+
 fn frames_of(line: &[u8], operand: Operand) -> Option<Kind>
     ensures { result ≡ frames_of line.now operand }
 {
-    if names(b"leaf", line, &operand) {
-        Some(Kind::Leaf)
-    } else if names(b"framed", line, &operand) {
-        Some(Kind::Framed)
+    kind_named(text_of(line, plain_name(operand)?))
+}
+
+fn right_named(name: &[u8]) -> Option<bool>
+    ensures { result ≡ beside name.now ((codes "ro", false) ∷ (codes "rw", true) ∷ []) }
+{
+    if is_same(name, b"ro") {
+        Some(false)
+    } else if is_same(name, b"rw") {
+        Some(true)
     } else {
         None
     }
@@ -39,13 +58,7 @@ fn frames_of(line: &[u8], operand: Operand) -> Option<Kind>
 fn right_of(line: &[u8], operand: Operand) -> Option<bool>
     ensures { result ≡ right_of line.now operand }
 {
-    if names(b"ro", line, &operand) {
-        Some(false)
-    } else if names(b"rw", line, &operand) {
-        Some(true)
-    } else {
-        None
-    }
+    right_named(text_of(line, plain_name(operand)?))
 }
 
 fn is_service(line: &[u8], operand: Operand) -> bool

@@ -3,8 +3,9 @@ ghost use Rattle.std.specs.Prelude.{◌≡◌, ◌++◌, ℕ, List, Option, pos,
 ghost use Rattle.std.specs.List.{flat_map, list_all};
 ghost use Rattle.std.specs.Option.{option_map};
 ghost use Rattle.std.specs.Int.{w8, w16, w32, to_be_bytes};
-ghost use Rattle.sbx_directives.specs.Operands.{behind};
-ghost use Rattle.sbx_directives.specs.Data.{bytes_of_width, fits, of_bits, spelled, value_of, is_known, is_fit, bytes_of, listed, data_of, Gives};
+ghost use Rattle.sbx_directives.specs.Directives.{behind};
+ghost use Rattle.v8_syntax.specs.Statements.{of_bits};
+ghost use Rattle.sbx_directives.specs.Data.{bytes_of_width, fits, spelled, value_of, is_known, is_fit, bytes_of, listed, data_of, Gives};
 
 use crate::directive::{Width, text_of};
 use crate::fault::DataFault;

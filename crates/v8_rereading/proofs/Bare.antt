@@ -20,8 +20,7 @@ use Rattle.v8_syntax.specs.declared.word.Word.{Word}
 use Rattle.v8_syntax.specs.declared.fault.SyntaxFault.TheVariants.{UnknownMnemonic}
 use Rattle.v8_forms.specs.Forms.{Form, natives, synthetics}
 use Rattle.v8_forms.specs.Text.{hexadecimal, native_of, shown, text_of}
-use Rattle.v8_syntax.specs.Words.{word_of, words_of}
-use Rattle.v8_syntax.specs.Statements.{named_meaning}
+use Rattle.v8_syntax.specs.Statements.{word_of, words_of, named_meaning}
 use Rattle.v8_rereading.specs.Laws.{IsNotRead, RefusesEachBareWord}
 use Rattle.v8_rereading.proofs.Bytes.{Below, at_below, all, run, name_front}
 use Rattle.v8_rereading.proofs.Hearing.{Heard, ended, spaced, closed, tokened, token_scanned, between}

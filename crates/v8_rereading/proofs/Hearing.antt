@@ -11,7 +11,7 @@ use Rattle.sbx_text.specs.declared.scanning.Step.TheVariants.{Emit}
 use Rattle.sbx_text.specs.Tokens.{front, tokens_at, after, before}
 use Rattle.v8_syntax.specs.declared.word.Word.{Word}
 use Rattle.v8_syntax.specs.declared.word.Word.TheVariants as words
-use Rattle.v8_syntax.specs.Words.{bytes_between, word_at, word_of, words_of, percent_word, name_kind}
+use Rattle.v8_syntax.specs.Statements.{bytes_between, word_at, word_of, words_of, percent_word, name_kind}
 
 -- what a token of that kind and text is, at a place
 abbrev pub word_like : List ℕ → ℕ → ℕ → Kind → Word

@@ -1,5 +1,5 @@
 -- How many instructions a statement takes doesn't hang on what its names are worth.
-use Rattle.std.proofs.Common.{◌≡◌, ℕ, ℤ, Bool, true, false, cond, List, [], ◌∷◌, length, refl, sym, ap, subst, ◌∙◌, Some, Option, None, Result, Ok, Err, pos}
+use Rattle.std.proofs.Common.{◌≡◌, ℕ, ◌^◌, ℤ, Bool, true, false, cond, List, [], ◌∷◌, length, refl, sym, ap, subst, ◌∙◌, Some, Option, None, Result, Ok, Err, pos}
 use Rattle.std.specs.Prelude.{MatchResult, ◌&&◌, ◌+ℤ◌, int_le, codes}
 use Rattle.std.specs.Option.{option_map, option_or}
 use Rattle.std.specs.Str.{bytes_eq}
@@ -17,9 +17,7 @@ use Rattle.v8_syntax.specs.declared.expression.Base.{Base}
 use Rattle.v8_syntax.specs.declared.expression.Base.TheVariants as bases
 use Rattle.v8_syntax.specs.declared.expression.Expression.{Expression}
 use Rattle.v8_forms.specs.Forms.{forms, least, greatest}
-use Rattle.v8_syntax.specs.Words.{either, bytes_between, words_of}
-use Rattle.v8_syntax.specs.Operands.{◌>>=◌, end, after, plain, less, moved, number_first, register_first, named_expression, expression, word_in, in_range, word_of_number, offset_of}
-use Rattle.v8_syntax.specs.Statements.{set, set_operands, set_instructions, is_symbolic, first_of, named_meaning, statement, no_symbol, count_of, length_of}
+use Rattle.v8_syntax.specs.Statements.{either, bytes_between, words_of, ◌>>=◌, end, after, plain, less, moved, number_first, register_first, named_expression, expression, word_in, in_range, of_bits, offset_of, set, set_operands, set_instructions, is_symbolic, first_of, named_meaning, count_of, name_first}
 use Rattle.v8_rereading.specs.Laws.{CountsInstructions, IsNoStatement}
 
 -- ---- the operands of `set`, without what their names are worth
@@ -73,17 +71,17 @@ named_bare kind v rest =
     (mapped read_as (after 45 number_first rest) _ _ (λ x. ap (λ b. (less b x.0, x.1)) (moved_bare kind v)))) refl
 
 module _ (values : List ℕ → Option ℕ) (line : List ℕ) where
-  expression_bare : (ws : List Word) → expression no_symbol line ws ≡ option_map read_as (expression values line ws)
+  expression_bare : (ws : List Word) → expression (λ _. None) line ws ≡ option_map read_as (expression values line ws)
   unfolding expression
   expression_bare (words.Number n ∷ ws) = refl
   expression_bare (words.Name kind i j ∷ ws) = named_bare kind (values (bytes_between line i j)) ws
   expression_bare (words.Sign c ∷ ws) = mapped read_as (after 45 number_first (words.Sign c ∷ ws)) _ _ (λ x. refl)
   expression_bare _ = refl
 
-  set_bare : (ws : List Word) → set_operands no_symbol line ws ≡ option_map set_as (set_operands values line ws)
+  set_bare : (ws : List Word) → set_operands (λ _. None) line ws ≡ option_map set_as (set_operands values line ws)
   unfolding set_operands
   set_bare ws =
-      either_both set_as read_as (expression values line ws) (expression no_symbol line ws) _ _ (expression_bare ws)
+      either_both set_as read_as (expression values line ws) (expression (λ _. None) line ws) _ _ (expression_bare ws)
       (λ x. either_over set_as (after 44 register_first x.1) _ _ (λ y. mapped set_as (end y.1) _ _ (λ z. refl)))
 
 -- ---- `set`
@@ -105,7 +103,7 @@ abbrev IsValue : Result ℕ SyntaxFault → Type 0
 IsValue r = MatchResult r (λ _. Unit {0}) (λ f. IsNoStatement f → ⊥)
 
 range_is_value : (low high z : ℤ) → IsValue (in_range low high Immediate z)
-range_is_value low high z = cond_both (int_le low z && int_le z high) (Ok (word_of_number z)) (Err Immediate) IsValue (λ _. tt) (λ _ k. k)
+range_is_value low high z = cond_both (int_le low z && int_le z high) (Ok (of_bits (2 ^ 32) z)) (Err Immediate) IsValue (λ _. tt) (λ _ k. k)
 
 symbol_counts : (rd : ℕ) (r : Result ℕ SyntaxFault) → IsValue r → Counts (made true rd r) 2
 symbol_counts rd (Ok w) h = refl
@@ -144,13 +142,13 @@ one_counts (Err f) = λ _. refl
 
 module _ (values : List ℕ → Option ℕ) (here : ℕ) (line : List ℕ) where
   name_counts : (t : Bool) (name : List ℕ) (ws : List Word)
-      → Counts (cond t (set values line ws) (first_of values here line UnknownMnemonic forms name ws >>= λ w. Ok (meaning w ∷ []))) (cond t (count_of (set no_symbol line ws)) 1)
+      → Counts (cond t (set values line ws) (first_of values here line UnknownMnemonic forms name ws >>= λ w. Ok (meaning w ∷ []))) (cond t (count_of (set (λ _. None) line ws)) 1)
   unfolding set
   name_counts true name ws =
       subst (λ o. Counts (set values line ws) (count_of (set_of o))) (sym (set_bare values line ws)) (set_counts (set_operands values line ws))
   name_counts false name ws = one_counts (first_of values here line UnknownMnemonic forms name ws)
 
-  words_count : (ws : List Word) → Counts (statement values here line ws) (length_of line ws)
+  words_count : (ws : List Word) → Counts (either (name_first line ws) (λ x. named_meaning values here line x.0 x.1) (Err UnknownMnemonic)) (either (name_first line ws) (λ x. cond (bytes_eq x.0 (codes "set")) (count_of (set (λ _. None) line x.1)) 1) 1)
   unfolding named_meaning
   words_count (words.Name kind i j ∷ ws) = name_counts (bytes_eq (bytes_between line i j) (codes "set")) (bytes_between line i j) ws
   words_count _ = λ _. refl

@@ -10,9 +10,7 @@ use Rattle.v8_syntax.specs.declared.fault.SyntaxFault.TheVariants.{Shape, Unknow
 use Rattle.v8_syntax.specs.declared.word.Word.{Word}
 use Rattle.v8_forms.specs.Forms.{Form, forms, natives, suffixes, synthetics}
 use Rattle.v8_forms.specs.Text.{condition_in, filled, is_word_of, native_of, suffix_text, values}
-use Rattle.v8_syntax.specs.Words.{either}
-use Rattle.v8_syntax.specs.Operands.{◌>>=◌, operands_of}
-use Rattle.v8_syntax.specs.Statements.{first_of, named, of_condition}
+use Rattle.v8_syntax.specs.Statements.{either, ◌>>=◌, operands_of, first_of, named, of_condition}
 use Rattle.v8_forms.proofs.Tables.{all_of, first_of_both, second_of_both, found_passes, same}
 use Rattle.v8_rereading.proofs.Bytes.{is_name}
 use Rattle.v8_rereading.proofs.Parts.{shut, printable}

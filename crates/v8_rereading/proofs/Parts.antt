@@ -1,5 +1,5 @@
 -- The text of each operand is read as what the operand fills in the word.
-use Rattle.std.proofs.Common.{◌≡◌, ℕ, ◌+◌, ◌*◌, ◌/◌, ◌%◌, ◌^◌, ◌<◌, ◌≤◌, Bool, true, false, cond, List, [], ◌∷◌, ◌++◌, length, refl, sym, ap, subst, ◌∙◌, arith, ltb, leb, Some, Option, None, Ok}
+use Rattle.std.proofs.Common.{◌≡◌, ℕ, ◌+◌, ◌*◌, ◌/◌, ◌%◌, ◌^◌, ◌<◌, ◌≤◌, Bool, true, false, cond, List, [], ◌∷◌, ◌++◌, length, refl, sym, ap, subst, ◌∙◌, arith, ltb, leb, Some, Option, None, Ok, Result}
 use Rattle.std.specs.Prelude.{codes}
 use Rattle.std.specs.Fmt.{decimal}
 use Rattle.std.specs.Option.{option_map}
@@ -14,13 +14,13 @@ use Rattle.v8_forms.specs.declared.part.Field.{Field}
 use Rattle.v8_forms.specs.declared.part.Field.TheVariants as fields
 use Rattle.v8_forms.specs.declared.part.Range.{Range}
 use Rattle.v8_forms.specs.declared.part.Range.TheVariants as ranges
+use Rattle.v8_syntax.specs.declared.fault.SyntaxFault.{SyntaxFault}
 use Rattle.v8_syntax.specs.declared.word.Word.{Word}
 use Rattle.v8_syntax.specs.declared.word.Word.TheVariants as words
 use Rattle.v8_syntax.specs.declared.word.NameKind.TheVariants as names
 use Rattle.v8_forms.specs.Forms.{plus, width}
 use Rattle.v8_forms.specs.Text.{annul_bit, annuls, behind_text, elsewhere_bits, far, lead_text, near, number_in, operand_in, operands_text, part_text, register_in, special_in, target_text, memory_text, value, values}
-use Rattle.v8_syntax.specs.Words.{bytes_between, either}
-use Rattle.v8_syntax.specs.Operands.{Filled, ◌>>=◌, added, after, behind, displacement, expression, gives, operands_of, read, target}
+use Rattle.v8_syntax.specs.Statements.{bytes_between, either, ◌>>=◌, added, after, behind, distance, expression, gives, operands_of, offset_of, reached, read, target}
 use Rattle.v8_rereading.proofs.Bytes.{Stops}
 use Rattle.v8_rereading.proofs.Hearing.{Heard, ended, spaced, regrouped3}
 use Rattle.v8_rereading.proofs.Pieces.{operand_words, added_words, offset_words, comma, annulling, numbered, registered, state_register, operand_heard, address_heard, memory_heard, target_heard}
@@ -98,7 +98,7 @@ module _ {count : ℕ} {bytes : List ℕ} {ws : List Word} (w : ℕ) (s : Stops 
   part_heard parts.Branch k = absurd (cc)
 
 abbrev Read : Type 0
-Read = Option (Filled × List Word)
+Read = Option (Result ℕ SyntaxFault × List Word)
 
 abbrev closed_by : Read → Read
 closed_by a = either a (λ x. after 93 (gives x.0) x.1) None
@@ -221,7 +221,7 @@ module _ (values_of : List ℕ → Option ℕ) (here : ℕ) (line : List ℕ) wh
       → target values_of here line (4 * reach) annul (target_words d i j) ≡ Some (Ok (annul_bit annul + d % (4 * reach / 2)), [])
   unfolding target
   target_filled reach d i j annul small h same =
-      ap (option_map (λ e. (displacement (4 * reach) here e.0 >>= λ n. Ok (annul_bit annul + n % (4 * reach / 2)), e.1))) (target_read values_of line i j (ltb (bytes_away d) (2 ^ 31)) (bytes_away d))
+      ap (option_map (λ e. (distance here e.0.base (offset_of e.0) >>= reached (4 * reach) >>= λ n. Ok (annul_bit annul + n % (4 * reach / 2)), e.1))) (target_read values_of line i j (ltb (bytes_away d) (2 ^ 31)) (bytes_away d))
       ∙ ap (λ r. Some (r >>= λ n. Ok (annul_bit annul + n % (4 * reach / 2)), [])) (target_value reach here d (values_of (bytes_between line i j)) small h)
       ∙ ap (λ n. Some (Ok (annul_bit annul + n), [])) same
 

@@ -13,7 +13,7 @@ use Rattle.v8_forms.specs.declared.part.Special.TheVariants as specials
 use Rattle.v8_syntax.specs.declared.word.Word.{Word}
 use Rattle.v8_syntax.specs.declared.word.Word.TheVariants as words
 use Rattle.v8_syntax.specs.declared.word.NameKind.TheVariants as names
-use Rattle.v8_syntax.specs.Words.{percent_word}
+use Rattle.v8_syntax.specs.Statements.{percent_word}
 use Rattle.v8_forms.specs.Text.{register_text, special_text, operand_text, address_text, memory_text}
 use Rattle.v8_forms.proofs.Decimal.{ten_digits}
 use Rattle.v8_rereading.proofs.Bytes.{Stops, is_name, name_front, percent_front, number_front, some_digits, Below, at_below}

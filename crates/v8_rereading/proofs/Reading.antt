@@ -15,8 +15,7 @@ use Rattle.v8_syntax.specs.declared.fault.SyntaxFault.TheVariants.{Immediate, Ta
 use Rattle.v8_syntax.specs.declared.expression.Base.TheVariants as bases
 use Rattle.v8_syntax.specs.declared.expression.Expression.{Expression}
 use Rattle.v8_forms.specs.Text.{number_in, operand_in, sum_bits}
-use Rattle.v8_syntax.specs.Words.{bytes_between}
-use Rattle.v8_syntax.specs.Operands.{◌>>=◌, plain, less, expression, added_second, address, second, sum_of, immediate, word_in, in_range, offset_of, distance, displacement, reached}
+use Rattle.v8_syntax.specs.Statements.{bytes_between, ◌>>=◌, plain, less, expression, added_second, address, second, sum_of, immediate, word_in, in_range, offset_of, distance, reached}
 use Rattle.v8_rereading.proofs.Pieces.{OperandIn, signed_words, offset_words, operand_words, added_words}
 
 -- what stands for a word that is read as signed
@@ -197,8 +196,8 @@ near reach d small (inl h) = or_first _ _ (lt-ltb (bytes_away d) (4 * reach) (om
 near reach d small (inr h) = or_second (ltb (bytes_away d) (4 * reach)) _ (le-leb (2 ^ 32 - 4 * reach) (bytes_away d) (omega arith))
 
 pub target_value : (reach here d : ℕ) (v : Option ℕ) → reach ≤ 2 ^ 29 → IsSigned reach d
-    → displacement (4 * reach) here (place_expression v (ltb (bytes_away d) (2 ^ 31)) (bytes_away d)) ≡ Ok (bytes_away d / 4)
-unfolding displacement
+    → (distance here (place_expression v (ltb (bytes_away d) (2 ^ 31)) (bytes_away d)).base (offset_of (place_expression v (ltb (bytes_away d) (2 ^ 31)) (bytes_away d))) >>= reached (4 * reach))
+    ≡ Ok (bytes_away d / 4)
 target_value reach here d v small h =
     let whole : bytes_away d % 4 ≡ 0 = omega arith in
     ap (λ r. r >>= reached (4 * reach)) (distance_by v here (ltb (bytes_away d) (2 ^ 31)) (bytes_away d) (λ e. ltb-true (bytes_away d) (2 ^ 31) e) (λ e. (ltb-false (bytes_away d) (2 ^ 31) e, omega arith)))

@@ -16,9 +16,7 @@ use Rattle.v8_syntax.specs.declared.fault.SyntaxFault.{SyntaxFault}
 use Rattle.v8_syntax.specs.declared.fault.SyntaxFault.TheVariants.{UnknownMnemonic}
 use Rattle.v8_forms.specs.Forms.{Form, forms}
 use Rattle.v8_forms.specs.Text.{native_of, operands_text, shown, suffix_text, text_of}
-use Rattle.v8_syntax.specs.Words.{word_of, words_of}
-use Rattle.v8_syntax.specs.Operands.{◌>>=◌}
-use Rattle.v8_syntax.specs.Statements.{first_of, named_meaning, set, source_meaning}
+use Rattle.v8_syntax.specs.Statements.{word_of, words_of, ◌>>=◌, first_of, named_meaning, set, source_meaning}
 use Rattle.v8_rereading.specs.Laws.{IsReadAs, ReadsEachTextBack}
 use Rattle.v8_rereading.proofs.Bytes.{is_name, name_front}
 use Rattle.v8_rereading.proofs.Covered.{has_form}

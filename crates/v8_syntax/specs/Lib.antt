@@ -1,4 +1,2 @@
-pub mod Words
-pub mod Operands
 pub mod Statements
 pub mod Faults

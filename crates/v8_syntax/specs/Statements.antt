@@ -1,30 +1,275 @@
--- What a statement means: its name and operands as one or two instructions, or the fault (appendix A; appendix B for each instruction).
-use Rattle.std.specs.Prelude.{ℕ, ◌+◌, ◌/◌, ◌%◌, ◌^◌, ◌==◌, Bool, true, false, not, ◌&&◌, ◌||◌, nat_lt, nat_le, if◌then◌else◌, List, [], ◌∷◌, length, drop, Option, Some, None, Result, Ok, Err, codes}
+-- What a statement means: its tokens as words, the words behind its name as its operands, and all as one or two instructions, or the fault (appendices A and B).
+use Rattle.std.specs.Prelude.{ℕ, ◌+◌, ◌-◌, ◌*◌, ◌/◌, ◌%◌, ◌^◌, ◌==◌, Bool, true, false, not, ◌&&◌, ◌||◌, nat_lt, nat_le, if◌then◌else◌, ℤ, pos, negsuc, ◌+ℤ◌, neg_ℤ, int_le, List, [], ◌∷◌, length, take, drop, map, slice_index, slice_range, Option, Some, None, Result, Ok, Err, codes}
+use Rattle.std.specs.Option.{option_map, option_or, unwrap_or}
+use Rattle.std.specs.List.{find, position_from}
+use Rattle.std.specs.Char.{is_ascii_digit}
 use Rattle.std.specs.Str.{bytes_eq}
 use Rattle.sbx_text.specs.declared.Token.{Token}
+use Rattle.sbx_text.specs.declared.Kind.{Kind}
+use Rattle.sbx_text.specs.declared.Kind.TheVariants as kinds
+use Rattle.v8_formats.specs.declared.instr.Operand.{Operand}
 use Rattle.v8_formats.specs.declared.instr.Operand.TheVariants as operands
 use Rattle.v8_formats.specs.declared.instr.Instr.{Instr}
 use Rattle.v8_formats.specs.declared.instr.Instr.TheVariants.{Sethi, Or}
+use Rattle.v8_formats.specs.Spelling.{spell_operand}
 use Rattle.v8_formats.specs.Table.{meaning}
-use Rattle.v8_forms.specs.Forms.{Form, suffixes, forms}
-use Rattle.v8_forms.specs.Text.{filled}
+use Rattle.v8_forms.specs.declared.part.Part.{Part}
+use Rattle.v8_forms.specs.declared.part.Part.TheVariants as parts
+use Rattle.v8_forms.specs.declared.part.Range.{Range}
 use Rattle.v8_forms.specs.declared.part.Range.TheVariants as ranges
+use Rattle.v8_forms.specs.declared.part.Special.{Special}
+use Rattle.v8_forms.specs.declared.part.Special.TheVariants.{Y, Psr, Wim, Tbr}
+use Rattle.v8_forms.specs.Forms.{Form, suffixes, forms, scale, least, greatest, width, plus}
+use Rattle.v8_forms.specs.Text.{code_of, sum_bits, elsewhere_bits, annul_bit, filled}
+use Rattle.v8_syntax.specs.declared.fault.SyntaxFault.{SyntaxFault}
+use Rattle.v8_syntax.specs.declared.fault.SyntaxFault.TheVariants.{UnknownMnemonic, Shape, Immediate, UnknownSymbol, Target}
+use Rattle.v8_syntax.specs.declared.word.Word.{Word}
 use Rattle.v8_syntax.specs.declared.word.Word.TheVariants as words
+use Rattle.v8_syntax.specs.declared.word.NameKind.{NameKind}
+use Rattle.v8_syntax.specs.declared.word.NameKind.TheVariants as names
+use Rattle.v8_syntax.specs.declared.expression.Base.{Base}
 use Rattle.v8_syntax.specs.declared.expression.Base.TheVariants as bases
-use Rattle.v8_syntax.specs.Words.{Word, either, bytes_between, words_of}
-use Rattle.v8_syntax.specs.Operands.{Base, Expression, SyntaxFault, UnknownMnemonic, Shape, UnknownSymbol, ◌>>=◌, Reading, ◌and_then◌, ◌giving◌, end, after, register_first, word_in, expression, operands_of}
+use Rattle.v8_syntax.specs.declared.expression.Expression.{Expression}
+
+-- the bytes of a line from one place up to another, and none where the line has no such bytes
+abbrev pub bytes_between : List ℕ → ℕ → ℕ → List ℕ
+bytes_between line start stop = if nat_le start stop && nat_le stop (length line) then slice_range line start stop else []
+
+abbrev pub either : {A B : Type 0} → Option A → (A → B) → B → B
+either (Some x) f other = f x
+either None f other = other
+
+-- what stands beside a name in a table
+abbrev pub beside : {A : Type 0} → List ℕ → List (List ℕ × A) → Option A
+beside name rows = option_map (λ row. row.1) (find (λ row. bytes_eq name row.0) rows)
+
+-- ---- registers (appendix A, "Registers")
+
+-- the first register of each letter, and how many there are: globals, outs, locals, ins, and all
+abbrev pub groups : List (List ℕ × (ℕ × ℕ))
+groups = (codes "g", (0, 8)) ∷ (codes "o", (8, 8)) ∷ (codes "l", (16, 8)) ∷ (codes "i", (24, 8)) ∷ (codes "r", (0, 32)) ∷ []
+
+-- a number of one digit or two, with no 0 in front
+abbrev pub small_number : List ℕ → Option ℕ
+small_number (a ∷ []) = if is_ascii_digit a then Some (a - 48) else None
+small_number (a ∷ b ∷ []) = if is_ascii_digit a && is_ascii_digit b && nat_lt 48 a then Some (10 * (a - 48) + (b - 48)) else None
+small_number _ = None
+
+-- `sp`, `fp`, or a letter and a number
+abbrev pub register_named : List ℕ → Option ℕ
+register_named name =
+    option_or (beside name ((codes "sp", 14) ∷ (codes "fp", 30) ∷ []))
+    (either (beside (take 1 name) groups) (λ group. either (small_number (drop 1 name)) (λ n. if nat_lt n group.1 then Some (group.0 + n) else None) None) None)
+
+-- the state registers that have a name here
+abbrev pub specials : List (List ℕ × Special)
+specials = (codes "y", Y) ∷ (codes "psr", Psr) ∷ (codes "wim", Wim) ∷ (codes "tbr", Tbr) ∷ []
+
+-- ---- the word of each token
+
+-- what stands behind a `%`
+abbrev pub percent_word : List ℕ → Word
+percent_word name = unwrap_or (option_or (option_map words.Register (register_named name)) (option_map words.Special (beside name specials))) words.Unknown
+
+-- `a` annuls, `.` is the place, and another name is a symbol
+abbrev pub name_kind : List ℕ → NameKind
+name_kind name = unwrap_or (beside name ((codes "a", names.Annul) ∷ (codes ".", names.Place) ∷ [])) names.Plain
+
+abbrev pub word_at : List ℕ → ℕ → ℕ → Kind → Word
+word_at line start stop kinds.Name = words.Name (name_kind (bytes_between line start stop)) start stop
+word_at line start stop kinds.Percent = percent_word (drop 1 (bytes_between line start stop))
+word_at line start stop (kinds.Number n) = words.Number n
+word_at line start stop kinds.Sign = words.Sign (slice_index (bytes_between line start stop) 0)
+
+unfoldable pub word_of : List ℕ → Token → Word
+word_of line t = word_at line t.start t.stop t.kind
+
+abbrev pub words_of : List ℕ → List Token → List Word
+words_of line tokens = map (word_of line) tokens
+
+-- what is done next, where there is no fault
+infixl 10 ◌>>=◌
+abbrev pub ◌>>=◌ : {A B : Type 0} → Result A SyntaxFault → (A → Result B SyntaxFault) → Result B SyntaxFault
+(Ok x) >>= f = f x
+(Err e) >>= f = Err e
+
+-- ---- readings: what stands at the front of some words, and the words after it
+
+abbrev pub Reading : Type 0 → Type 0
+Reading A = List Word → Option (A × List Word)
+
+infixl 30 ◌and_then◌
+abbrev pub ◌and_then◌ : {A B : Type 0} → Reading A → (A → Reading B) → Reading B
+p and_then f = λ ws. either (p ws) (λ x. f x.0 x.1) None
+
+infixl 30 ◌giving◌
+abbrev pub ◌giving◌ : {A B : Type 0} → Reading A → (A → B) → Reading B
+p giving f = λ ws. option_map (λ x. (f x.0, x.1)) (p ws)
+
+infixl 20 ◌or_else◌
+abbrev pub ◌or_else◌ : {A : Type 0} → Reading A → Reading A → Reading A
+p or_else q = λ ws. option_or (p ws) (q ws)
+
+-- nothing is read
+abbrev pub gives : {A : Type 0} → A → Reading A
+gives x = λ ws. Some (x, ws)
+
+abbrev pub end : Reading (Unit {0})
+end [] = Some (tt, [])
+end _ = None
+
+abbrev pub after_sign : ℕ → List Word → Option (List Word)
+after_sign b (words.Sign c ∷ ws) = if c == b then Some ws else None
+after_sign b _ = None
+
+-- a reading behind a sign
+abbrev pub after : {A : Type 0} → ℕ → Reading A → Reading A
+after b p = λ ws. either (after_sign b ws) p None
+
+abbrev pub number_first : Reading ℕ
+number_first (words.Number n ∷ ws) = Some (n, ws)
+number_first _ = None
+
+abbrev pub register_first : Reading ℕ
+register_first (words.Register r ∷ ws) = Some (r, ws)
+register_first _ = None
+
+abbrev pub special_first : Reading Special
+special_first (words.Special s ∷ ws) = Some (s, ws)
+special_first _ = None
+
+abbrev pub annul_first : Reading Bool
+annul_first (words.Name names.Annul i j ∷ ws) = Some (true, ws)
+annul_first _ = None
+
+-- a name of the line
+abbrev pub name_first : List ℕ → Reading (List ℕ)
+name_first line (words.Name kind i j ∷ ws) = Some (bytes_between line i j, ws)
+name_first line _ = None
+
+-- ---- expressions: a number, `-` number, a symbol, a symbol with `+` or `-` number
+
+abbrev pub plain : Base → ℕ → Expression
+plain base n = record { base = base; negative = false; number = n }
+
+abbrev pub less : Base → ℕ → Expression
+less base n = record { base = base; negative = true; number = n }
+
+abbrev pub negative : Base → Reading Expression
+negative base = after 45 number_first giving less base
+
+-- `.` before a sign is the place of the instruction; else it is a symbol, as other names are
+abbrev pub moved : NameKind → Option ℕ → Base
+moved names.Place value = bases.Here value
+moved _ value = bases.Symbol value
+
+abbrev pub named_expression : NameKind → Option ℕ → Reading Expression
+named_expression kind value = after 43 number_first giving plain (moved kind value) or_else negative (moved kind value) or_else gives (plain (bases.Symbol value) 0)
+
+-- ---- their values: whole numbers, without wrapping
+
+abbrev pub offset_of : Expression → ℤ
+offset_of e = if e.negative then neg_ℤ (pos e.number) else pos e.number
+
+abbrev pub based : Base → ℤ → Result ℤ SyntaxFault
+based bases.Number z = Ok z
+based (bases.Symbol (Some v)) z = Ok (pos v +ℤ z)
+based (bases.Here (Some v)) z = Ok (pos v +ℤ z)
+based _ z = Err UnknownSymbol
+
+-- a number as bits that tell so many numbers apart: a negative one plus so many
+abbrev pub of_bits : ℕ → ℤ → ℕ
+of_bits room (pos n) = n
+of_bits room (negsuc n) = room - 1 - n
+
+-- the word of a value in a range, else a fault
+abbrev pub in_range : ℤ → ℤ → SyntaxFault → ℤ → Result ℕ SyntaxFault
+in_range low high fault z = if int_le low z && int_le z high then Ok (of_bits (2 ^ 32) z) else Err fault
+
+unfoldable pub word_in : Range → Expression → Result ℕ SyntaxFault
+word_in range e = based e.base (offset_of e) >>= in_range (least range) (greatest range) Immediate
+
+-- how many bytes from the instruction, as a word: `.+N` itself, or from here to an address below 2 ^ 32
+abbrev pub distance : ℕ → Base → ℤ → Result ℕ SyntaxFault
+distance here (bases.Here v) z = in_range (negsuc 2147483647) (pos 2147483647) Target z
+distance here base z = based base z >>= in_range (pos 0) (pos 4294967295) Target >>= λ target. Ok ((target + 2 ^ 32 - here) % 2 ^ 32)
+
+-- a multiple of 4 less than so many bytes before, or after, the instruction, in words
+abbrev pub reached : ℕ → ℕ → Result ℕ SyntaxFault
+reached reach w = if w % 4 == 0 && (nat_lt w reach || nat_le (2 ^ 32 - reach) w) then Ok (w / 4) else Err Target
+
+-- ---- what operands fill
+
+-- both are filled in, or the first fault
+abbrev pub added : Result ℕ SyntaxFault → Result ℕ SyntaxFault → Result ℕ SyntaxFault
+added x y = x >>= λ a. y >>= λ b. Ok (plus a b)
+
+-- a number as the second operand
+abbrev pub immediate : Range → Expression → Result Operand SyntaxFault
+immediate range e = word_in range e >>= λ n. Ok (operands.Immediate n)
+
+abbrev pub sum_of : ℕ → Result Operand SyntaxFault → Result ℕ SyntaxFault
+sum_of rs1 o = o >>= λ operand2. Ok (sum_bits rs1 operand2)
+
+-- a register behind `+`, else %g0
+abbrev pub added_register : Reading ℕ
+added_register = after 43 register_first or_else gives 0
+
+-- what the symbols are worth, and the line
+module _ (values : List ℕ → Option ℕ) (line : List ℕ) where
+  unfoldable pub expression : Reading Expression
+  expression (words.Number n ∷ ws) = Some (plain bases.Number n, ws)
+  expression (words.Name kind i j ∷ ws) = named_expression kind (values (bytes_between line i j)) ws
+  expression ws = negative bases.Number ws
+
+  unfoldable pub second : Range → Reading (Result Operand SyntaxFault)
+  second range = register_first giving (λ r. Ok (operands.Register r)) or_else expression giving immediate range
+
+  -- such a one behind `+`, a number behind `-`, else %g0
+  unfoldable pub added_second : Range → Reading (Result Operand SyntaxFault)
+  added_second range = after 43 (second range) or_else negative bases.Number giving immediate range or_else gives (Ok (operands.Register 0))
+
+  -- a register and such a one; an expression, and a register behind it
+  unfoldable pub address : Range → Reading (Result ℕ SyntaxFault)
+  address range =
+      (register_first and_then λ r. added_second range giving sum_of r)
+      or_else (expression and_then λ e. added_register giving λ r. sum_of r (immediate range e))
+
+-- and where the statement stands
+module _ (values : List ℕ → Option ℕ) (here : ℕ) (line : List ℕ) where
+  -- the words to a target (appendix B, "Branch on Integer Condition Codes" and "Call and Link"), in a field of the bits that reach so far
+  unfoldable pub target : ℕ → Bool → Reading (Result ℕ SyntaxFault)
+  target reach annuls = expression values line giving λ e. distance here e.base (offset_of e) >>= reached reach >>= λ d. Ok (annul_bit annuls + d % (reach / 2))
+
+  unfoldable pub read : Part → Reading (Result ℕ SyntaxFault)
+  read (parts.Register f) = register_first giving λ r. Ok (r * scale f)
+  read parts.State = special_first giving λ s. Ok (code_of s * 2 ^ 19)
+  read (parts.Second range) = second values line range giving λ o. o >>= λ operand2. Ok (spell_operand operand2)
+  read (parts.Address range) = address values line range
+  read parts.Memory = after 91 (address values line ranges.Signed) and_then λ x. after 93 (gives x)
+  read parts.Elsewhere =
+      after 91 register_first and_then λ rs1. added_register and_then λ rs2.
+      after 93 (expression values line) giving λ e. word_in ranges.Space e >>= λ asi. Ok (elsewhere_bits rs1 rs2 (asi % 2 ^ 8))
+  read (parts.Number range) = expression values line giving λ e. word_in range e >>= λ n. Ok (n % 2 ^ width range)
+  read parts.Call = target (2 ^ 31) false
+  read parts.Branch = (after 44 annul_first or_else gives false) and_then target (2 ^ 23)
+
+  -- operands with commas between them, to the end
+
+  abbrev pub behind : List Part → Reading (Result ℕ SyntaxFault)
+  behind [] = end giving λ _. Ok 0
+  behind (p ∷ ps) = after 44 (read p) and_then λ x. behind ps giving added x
+
+  abbrev pub operands_of : List Part → Reading (Result ℕ SyntaxFault)
+  operands_of [] = end giving λ _. Ok 0
+  operands_of (p ∷ ps) = read p and_then λ x. behind ps giving added x
 
 -- ---- names
 
--- which of the suffixes it is, the first by that number
-abbrev pub numbered : ℕ → List (List ℕ) → List ℕ → Option ℕ
-numbered k [] name = None
-numbered k (s ∷ ss) name = if bytes_eq s name then Some k else numbered (k + 1) ss name
-
--- the condition under which a form has that name: 0 where it has none
+-- the condition under which a form has that name, the number of its suffix: 0 where it has none
 abbrev pub named : Form → List ℕ → Option ℕ
 named f name =
-    if f.conditional then (if bytes_eq f.name (bytes_between name 0 1) then numbered 0 suffixes (drop 1 name) else None)
+    if f.conditional then (if bytes_eq f.name (bytes_between name 0 1) then position_from (λ suffix. bytes_eq suffix (drop 1 name)) 0 suffixes else None)
     else (if bytes_eq f.name name then Some 0 else None)
 
 -- ---- `set`
@@ -73,19 +318,11 @@ module _ (values : List ℕ → Option ℕ) (here : ℕ) (line : List ℕ) where
       if bytes_eq name (codes "set") then set values line ws
       else (first_of UnknownMnemonic forms name ws >>= λ w. Ok (meaning w ∷ []))
 
-  -- the whole statement, a name first
-  abbrev pub statement : List Word → Result (List Instr) SyntaxFault
-  statement (words.Name kind i j ∷ ws) = named_meaning (bytes_between line i j) ws
-  statement _ = Err UnknownMnemonic
-
--- the instructions of a statement, or its fault
+-- the instructions of a statement, a name first, or its fault
 abbrev pub source_meaning : (List ℕ → Option ℕ) → ℕ → List ℕ → List Token → Result (List Instr) SyntaxFault
-source_meaning values here line tokens = statement values here line (words_of line tokens)
+source_meaning values here line tokens = either (name_first line (words_of line tokens)) (λ x. named_meaning values here line x.0 x.1) (Err UnknownMnemonic)
 
 -- ---- how many instructions a statement takes, whatever its symbols are worth
-
-abbrev pub no_symbol : List ℕ → Option ℕ
-no_symbol name = None
 
 -- `set` of a symbol is two; a statement with a fault counts as one
 abbrev pub count_of : Result (List Instr) SyntaxFault → ℕ
@@ -93,9 +330,5 @@ count_of (Ok is) = length is
 count_of (Err UnknownSymbol) = 2
 count_of (Err fault) = 1
 
-abbrev pub length_of : List ℕ → List Word → ℕ
-length_of line (words.Name kind i j ∷ ws) = if bytes_eq (bytes_between line i j) (codes "set") then count_of (set no_symbol line ws) else 1
-length_of line _ = 1
-
 abbrev pub statement_length : List ℕ → List Token → ℕ
-statement_length line tokens = length_of line (words_of line tokens)
+statement_length line tokens = either (name_first line (words_of line tokens)) (λ x. if bytes_eq x.0 (codes "set") then count_of (set (λ _. None) line x.1) else 1) 1

@@ -1,8 +1,7 @@
 // Second operands and addresses, and the bits that they fill.
 ghost use Rattle.std.specs.Prelude.{◌≡◌, ℕ, ◌+◌, ◌*◌, ◌%◌, ◌^◌, ◌<◌, ◌≤◌, List, MatchOption, Some, None};
-ghost use Rattle.v8_syntax.specs.Words.{words_of};
+ghost use Rattle.v8_syntax.specs.Statements.{words_of, added_register, added_second, address, after, immediate, read, second, sum_of};
 ghost use Rattle.v8_forms.specs.declared.part.Part.TheVariants as parts;
-ghost use Rattle.v8_syntax.specs.Operands.{added_register, added_second, address, after, immediate, read, second, space_bits, sum_of};
 
 use crate::expression::{
     Base, Expression, Read, after_sign, less, number_after, read_expression, register_first,
@@ -47,7 +46,7 @@ fn added_register<'t>(line: &[u8], tokens: &'t [Token]) -> (Reg, &'t [Token])
 }
 
 /// A register, or a number of the range.
-#[tactic(auto, unfolding(crate::specs::Operands::second))]
+#[tactic(auto, unfolding(crate::specs::Statements::second))]
 pub fn read_second<'t, S: Symbols>(
     range: Range,
     symbols: &S,
@@ -75,7 +74,7 @@ fn second_behind_plus<'t, S: Symbols>(
 }
 
 /// What is added to a register: a second operand behind `+`, a number behind `-`, else %g0.
-#[tactic(auto, unfolding(crate::specs::Operands::added_second))]
+#[tactic(auto, unfolding(crate::specs::Statements::added_second))]
 fn added_second<'t, S: Symbols>(
     range: Range,
     symbols: &S,
@@ -94,7 +93,7 @@ fn added_second<'t, S: Symbols>(
 }
 
 /// A register and what is added to it; or a number, which is added to %g0 or to a register behind it.
-#[tactic(auto, unfolding(crate::specs::Operands::address))]
+#[tactic(auto, unfolding(crate::specs::Statements::address))]
 pub fn read_address<'t, S: Symbols>(
     range: Range,
     symbols: &S,
@@ -113,7 +112,7 @@ pub fn read_address<'t, S: Symbols>(
 }
 
 /// An address in brackets.
-#[tactic(auto, unfolding(crate::specs::Operands::read))]
+#[tactic(auto, unfolding(crate::specs::Statements::read))]
 pub fn read_memory<'t, S: Symbols>(
     symbols: &S,
     line: &[u8],
@@ -127,14 +126,8 @@ pub fn read_memory<'t, S: Symbols>(
     Some((sum, rest))
 }
 
-fn space_bits(rs1: Reg, rs2: Reg, space: Expression) -> Filled
-    ensures { result ≡ space_bits rs1 rs2 space }
-{
-    word_in(Range::Space, space).map(|asi| elsewhere_bits(rs1, rs2, asi & 0xff))
-}
-
 /// Two registers in brackets, and a space.
-#[tactic(auto, unfolding(crate::specs::Operands::read))]
+#[tactic(auto, unfolding(crate::specs::Statements::read))]
 pub fn read_elsewhere<'t, S: Symbols>(
     symbols: &S,
     line: &[u8],
@@ -149,5 +142,6 @@ pub fn read_elsewhere<'t, S: Symbols>(
     let (rs2, behind) = added_register(line, more);
     let after = after_sign(b']', line, behind)?;
     let (space, rest) = read_expression(symbols, line, after)?;
-    Some((space_bits(rs1, rs2, space), rest))
+    let filled = word_in(Range::Space, space).map(|asi| elsewhere_bits(rs1, rs2, asi & 0xff));
+    Some((filled, rest))
 }

@@ -1,12 +1,11 @@
 // Expressions, and the values of these in their ranges.
 ghost use Rattle.std.specs.Prelude.{◌≡◌, ℕ, ◌+◌, ◌-◌, ◌*◌, ◌/◌, ◌%◌, ◌^◌, ◌<◌, ◌≤◌, pos, negsuc, ℤ, ◌≤ℤ◌, int_le, List, true, MatchOption, Some, None};
-ghost use Rattle.v8_syntax.specs.Words.{words_of};
-ghost use Rattle.v8_syntax.specs.Operands.{after, after_sign, annul_first, based, displacement, distance, expression, in_range, less, moved, named_expression, number_first, offset_of, plain, reached, register_first, special_first, word_in, word_of_number};
+ghost use Rattle.v8_syntax.specs.Statements.{words_of, ◌>>=◌ as ◌then◌, after, after_sign, annul_first, based, distance, expression, in_range, less, moved, named_expression, number_first, offset_of, plain, reached, register_first, special_first, word_in, of_bits};
 
 use crate::fault::SyntaxFault;
 use crate::symbols::Symbols;
-use crate::word::{NameKind, Word, bytes_between, front};
-use sbx_text::Token;
+use crate::word::{NameKind, Word, after_first, bytes_between, front, register_named, sign_byte};
+use sbx_text::{Kind, Token};
 use v8_forms::{Range, Special, greatest, least};
 use v8_word::Reg;
 
@@ -30,31 +29,48 @@ pub struct Expression {
 pub type Read<'t, T> = Option<(T, &'t [Token])>;
 
 /// What follows a sign.
+#[tactic(auto, unfolding(crate::specs::Statements::word_of))]
 pub fn after_sign<'t>(sign: u8, line: &[u8], tokens: &'t [Token]) -> Option<&'t [Token]>
     ensures { MatchOption result (after_sign sign (words_of line.now tokens.now) ≡ None) (λ rest. after_sign sign (words_of line.now tokens.now) ≡ Some (words_of line.now rest.now)) }
 {
-    match front(line, tokens) {
-        Some((Word::Sign(byte), rest)) if byte == sign => Some(rest),
+    let (first, rest) = tokens.split_first()?;
+    match first.kind {
+        Kind::Sign => {
+            if sign_byte(bytes_between(line, first.start, first.stop)) == sign {
+                Some(rest)
+            } else {
+                None
+            }
+        }
         _ => None,
     }
 }
 
 /// A number, and what follows it.
+#[tactic(auto, unfolding(crate::specs::Statements::word_of))]
 pub fn number_first<'t>(line: &[u8], tokens: &'t [Token]) -> Read<'t, u64>
     ensures { MatchOption result (number_first (words_of line.now tokens.now) ≡ None) (λ x. number_first (words_of line.now tokens.now) ≡ Some (x.0, words_of line.now x.1.now)) }
 {
-    match front(line, tokens) {
-        Some((Word::Number(number), rest)) => Some((number, rest)),
+    let (first, rest) = tokens.split_first()?;
+    match first.kind {
+        Kind::Number(number) => Some((number, rest)),
         _ => None,
     }
 }
 
 /// A register, and what follows it.
+#[tactic(auto, unfolding(crate::specs::Statements::word_of), using(crate::proofs::Tokens::no_register))]
 pub fn register_first<'t>(line: &[u8], tokens: &'t [Token]) -> Read<'t, Reg>
     ensures { MatchOption result (register_first (words_of line.now tokens.now) ≡ None) (λ x. register_first (words_of line.now tokens.now) ≡ Some (x.0, words_of line.now x.1.now)) }
 {
-    match &front(line, tokens) {
-        Some((Word::Register(register), rest)) => Some((*register, *rest)),
+    let (first, rest) = tokens.split_first()?;
+    match first.kind {
+        Kind::Percent => {
+            match register_named(after_first(bytes_between(line, first.start, first.stop))) {
+                Some(register) => Some((register, rest)),
+                None => None,
+            }
+        }
         _ => None,
     }
 }
@@ -134,7 +150,7 @@ fn named_expression<'t>(
 }
 
 /// A number, a number behind `-`, a symbol, or a symbol and such a number.
-#[tactic(auto, unfolding(crate::specs::Operands::expression))]
+#[tactic(auto, unfolding(crate::specs::Statements::expression))]
 pub fn read_expression<'t, S: Symbols>(
     symbols: &S,
     line: &[u8],
@@ -183,7 +199,7 @@ fn based(base: Base, offset: i128) -> Result<i128, SyntaxFault>
 fn word_of_number(number: i128) -> u32
     requires low { negsuc 4294967295 ≤ℤ number }
     requires high { number ≤ℤ pos 4294967295 }
-    ensures { result ≡ word_of_number number }
+    ensures { result ≡ of_bits (2 ^ 32) number }
 {
     if number >= 0 {
         number as u32
@@ -205,7 +221,7 @@ fn in_range(low: i128, high: i128, fault: SyntaxFault, number: i128) -> Result<u
 }
 
 /// The word of an expression whose value lies in a range.
-#[tactic(auto, unfolding(crate::specs::Operands::word_in))]
+#[tactic(auto, unfolding(crate::specs::Statements::word_in))]
 pub fn word_in(range: Range, expression: Expression) -> Result<u32, SyntaxFault>
     ensures { result ≡ word_in range expression }
 {
@@ -249,10 +265,9 @@ fn reached(reach: u32, word: u32) -> Result<u32, SyntaxFault>
 }
 
 /// The words from the instruction to a target less than `reach` bytes after it, or at most so many before.
-#[tactic(auto, unfolding(crate::specs::Operands::displacement))]
 pub fn displacement(reach: u32, here: u32, expression: Expression) -> Result<u32, SyntaxFault>
     requires some { 0 < reach }
-    ensures { result ≡ displacement reach here expression }
+    ensures { result ≡ (distance here expression.base (offset_of expression) then reached reach) }
 {
     reached(reach, distance(here, expression)?)
 }

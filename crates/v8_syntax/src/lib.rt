@@ -4,12 +4,14 @@
 mod address;
 mod expression;
 mod fault;
+mod letters;
 mod names;
 mod operands;
 mod statement;
 mod symbols;
 mod word;
 
+pub use expression::after_sign;
 pub use fault::SyntaxFault;
 pub use statement::{length_of, parse_instr};
 pub use symbols::Symbols;

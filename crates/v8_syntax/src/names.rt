@@ -1,7 +1,9 @@
 // The name that a statement begins with.
 ghost use Rattle.std.specs.Prelude.{◌≡◌, ℕ, ◌+◌, ◌<◌, ◌≤◌, List, map, IfSome, length};
+ghost use Rattle.std.specs.List.{position_from};
+ghost use Rattle.std.specs.Str.{bytes_eq};
 ghost use Rattle.v8_forms.specs.Forms.{form_of, suffixes};
-ghost use Rattle.v8_syntax.specs.Statements.{named, numbered};
+ghost use Rattle.v8_syntax.specs.Statements.{named};
 
 use crate::word::{after_first, bytes_between, is_same};
 use v8_forms::{Row, suffixes};
@@ -9,7 +11,7 @@ use v8_forms::{Row, suffixes};
 /// Which of some suffixes it is, the first by that number.
 fn numbered(from: u32, suffixes: &[&str], name: &[u8]) -> Option<u32>
     requires room { from + length suffixes.now ≤ 16 }
-    ensures value { result ≡ numbered from (map (λ s. s.now) suffixes.now) name.now }
+    ensures value { result ≡ position_from (λ suffix. bytes_eq suffix name.now) from (map (λ s. s.now) suffixes.now) }
     ensures bound { IfSome result (λ k. k < 16) }
 {
     match suffixes.split_first() {

@@ -1,10 +1,9 @@
 // The operands of a statement, read by the parts of its form.
 ghost use Rattle.std.specs.Prelude.{◌≡◌, ℕ, ◌+◌, ◌*◌, ◌/◌, ◌%◌, ◌^◌, ◌<◌, ◌≤◌, List, [], MatchOption, Some, None, false, true, Ok};
 ghost use Rattle.v8_forms.specs.Forms.{plus, width};
-ghost use Rattle.v8_syntax.specs.Words.{words_of};
+ghost use Rattle.v8_syntax.specs.Statements.{words_of, added, after, annul_first, behind, operands_of, read, target};
 ghost use Rattle.v8_forms.specs.Text.{annul_bit, code_of};
 ghost use Rattle.v8_forms.specs.declared.part.Part.TheVariants as parts;
-ghost use Rattle.v8_syntax.specs.Operands.{added, after, annul_first, behind, operands_of, read, target};
 
 use crate::address::{Filled, read_address, read_elsewhere, read_memory, read_second};
 use crate::expression::{
@@ -22,7 +21,7 @@ fn after_annul<'t>(line: &[u8], tokens: &'t [Token]) -> Option<&'t [Token]>
     annul_first(line, after_sign(b',', line, tokens)?)
 }
 
-#[tactic(auto, unfolding(crate::specs::Operands::target))]
+#[tactic(auto, unfolding(crate::specs::Statements::target))]
 fn read_target<'t, S: Symbols>(
     reach: u32,
     annul: bool,
@@ -39,7 +38,7 @@ fn read_target<'t, S: Symbols>(
     Some((filled, rest))
 }
 
-#[tactic(auto, unfolding(crate::specs::Operands::read))]
+#[tactic(auto, unfolding(crate::specs::Statements::read))]
 fn read_branch<'t, S: Symbols>(symbols: &S, line: &[u8], tokens: &'t [Token]) -> Read<'t, Filled>
     ensures { MatchOption result (read (S.values symbols.now) (S.place symbols.now) line.now parts.Branch (words_of line.now tokens.now) ≡ None) (λ x. read (S.values symbols.now) (S.place symbols.now) line.now parts.Branch (words_of line.now tokens.now) ≡ Some (x.0, words_of line.now x.1.now)) }
 {
@@ -49,7 +48,7 @@ fn read_branch<'t, S: Symbols>(symbols: &S, line: &[u8], tokens: &'t [Token]) ->
     }
 }
 
-#[tactic(auto, unfolding(crate::specs::Operands::read))]
+#[tactic(auto, unfolding(crate::specs::Statements::read))]
 fn read<'t, S: Symbols>(
     part: &Part,
     symbols: &S,

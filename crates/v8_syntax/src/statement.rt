@@ -1,19 +1,20 @@
 // Statements read as instructions.
-ghost use Rattle.std.specs.Prelude.{◌≡◌, ℕ, ◌+◌, ◌*◌, ◌/◌, ◌%◌, ◌^◌, ◌<◌, List, Option, MatchOption, MatchResult, [], ◌∷◌, map, Ok, Err, Some, None};
-ghost use Rattle.v8_forms.specs.Forms.{form_of, forms};
-ghost use Rattle.v8_syntax.specs.Words.{words_of};
-ghost use Rattle.v8_syntax.specs.Statements.{count_of, first_of, is_symbolic, named_meaning, no_symbol, or, set, set_instructions, set_operands, sethi, source_meaning, statement_length};
+ghost use Rattle.std.specs.Prelude.{◌≡◌, ℕ, ◌+◌, ◌*◌, ◌/◌, ◌%◌, ◌^◌, ◌<◌, List, All, Option, MatchOption, MatchResult, [], ◌∷◌, get_or, map, Ok, Err, Some, None};
+ghost use Rattle.v8_forms.specs.Forms.{Form, forms};
+ghost use Rattle.v8_syntax.specs.Statements.{words_of, count_of, first_of, is_symbolic, named_meaning, or, set, set_instructions, set_operands, sethi, source_meaning, statement_length};
+ghost use Rattle.v8_syntax.specs.declared.fault.SyntaxFault.TheVariants.{UnknownMnemonic};
 
 use crate::expression::{Base, Expression, after_sign, read_expression, register_first, word_in};
 use crate::fault::SyntaxFault;
+use crate::letters::{form, numbers_from};
 use crate::names::named;
 use crate::operands::operands_of;
 use crate::symbols::Symbols;
-use crate::word::{Word, bytes_between, front, is_same};
+use crate::word::{is_same, name_first, sign_byte};
 use arrayvec::ArrayVec;
 use sbx_text::Token;
 use v8_formats::{Instr, Operand, Three, Upper, decode};
-use v8_forms::{Range, Row, filled, forms};
+use v8_forms::{Range, filled};
 use v8_word::Reg;
 
 /// One instruction, or two.
@@ -96,19 +97,21 @@ fn set<S: Symbols>(symbols: &S, line: &[u8], tokens: &[Token]) -> Result<Instruc
     Ok(set_instructions(is_symbolic(value.base), word, rd))
 }
 
-/// The word of the first of some forms that has the name and that the operands fit, else the fault.
+/// The word of the first of some forms, by their numbers, that has the name and that the operands fit, else the fault.
 fn first_of<S: Symbols>(
     fault: SyntaxFault,
-    rows: &[Row],
+    numbers: &[u8],
     name: &[u8],
     symbols: &S,
     line: &[u8],
     tokens: &[Token],
 ) -> Result<u32, SyntaxFault>
-    ensures { result ≡ first_of (S.values symbols.now) (S.place symbols.now) line.now fault (map form_of rows.now) name.now (words_of line.now tokens.now) }
+    requires { All (λ k. k < 111) numbers.now }
+    ensures { (d : Form) → result ≡ first_of (S.values symbols.now) (S.place symbols.now) line.now fault (map (λ k. get_or forms k d) numbers.now) name.now (words_of line.now tokens.now) }
 {
     let mut fault = fault;
-    for row in rows {
+    for number in numbers {
+        let row = form(*number);
         if let Some(condition) = named(row, name) {
             match operands_of(row.parts, symbols, line, tokens) {
                 Some(operands) => return Ok(filled(row, condition, operands?)),
@@ -117,6 +120,21 @@ fn first_of<S: Symbols>(
         }
     }
     Err(fault)
+}
+
+/// The word of the first of all forms that has the name and that the operands fit. Only forms whose names begin as this one are
+/// looked at.
+fn word_of_statement<S: Symbols>(
+    name: &[u8],
+    symbols: &S,
+    line: &[u8],
+    tokens: &[Token],
+) -> Result<u32, SyntaxFault>
+    ensures { result ≡ first_of (S.values symbols.now) (S.place symbols.now) line.now UnknownMnemonic forms name.now (words_of line.now tokens.now) }
+{
+    let numbers = numbers_from(sign_byte(name));
+    let fault = SyntaxFault::UnknownMnemonic;
+    first_of(fault, numbers, name, symbols, line, tokens)
 }
 
 #[tactic(auto, unfolding(crate::specs::Statements::named_meaning))]
@@ -131,8 +149,7 @@ fn named_meaning<S: Symbols>(
     if is_same(name, b"set") {
         return set(symbols, line, tokens);
     }
-    let fault = SyntaxFault::UnknownMnemonic;
-    let word = first_of(fault, forms(), name, symbols, line, tokens)?;
+    let word = word_of_statement(name, symbols, line, tokens)?;
     Ok(list_of_one(decode(word)))
 }
 
@@ -148,11 +165,9 @@ pub fn parse_instr<S: Symbols>(
 ) -> Result<ArrayVec<Instr, 2>, SyntaxFault>
     ensures { MatchResult result (λ v. source_meaning (S.values symbols.now) (S.place symbols.now) line.now tokens.now ≡ Ok v.items) (λ f. source_meaning (S.values symbols.now) (S.place symbols.now) line.now tokens.now ≡ Err f) }
 {
-    match front(line, tokens) {
-        Some((Word::Name(_, start, stop), rest)) => {
-            named_meaning(bytes_between(line, start, stop), symbols, line, rest)
-        }
-        _ => Err(SyntaxFault::UnknownMnemonic),
+    match name_first(line, tokens) {
+        Some((name, rest)) => named_meaning(name, symbols, line, rest),
+        None => Err(SyntaxFault::UnknownMnemonic),
     }
 }
 
@@ -160,7 +175,7 @@ pub fn parse_instr<S: Symbols>(
 struct Unresolved;
 
 impl Symbols for Unresolved {
-    ghost values = { λ _. no_symbol };
+    ghost values = { λ _ _. None };
 
     ghost place = { λ _. 0 };
 
@@ -175,7 +190,7 @@ impl Symbols for Unresolved {
 
 /// How many instructions `set` takes.
 fn set_length(line: &[u8], tokens: &[Token]) -> usize
-    ensures { result ≡ count_of (set no_symbol line.now (words_of line.now tokens.now)) }
+    ensures { result ≡ count_of (set (λ _. None) line.now (words_of line.now tokens.now)) }
 {
     match set(&Unresolved, line, tokens) {
         Ok(list) => list.len(),
@@ -189,14 +204,14 @@ fn set_length(line: &[u8], tokens: &[Token]) -> usize
 pub fn length_of(line: &[u8], tokens: &[Token]) -> usize
     ensures { result ≡ statement_length line.now tokens.now }
 {
-    match front(line, tokens) {
-        Some((Word::Name(_, start, stop), rest)) => {
-            if is_same(bytes_between(line, start, stop), b"set") {
+    match name_first(line, tokens) {
+        Some((name, rest)) => {
+            if is_same(name, b"set") {
                 set_length(line, rest)
             } else {
                 1
             }
         }
-        _ => 1,
+        None => 1,
     }
 }

@@ -1,7 +1,7 @@
 // What each token of a statement is.
-ghost use Rattle.std.specs.Prelude.{◌≡◌, ℕ, ◌+◌, ◌-◌, ◌*◌, ◌<◌, ◌≤◌, List, Option, IfSome, MatchOption, [], ◌∷◌, slice_index, drop};
+ghost use Rattle.std.specs.Prelude.{◌≡◌, ℕ, ◌+◌, ◌-◌, ◌*◌, ◌<◌, ◌≤◌, List, Option, IfSome, MatchOption, Some, None, [], ◌∷◌, slice_index, drop};
 ghost use Rattle.std.specs.Str.{bytes_eq};
-ghost use Rattle.v8_syntax.specs.Words.{beside, bytes_between, groups, small_number, register_named, specials, percent_word, name_kind, word_of, words_of};
+ghost use Rattle.v8_syntax.specs.Statements.{name_first, beside, bytes_between, groups, small_number, register_named, specials, percent_word, name_kind, word_of, words_of};
 
 use sbx_text::{Kind, Token};
 use v8_forms::Special;
@@ -154,7 +154,7 @@ pub fn after_first<T>(items: &[T]) -> &[T]
 }
 
 /// What a token is.
-#[tactic(auto, unfolding(crate::specs::Words::word_of))]
+#[tactic(auto, unfolding(crate::specs::Statements::word_of))]
 pub fn word_of(line: &[u8], token: &Token) -> Word
     ensures { result ≡ word_of line.now token.now }
 {
@@ -164,6 +164,18 @@ pub fn word_of(line: &[u8], token: &Token) -> Word
         Kind::Percent => percent_word(after_first(bytes_between(line, start, stop))),
         Kind::Number(number) => Word::Number(number),
         Kind::Sign => Word::Sign(sign_byte(bytes_between(line, start, stop))),
+    }
+}
+
+/// The bytes of the name that comes first, and the tokens after it.
+#[tactic(auto, unfolding(crate::specs::Statements::word_of))]
+pub fn name_first<'l, 't>(line: &'l [u8], tokens: &'t [Token]) -> Option<(&'l [u8], &'t [Token])>
+    ensures { MatchOption result (name_first line.now (words_of line.now tokens.now) ≡ None) (λ x. name_first line.now (words_of line.now tokens.now) ≡ Some (x.0.now, words_of line.now x.1.now)) }
+{
+    let (first, rest) = tokens.split_first()?;
+    match first.kind {
+        Kind::Name => Some((bytes_between(line, first.start, first.stop), rest)),
+        _ => None,
     }
 }
 

@@ -1,6 +1,6 @@
 use Rattle.std.proofs.Common.{◌≡◌, ◌+◌, ◌*◌, length}
-use Rattle.v8_syntax.specs.Words.{words_of}
-use Rattle.sbx_directives.specs.Lines.{labels_first}
+use Rattle.v8_syntax.specs.Statements.{words_of}
+use Rattle.sbx_directives.specs.Directives.{labels_first}
 use Rattle.sbx_directives.proofs.label.label_count.Given as goal
 
 -- the labels so far, and those that follow

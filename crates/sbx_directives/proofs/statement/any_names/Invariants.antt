@@ -1,7 +1,6 @@
 use Rattle.std.proofs.Common.{◌≡◌, length}
 use Rattle.std.specs.List.{list_any}
-use Rattle.sbx_directives.specs.Operands.{behind}
-use Rattle.sbx_directives.specs.Directives.{names}
+use Rattle.sbx_directives.specs.Directives.{behind, names}
 use Rattle.sbx_directives.proofs.statement.any_names.Given as goal
 
 abbrev pub invariant-loop-operand : goal.invariant-loop-operand

@@ -1,7 +1,6 @@
 use Rattle.std.proofs.Common.{◌≡◌, length}
 use Rattle.std.specs.List.{list_all}
-use Rattle.sbx_directives.specs.Operands.{behind}
-use Rattle.sbx_directives.specs.Directives.{is_service}
+use Rattle.sbx_directives.specs.Directives.{behind, is_service}
 use Rattle.sbx_directives.proofs.statement.are_services.Given as goal
 
 abbrev pub invariant-loop-operand : goal.invariant-loop-operand

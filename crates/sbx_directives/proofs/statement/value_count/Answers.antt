@@ -1,5 +1,5 @@
 use Rattle.std.proofs.Common.{sym}
-use Rattle.sbx_directives.specs.Operands.{behind}
+use Rattle.sbx_directives.specs.Directives.{behind}
 use Rattle.sbx_directives.proofs.Counts.{stops, empty, ends}
 use Rattle.sbx_directives.proofs.statement.value_count.Goals as goal
 

@@ -1,7 +1,6 @@
 use Rattle.std.proofs.Common.{◌≡◌, ◌≤◌, ◌+◌, length}
 use Rattle.std.specs.List.{list_all}
-use Rattle.sbx_directives.specs.Operands.{behind}
-use Rattle.sbx_directives.specs.Directives.{is_expression}
+use Rattle.sbx_directives.specs.Directives.{behind, is_expression}
 use Rattle.sbx_directives.proofs.statement.value_count.Given as goal
 
 -- those so far are expressions, and there is a token for each

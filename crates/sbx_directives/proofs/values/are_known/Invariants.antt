@@ -1,6 +1,6 @@
 use Rattle.std.proofs.Common.{◌≡◌, length}
 use Rattle.std.specs.List.{list_all}
-use Rattle.sbx_directives.specs.Operands.{behind}
+use Rattle.sbx_directives.specs.Directives.{behind}
 use Rattle.sbx_directives.specs.Data.{is_known}
 use Rattle.sbx_directives.proofs.values.are_known.Given as goal
 

@@ -1,6 +1,6 @@
 use Rattle.std.proofs.Common.{◌≡◌, ◌++◌, length, take}
 use Rattle.std.specs.List.{flat_map}
-use Rattle.sbx_directives.specs.Operands.{behind}
+use Rattle.sbx_directives.specs.Directives.{behind}
 use Rattle.sbx_directives.specs.Data.{is_fit, bytes_of}
 use Rattle.sbx_directives.proofs.Appending.{goes_on, still_begins, longer, rest_fits, on_err}
 use Rattle.sbx_directives.proofs.values.push_all.Goals as goal

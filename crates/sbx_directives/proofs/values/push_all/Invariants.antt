@@ -1,6 +1,6 @@
 use Rattle.std.proofs.Common.{◌≡◌, ◌≤◌, ◌++◌, true, length}
 use Rattle.std.specs.List.{list_all, flat_map}
-use Rattle.sbx_directives.specs.Operands.{behind}
+use Rattle.sbx_directives.specs.Directives.{behind}
 use Rattle.sbx_directives.specs.Data.{is_fit, bytes_of}
 use Rattle.sbx_directives.proofs.values.push_all.Given as goal
 
