@@ -4,7 +4,7 @@ mod Walks
 mod Tables
 mod Names
 mod Copies
-mod Ahead
+mod Firsts
 mod Noting
 mod Wholes
 mod StatementWords

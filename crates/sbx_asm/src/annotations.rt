@@ -1,134 +1,98 @@
-//! What lines say of their source, of a function or of a block.
-ghost use Rattle.std.specs.Prelude.{◌≡◌, IfOk, pos};
+//! What lines say of a function, of a block or of the whole.
+ghost use Rattle.std.specs.Prelude.{◌≡◌, ◌*◌, IfOk};
 ghost use Rattle.std.specs.List.{flat_map, list_any};
-ghost use Rattle.sbx_asm.specs.Items.{services, stacks, params, results, depths, cells, fuels, terms, has, first_or, is_region};
+ghost use Rattle.sbx_asm.specs.Items.{services, stacks, params, results, depths, has, first_or, is_region};
+ghost use Rattle.sbx_asm.specs.Images.{block_with, version_with};
 
-use crate::growing::Growing;
 use crate::reading::Line;
 use sbx_directives::{Directive, Statement};
-use sbx_image::{Cell, Items, Range, Services, Term};
+use sbx_image::{Block, Items, Range, Services};
 use std::alloc::{AllocError, Global};
 
-/// Whether a line says a depth.
-pub fn have_depth(lines: &[Line<'_>]) -> bool
-    ensures { result ≡ list_any (has depths) lines.now }
-{
-    for line in lines {
-        if let Ok(Statement::Directive(Directive::Depth(_))) = line.said() {
-            return true;
-        }
-    }
-    false
+/// The ranges of a function's parameters and results, and its depth.
+#[derive(Drop)]
+pub struct Signature {
+    pub params: Items<Range>,
+    pub results: Items<Range>,
+    pub depth: u16,
 }
 
-/// Whether a region begins.
-pub fn have_region(lines: &[Line<'_>]) -> bool
-    ensures { result ≡ list_any is_region lines.now }
-{
-    for line in lines {
-        if let Ok(Statement::Directive(Directive::Region { .. })) = line.said() {
-            return true;
-        }
-    }
-    false
+/// What is said of the whole.
+#[derive(Drop)]
+pub struct Heading {
+    pub version: u16,
+    pub services: Services,
+    pub stack_pages: u16,
 }
 
-/// The services that are said first, or none.
-pub fn services_of(lines: &[Line<'_>]) -> Services
-    ensures { result ≡ first_or (record { 0 = 0 }) (flat_map services lines.now) }
+/// The signature that some lines say. Without a depth it is 0; of several the first counts.
+pub fn signature_of(alloc: Global, lines: &[Line<'_>]) -> Result<Signature, AllocError>
+    ensures { IfOk result (λ found. (found.params ≡ flat_map params lines.now) × (found.results ≡ flat_map results lines.now) × (found.depth ≡ first_or 0 (flat_map depths lines.now))) }
 {
+    let mut params = Vec::new(alloc);
+    let mut results = Vec::new(alloc);
+    let mut depth = None;
     for line in lines {
-        if let Ok(Statement::Directive(Directive::Services(services))) = line.said() {
-            return services;
+        match line.said() {
+            Ok(Statement::Directive(Directive::Param(range))) => params.push(range)?,
+            Ok(Statement::Directive(Directive::Result(range))) => results.push(range)?,
+            Ok(Statement::Directive(Directive::Depth(said))) => depth = depth.or(Some(said)),
+            _ => {}
         }
     }
-    Services(0)
+    Ok(Signature {
+        params: Items::new(params),
+        results: Items::new(results),
+        depth: depth.unwrap_or(0),
+    })
 }
 
-/// The pages of stack that are said first, or one.
-pub fn stack_of(lines: &[Line<'_>]) -> u16
-    ensures { result ≡ first_or 1 (flat_map stacks lines.now) }
+/// The block that begins at an address and has some lines. Without a fuel it is 0; of several the first counts.
+pub fn block_with(alloc: Global, address: u32, lines: &[Line<'_>]) -> Result<Block, AllocError>
+    ensures { IfOk result (λ block. block ≡ block_with address lines.now) }
 {
+    let mut fuel = None;
+    let mut cells = Vec::new(alloc);
+    let mut terms = Vec::new(alloc);
     for line in lines {
-        if let Ok(Statement::Directive(Directive::Stack(pages))) = line.said() {
-            return pages;
+        match line.said() {
+            Ok(Statement::Directive(Directive::Fuel(said))) => fuel = fuel.or(Some(said)),
+            Ok(Statement::Directive(Directive::Cell(cell))) => cells.push(cell)?,
+            Ok(Statement::Directive(Directive::Term(term))) => terms.push(term)?,
+            _ => {}
         }
     }
-    1
+    Ok(Block {
+        address,
+        fuel: fuel.unwrap_or(0),
+        cells: Items::new(cells),
+        terms: Items::new(terms),
+    })
 }
 
-/// The depth that is said first, or 0.
-pub fn depth_of(lines: &[Line<'_>]) -> u16
-    ensures { result ≡ first_or 0 (flat_map depths lines.now) }
+/// The services and the pages of stack that are said first, and the version of the image format: the one that has depths or, else,
+/// regions, where there are some.
+#[tactic(auto, using(crate::proofs::Firsts::with_depths, crate::proofs::Firsts::with_regions))]
+pub fn heading_of(lines: &[Line<'_>]) -> Heading
+    ensures { (result.version ≡ version_with (list_any (has depths) lines.now) (list_any is_region lines.now)) × (result.services ≡ first_or (record { 0 = 0 }) (flat_map services lines.now)) × (result.stack_pages ≡ first_or 1 (flat_map stacks lines.now)) }
 {
+    let mut version = 1;
+    let mut services = None;
+    let mut stack = None;
     for line in lines {
-        if let Ok(Statement::Directive(Directive::Depth(depth))) = line.said() {
-            return depth;
+        match line.said() {
+            Ok(Statement::Directive(Directive::Depth(_))) => version = 3,
+            Ok(Statement::Directive(Directive::Region { .. })) => version = version.max(2),
+            Ok(Statement::Directive(Directive::Services(said))) => services = services.or(Some(
+                said,
+            )),
+            Ok(Statement::Directive(Directive::Stack(pages))) => stack = stack.or(Some(pages)),
+            _ => {}
         }
     }
-    0
-}
-
-/// The fuel that is said first, or 0.
-pub fn fuel_of(lines: &[Line<'_>]) -> i64
-    ensures { result ≡ first_or (pos 0) (flat_map fuels lines.now) }
-{
-    for line in lines {
-        if let Ok(Statement::Directive(Directive::Fuel(fuel))) = line.said() {
-            return fuel;
-        }
+    Heading {
+        version,
+        services: services.unwrap_or(Services(0)),
+        stack_pages: stack.unwrap_or(1),
     }
-    0
-}
-
-/// The ranges of the parameters.
-pub fn params_of(alloc: Global, lines: &[Line<'_>]) -> Result<Items<Range>, AllocError>
-    ensures { IfOk result (λ found. found ≡ flat_map params lines.now) }
-{
-    let mut found = Growing::new(alloc);
-    for line in lines {
-        if let Ok(Statement::Directive(Directive::Param(range))) = line.said() {
-            found.push(range)?;
-        }
-    }
-    Ok(found.into_items())
-}
-
-/// The ranges of the results.
-pub fn results_of(alloc: Global, lines: &[Line<'_>]) -> Result<Items<Range>, AllocError>
-    ensures { IfOk result (λ found. found ≡ flat_map results lines.now) }
-{
-    let mut found = Growing::new(alloc);
-    for line in lines {
-        if let Ok(Statement::Directive(Directive::Result(range))) = line.said() {
-            found.push(range)?;
-        }
-    }
-    Ok(found.into_items())
-}
-
-/// The cells.
-pub fn cells_of(alloc: Global, lines: &[Line<'_>]) -> Result<Items<Cell>, AllocError>
-    ensures { IfOk result (λ found. found ≡ flat_map cells lines.now) }
-{
-    let mut found = Growing::new(alloc);
-    for line in lines {
-        if let Ok(Statement::Directive(Directive::Cell(cell))) = line.said() {
-            found.push(cell)?;
-        }
-    }
-    Ok(found.into_items())
-}
-
-/// The terms of the fuel.
-pub fn terms_of(alloc: Global, lines: &[Line<'_>]) -> Result<Items<Term>, AllocError>
-    ensures { IfOk result (λ found. found ≡ flat_map terms lines.now) }
-{
-    let mut found = Growing::new(alloc);
-    for line in lines {
-        if let Ok(Statement::Directive(Directive::Term(term))) = line.said() {
-            found.push(term)?;
-        }
-    }
-    Ok(found.into_items())
 }

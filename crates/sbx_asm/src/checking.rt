@@ -10,7 +10,6 @@ ghost use Rattle.sbx_asm.specs.Contexts.{context_at};
 
 use crate::context::Context;
 use crate::fault::{AsmFault, Cause};
-use crate::growing::Growing;
 use crate::kinds::{ends_block, has_bytes, is_region, is_text};
 use crate::notes::Notes;
 use crate::operands::{acts, push_words, value_fault};
@@ -25,7 +24,7 @@ const LINES: usize = 1_000_000;
 #[derive(Drop)]
 pub struct Checked {
     pub fault: Option<AsmFault>,
-    pub words: Growing<u32>,
+    pub words: Vec<u32>,
 }
 
 /// Whether a region has bytes in some lines, up to a `.text` or another one.
@@ -75,11 +74,7 @@ fn is_idle_block(
 ) -> Result<bool, AllocError>
     ensures { IfOk result (λ idle. (before : List Item) → context ≡ context_at (worth table.now) before → idle ≡ (begins_block before line.now && not (list_any (acts (worth table.now)) (up_to ends_block behind.now)))) }
 {
-    if context.begins_block(line) {
-        Ok(!any_acts(alloc, table, behind)?)
-    } else {
-        Ok(false)
-    }
+    Ok(context.begins_block(line) && !any_acts(alloc, table, behind)?)
 }
 
 impl Checked {
@@ -95,7 +90,7 @@ impl Checked {
         ensures { IfOk result (λ is_acting. (before : List Item) → context ≡ context_at (worth table.now) before
             → (is_acting ≡ acts (worth table.now) line.now)
             × (self.new.fault ≡ fold told self.old.fault (faults_at (worth table.now) before line.now behind.now))
-            × (self.new.words ≡ self.old.words ++ words_at (worth table.now) before line.now behind.now)) }
+            × (self.new.words.items ≡ self.old.words.items ++ words_at (worth table.now) before line.now behind.now)) }
     {
         let value_fault = value_fault(alloc, table, line)?;
         let here = context.place.next_word;
@@ -123,11 +118,11 @@ pub fn check(
     told_before: Option<AsmFault>,
     lines: &[Line<'_>],
 ) -> Result<Checked, AllocError>
-    ensures { IfOk result (λ c. (c.fault ≡ fold told told_before (each (faults_at (worth table.now)) [] lines.now)) × (c.words ≡ each (words_at (worth table.now)) [] lines.now)) }
+    ensures { IfOk result (λ c. (c.fault ≡ fold told told_before (each (faults_at (worth table.now)) [] lines.now)) × (c.words.items ≡ each (words_at (worth table.now)) [] lines.now)) }
 {
     let mut checked = Checked {
         fault: told_before,
-        words: Growing::new(alloc),
+        words: Vec::new(alloc),
     };
     let mut context = Context::start();
     for index in 0..lines.len() {

@@ -1,40 +1,47 @@
 //! The data of lines without faults, a region of its own lines.
-ghost use Rattle.std.specs.Prelude.{◌≡◌, ◌++◌, [], ◌∷◌, List, IfOk, true, Bool};
+ghost use Rattle.std.specs.Prelude.{◌≡◌, ◌++◌, [], ◌∷◌, List, IfOk, true, replicate};
 ghost use Rattle.sbx_asm.specs.Tables.{worth};
 ghost use Rattle.sbx_asm.specs.Items.{Item, each, up_to, is_region};
 ghost use Rattle.sbx_asm.specs.Addresses.{place_at};
 ghost use Rattle.sbx_asm.specs.Images.{filled, region_with, bytes_at, region_at, regions_of};
 
-use crate::growing::Growing;
+use crate::operands::push_line_values;
 use crate::own::up_to_region;
 use crate::place::{Place, padding};
 use crate::reading::Line;
-use crate::scope::Scope;
 use crate::table::Table;
-use sbx_directives::{DataFault, Directive, Statement};
+use sbx_directives::{Directive, Statement};
 use sbx_image::{Items, Region};
 use std::alloc::{AllocError, Global};
 
+/// Adds so many zeros.
+#[tactic(auto, using(crate::proofs::Copies::one_more))]
+fn push_zeros(bytes: &mut Vec<u8>, count: u64) -> Result<(), AllocError>
+    ensures { IfOk result (λ _. bytes.new.items ≡ bytes.old.items ++ replicate count 0) }
+{
+    for _ in 0..count {
+        bytes.push(0)?;
+    }
+    Ok(())
+}
+
 /// Adds the bytes of a line at a place; none where its values have a fault.
 fn push_bytes(
-    bytes: &mut Growing<u8>,
+    bytes: &mut Vec<u8>,
     table: &Table<'_>,
     line: &Line<'_>,
     place: Place,
 ) -> Result<(), AllocError>
-    ensures { IfOk result (λ _. (before after : List Item) → place ≡ place_at before → bytes.new ≡ bytes.old ++ bytes_at (worth table.now) before line.now after) }
+    ensures { IfOk result (λ _. (before after : List Item) → place ≡ place_at before → bytes.new.items ≡ bytes.old.items ++ bytes_at (worth table.now) before line.now after) }
 {
     match line.said() {
         Ok(Statement::Directive(Directive::Values(width, _))) => {
-            let scope = Scope { table, here: 0 };
-            match bytes.push_values(width, &scope, line.bytes(), line.tokens()) {
-                Ok(()) | Err(DataFault::UnknownSymbol | DataFault::Malformed) => Ok(()),
-                Err(DataFault::Memory(want)) => Err(AllocError::from(want)),
-            }
+            push_line_values(bytes, table, width, line)?;
+            Ok(())
         }
-        Ok(Statement::Directive(Directive::Skip(count))) => bytes.push_copies(count as usize, 0),
+        Ok(Statement::Directive(Directive::Skip(count))) => push_zeros(bytes, count),
         Ok(Statement::Directive(Directive::Align(unit))) => {
-            bytes.push_copies(padding(unit, place.region_bytes) as usize, 0)
+            push_zeros(bytes, u64::from(padding(unit, place.region_bytes)))
         }
         _ => Ok(()),
     }
@@ -46,10 +53,10 @@ fn bytes_of(
     table: &Table<'_>,
     place: Place,
     own: &[Line<'_>],
-) -> Result<Growing<u8>, AllocError>
-    ensures { IfOk result (λ bytes. (before : List Item) → place ≡ place_at before → bytes ≡ each (bytes_at (worth table.now)) before own.now) }
+) -> Result<Vec<u8>, AllocError>
+    ensures { IfOk result (λ bytes. (before : List Item) → place ≡ place_at before → bytes.items ≡ each (bytes_at (worth table.now)) before own.now) }
 {
-    let mut bytes = Growing::new(alloc);
+    let mut bytes = Vec::new(alloc);
     let mut here = place;
     for (at, line) in own.iter().enumerate() {
         push_bytes(&mut bytes, table, line, here)?;
@@ -59,29 +66,29 @@ fn bytes_of(
 }
 
 /// Zeros up to a multiple of 8.
-fn fill(bytes: &mut Growing<u8>) -> Result<(), AllocError>
-    ensures { IfOk result (λ _. bytes.new ≡ filled bytes.old) }
+fn fill(bytes: &mut Vec<u8>) -> Result<(), AllocError>
+    ensures { IfOk result (λ _. bytes.new.items ≡ filled bytes.old.items) }
 {
     let count = (8 - bytes.len() % 8) % 8;
-    bytes.push_copies(count, 0)
+    push_zeros(bytes, count as u64)
 }
 
 /// Adds the region of some lines, the first of them at a place, if they have bytes.
 fn push_own(
-    regions: &mut Growing<Region>,
+    regions: &mut Vec<Region>,
     alloc: Global,
     table: &Table<'_>,
     writable: bool,
     place: Place,
     own: &[Line<'_>],
 ) -> Result<(), AllocError>
-    ensures { IfOk result (λ _. (before : List Item) → place ≡ place_at before → regions.new ≡ regions.old ++ region_with writable (filled (each (bytes_at (worth table.now)) before own.now))) }
+    ensures { IfOk result (λ _. (before : List Item) → place ≡ place_at before → regions.new.items ≡ regions.old.items ++ region_with writable (filled (each (bytes_at (worth table.now)) before own.now))) }
 {
     let mut bytes = bytes_of(alloc, table, place, own)?;
     fill(&mut bytes)?;
     if bytes.len() > 0 {
         regions.push(Region {
-            bytes: bytes.into_items(),
+            bytes: Items::new(bytes),
             writable,
         })?;
     }
@@ -90,14 +97,14 @@ fn push_own(
 
 /// Adds the region that a line begins, if it is a `.region`; `place` is the one behind it.
 fn push_region(
-    regions: &mut Growing<Region>,
+    regions: &mut Vec<Region>,
     alloc: Global,
     table: &Table<'_>,
     line: &Line<'_>,
     place: Place,
     after: &[Line<'_>],
 ) -> Result<(), AllocError>
-    ensures { IfOk result (λ _. (before : List Item) → place ≡ place_at (line.now ∷ before) → regions.new ≡ regions.old ++ region_at (worth table.now) before line.now after.now) }
+    ensures { IfOk result (λ _. (before : List Item) → place ≡ place_at (line.now ∷ before) → regions.new.items ≡ regions.old.items ++ region_at (worth table.now) before line.now after.now) }
 {
     match line.said() {
         Ok(Statement::Directive(Directive::Region { writable })) => {
@@ -115,12 +122,12 @@ pub fn regions_of(
 ) -> Result<Items<Region>, AllocError>
     ensures { IfOk result (λ regions. regions ≡ regions_of (worth table.now) lines.now) }
 {
-    let mut regions = Growing::new(alloc);
+    let mut regions = Vec::new(alloc);
     let mut here = Place::start();
     push_own(&mut regions, alloc, table, true, here, up_to_region(lines))?;
     for (at, line) in lines.iter().enumerate() {
         here = here.after(line);
         push_region(&mut regions, alloc, table, line, here, &lines[at + 1..])?;
     }
-    Ok(regions.into_items())
+    Ok(Items::new(regions))
 }

@@ -4,8 +4,7 @@ ghost use Rattle.sbx_asm.specs.Items.{Item, each, up_to, ends_block};
 ghost use Rattle.sbx_asm.specs.Addresses.{code_address, place_at};
 ghost use Rattle.sbx_asm.specs.Images.{block_with, block_at, function_at};
 
-use crate::annotations::{cells_of, depth_of, fuel_of, params_of, results_of, terms_of};
-use crate::growing::Growing;
+use crate::annotations::{block_with, signature_of};
 use crate::own::{up_to_block, up_to_function};
 use crate::place::Place;
 use crate::reading::Line;
@@ -13,27 +12,15 @@ use sbx_directives::{Directive, Statement};
 use sbx_image::{Block, Function, Items};
 use std::alloc::{AllocError, Global};
 
-/// The block that begins at an address and has some lines.
-fn block_with(alloc: Global, address: u32, own: &[Line<'_>]) -> Result<Block, AllocError>
-    ensures { IfOk result (λ block. block ≡ block_with address own.now) }
-{
-    Ok(Block {
-        address,
-        fuel: fuel_of(own),
-        cells: cells_of(alloc, own)?,
-        terms: terms_of(alloc, own)?,
-    })
-}
-
 /// Adds the block that a line begins at a place, if it is a `.block`.
 fn push_block(
-    blocks: &mut Growing<Block>,
+    blocks: &mut Vec<Block>,
     alloc: Global,
     line: &Line<'_>,
     place: Place,
     after: &[Line<'_>],
 ) -> Result<(), AllocError>
-    ensures { IfOk result (λ _. (before : List Item) → place ≡ place_at before → blocks.new ≡ blocks.old ++ block_at before line.now after.now) }
+    ensures { IfOk result (λ _. (before : List Item) → place ≡ place_at before → blocks.new.items ≡ blocks.old.items ++ block_at before line.now after.now) }
 {
     if let Ok(Statement::Directive(Directive::Block(_))) = line.said() {
         blocks.push(block_with(alloc, place.next_word, up_to_block(after))?)?;
@@ -50,25 +37,25 @@ fn blocks_of(
 ) -> Result<Items<Block>, AllocError>
     ensures { IfOk result (λ blocks. (before : List Item) → place ≡ place_at before → blocks ≡ block_with (code_address before) (up_to ends_block own.now) ∷ each block_at (first.now ∷ before) own.now) }
 {
-    let mut blocks = Growing::new(alloc);
+    let mut blocks = Vec::new(alloc);
     blocks.push(block_with(alloc, place.next_word, up_to_block(own))?)?;
     let mut here = place.after(first);
     for (at, line) in own.iter().enumerate() {
         push_block(&mut blocks, alloc, line, here, &own[at + 1..])?;
         here = here.after(line);
     }
-    Ok(blocks.into_items())
+    Ok(Items::new(blocks))
 }
 
 /// Adds the function that a line begins at a place, if it is a `.function`.
 fn push_function(
-    functions: &mut Growing<Function>,
+    functions: &mut Vec<Function>,
     alloc: Global,
     line: &Line<'_>,
     place: Place,
     after: &[Line<'_>],
 ) -> Result<(), AllocError>
-    ensures { IfOk result (λ _. (before : List Item) → place ≡ place_at before → functions.new ≡ functions.old ++ function_at before line.now after.now) }
+    ensures { IfOk result (λ _. (before : List Item) → place ≡ place_at before → functions.new.items ≡ functions.old.items ++ function_at before line.now after.now) }
 {
     if let Ok(
         Statement::Directive(
@@ -83,15 +70,16 @@ fn push_function(
     ) = line.said()
     {
         let own = up_to_function(after);
+        let signature = signature_of(alloc, own)?;
         functions.push(Function {
             kind,
-            params: params_of(alloc, own)?,
-            results: results_of(alloc, own)?,
+            params: signature.params,
+            results: signature.results,
             entry: place.next_word,
             frame,
             stack_room,
             budget,
-            depth: depth_of(own),
+            depth: signature.depth,
             blocks: blocks_of(alloc, line, place, own)?,
         })?;
     }
@@ -102,11 +90,11 @@ fn push_function(
 pub fn functions_of(alloc: Global, lines: &[Line<'_>]) -> Result<Items<Function>, AllocError>
     ensures { IfOk result (λ functions. functions ≡ each function_at [] lines.now) }
 {
-    let mut functions = Growing::new(alloc);
+    let mut functions = Vec::new(alloc);
     let mut here = Place::start();
     for (at, line) in lines.iter().enumerate() {
         push_function(&mut functions, alloc, line, here, &lines[at + 1..])?;
         here = here.after(line);
     }
-    Ok(functions.into_items())
+    Ok(Items::new(functions))
 }

@@ -9,32 +9,27 @@ use sbx_directives::{Directive, Keyword, Statement};
 pub fn starts_function(line: &Line<'_>) -> bool
     ensures { result ≡ starts_function line.now }
 {
-    match line.said() {
-        Ok(Statement::Directive(Directive::Function { .. })) => true,
-        _ => false,
-    }
+    matches!(
+        line.said(),
+        Ok(Statement::Directive(Directive::Function { .. }))
+    )
 }
 
 /// A `.function`, whatever its operands: it ends the function before it.
 pub fn ends_function(line: &Line<'_>) -> bool
     ensures { result ≡ ends_function line.now }
 {
-    match line.said() {
-        Ok(Statement::Directive(Directive::Function { .. })) => true,
-        Ok(Statement::Malformed(Keyword::Function, _)) => true,
-        _ => false,
-    }
+    starts_function(line) || matches!(line.said(), Ok(Statement::Malformed(Keyword::Function, _)))
 }
 
 /// A `.block`, whatever its operands.
 pub fn is_block(line: &Line<'_>) -> bool
     ensures { result ≡ is_block line.now }
 {
-    match line.said() {
-        Ok(Statement::Directive(Directive::Block(_))) => true,
-        Ok(Statement::Malformed(Keyword::Block, _)) => true,
-        _ => false,
-    }
+    matches!(
+        line.said(),
+        Ok(Statement::Directive(Directive::Block(_)) | Statement::Malformed(Keyword::Block, _))
+    )
 }
 
 /// A block ends where another one or a function begins.
@@ -48,30 +43,24 @@ pub fn ends_block(line: &Line<'_>) -> bool
 pub fn is_text(line: &Line<'_>) -> bool
     ensures { result ≡ is_text line.now }
 {
-    match line.said() {
-        Ok(Statement::Directive(Directive::Text)) => true,
-        _ => false,
-    }
+    matches!(line.said(), Ok(Statement::Directive(Directive::Text)))
 }
 
 /// A `.data`.
 pub fn is_data(line: &Line<'_>) -> bool
     ensures { result ≡ is_data line.now }
 {
-    match line.said() {
-        Ok(Statement::Directive(Directive::Data)) => true,
-        _ => false,
-    }
+    matches!(line.said(), Ok(Statement::Directive(Directive::Data)))
 }
 
 /// A `.region`.
 pub fn is_region(line: &Line<'_>) -> bool
     ensures { result ≡ is_region line.now }
 {
-    match line.said() {
-        Ok(Statement::Directive(Directive::Region { .. })) => true,
-        _ => false,
-    }
+    matches!(
+        line.said(),
+        Ok(Statement::Directive(Directive::Region { .. }))
+    )
 }
 
 /// A list of values, or zeros; at the start of a region `.align` gives none.

@@ -9,7 +9,6 @@ mod data;
 mod fault;
 mod finish;
 mod functions;
-mod growing;
 mod kinds;
 pub mod laws;
 mod lines;

@@ -1,6 +1,8 @@
 //! What the operands of a line mean.
 ghost use Rattle.std.specs.Prelude.{◌≡◌, ◌++◌, [], IfOk, List, map};
+ghost use Rattle.std.specs.Result.{result_err, result_unwrap_or};
 ghost use Rattle.v8_formats.specs.Spelling.{spelling};
+ghost use Rattle.sbx_directives.specs.Data.{data_of};
 ghost use Rattle.sbx_asm.specs.Items.{Item};
 ghost use Rattle.sbx_asm.specs.Addresses.{code_address};
 ghost use Rattle.sbx_asm.specs.Rules.{Values, acts};
@@ -8,14 +10,31 @@ ghost use Rattle.sbx_asm.specs.Images.{words_at};
 ghost use Rattle.sbx_asm.specs.Tables.{worth};
 ghost use Rattle.sbx_asm.specs.Contexts.{value_fault_of, syntax_fault_of};
 
-use crate::growing::Growing;
 use crate::reading::Line;
 use crate::scope::Scope;
 use crate::table::Table;
-use sbx_directives::{DataFault, Directive, Statement};
+use sbx_directives::{DataFault, Directive, Statement, Width, push_values};
 use std::alloc::{AllocError, Global};
 use v8_formats::{Instr, encode};
 use v8_syntax::{SyntaxFault, parse_instr};
+
+/// Adds the bytes of a line's values of a width, or tells why they have none.
+pub fn push_line_values(
+    bytes: &mut Vec<u8>,
+    table: &Table<'_>,
+    width: Width,
+    line: &Line<'_>,
+) -> Result<Option<DataFault>, AllocError>
+    ensures fault { IfOk result (λ fault. fault ≡ result_err (data_of (worth table.now) line.now.bytes width line.now.tokens)) }
+    ensures bytes { IfOk result (λ _. bytes.new.items ≡ bytes.old.items ++ result_unwrap_or (data_of (worth table.now) line.now.bytes width line.now.tokens) []) }
+{
+    let scope = Scope { table, here: 0 };
+    match push_values(width, &scope, line.bytes(), line.tokens(), bytes) {
+        Ok(()) => Ok(None),
+        Err(DataFault::Memory(want)) => Err(AllocError::from(want)),
+        Err(fault) => Ok(Some(fault)),
+    }
+}
 
 /// Why the values of a line have no bytes, where it has values and they have none.
 pub fn value_fault(
@@ -25,18 +44,12 @@ pub fn value_fault(
 ) -> Result<Option<DataFault>, AllocError>
     ensures { IfOk result (λ fault. fault ≡ value_fault_of (worth table.now) line.now) }
 {
-    let width = match line.said() {
-        Ok(Statement::Directive(Directive::Values(width, _))) => width,
-        _ => return Ok(None),
-    };
-    let tokens = line.tokens();
-    let scope = Scope { table, here: 0 };
-    let mut bytes = Growing::new(alloc);
-    match bytes.push_values(width, &scope, line.bytes(), tokens) {
-        Ok(()) => Ok(None),
-        Err(DataFault::UnknownSymbol) => Ok(Some(DataFault::UnknownSymbol)),
-        Err(DataFault::Malformed) => Ok(Some(DataFault::Malformed)),
-        Err(DataFault::Memory(want)) => Err(AllocError::from(want)),
+    match line.said() {
+        Ok(Statement::Directive(Directive::Values(width, _))) => {
+            let mut bytes = Vec::new(alloc);
+            push_line_values(&mut bytes, table, width, line)
+        }
+        _ => Ok(None),
     }
 }
 
@@ -44,20 +57,13 @@ pub fn value_fault(
 pub fn acts(line: &Line<'_>, fault: Option<DataFault>) -> bool
     ensures { (values : Values) → fault ≡ value_fault_of values line.now → result ≡ acts values line.now }
 {
-    match line.said() {
-        Err(_) => true,
-        Ok(Statement::Instruction) => true,
-        Ok(Statement::Directive(Directive::Values(..))) => match fault {
-            Some(DataFault::UnknownSymbol) => true,
-            _ => false,
-        },
-        _ => false,
-    }
+    matches!(line.said(), Err(_) | Ok(Statement::Instruction))
+        || matches!(fault, Some(DataFault::UnknownSymbol))
 }
 
 /// Adds the words of some instructions.
-fn push_spelled(words: &mut Growing<u32>, instructions: &[Instr]) -> Result<(), AllocError>
-    ensures { IfOk result (λ _. words.new ≡ words.old ++ map spelling instructions.now) }
+fn push_spelled(words: &mut Vec<u32>, instructions: &[Instr]) -> Result<(), AllocError>
+    ensures { IfOk result (λ _. words.new.items ≡ words.old.items ++ map spelling instructions.now) }
 {
     for instruction in instructions {
         words.push(encode(instruction))?;
@@ -67,13 +73,13 @@ fn push_spelled(words: &mut Growing<u32>, instructions: &[Instr]) -> Result<(), 
 
 /// Adds the words of a line at an address, if it is an instruction, or tells why it has none.
 pub fn push_words(
-    words: &mut Growing<u32>,
+    words: &mut Vec<u32>,
     alloc: Global,
     table: &Table<'_>,
     here: u32,
     line: &Line<'_>,
 ) -> Result<Option<SyntaxFault>, AllocError>
-    ensures { IfOk result (λ fault. (before after : List Item) → here ≡ code_address before → (fault ≡ syntax_fault_of (worth table.now) before line.now) × (words.new ≡ words.old ++ words_at (worth table.now) before line.now after)) }
+    ensures { IfOk result (λ fault. (before after : List Item) → here ≡ code_address before → (fault ≡ syntax_fault_of (worth table.now) before line.now) × (words.new.items ≡ words.old.items ++ words_at (worth table.now) before line.now after)) }
 {
     match line.said() {
         Ok(Statement::Instruction) => {

@@ -7,7 +7,6 @@ ghost use Rattle.sbx_asm.specs.Lines.{lines_of};
 ghost use Rattle.sbx_asm.specs.Items.{item_of, items_of};
 ghost use Rattle.sbx_asm.specs.Reads.{Adds, Keeps, count_of, own};
 
-use crate::growing::Growing;
 use crate::lines::first_line;
 use crate::reading::Line;
 use sbx_text::{TextFault, Token, push_tokens};
@@ -132,11 +131,11 @@ impl<'a> Text<'a> {
     }
 
     /// Its lines.
-    pub fn lines(&self, alloc: Global) -> Result<Growing<Line<'_>>, AllocError>
-        ensures { IfOk result (λ lines. lines ≡ items_of self.now) }
+    pub fn lines(&self, alloc: Global) -> Result<Vec<Line<'_>>, AllocError>
+        ensures { IfOk result (λ lines. lines.items ≡ items_of self.now) }
     {
         let found = self.kept.found.as_slice();
-        let mut lines = Growing::new(alloc);
+        let mut lines = Vec::new(alloc);
         let mut rest = self.source;
         let mut tokens = self.kept.tokens.as_slice();
         for index in 0..found.len() {

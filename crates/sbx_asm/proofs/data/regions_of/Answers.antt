@@ -10,5 +10,5 @@ loop-at-preserved c =
     let here = c.after-here.ensures so_far.0 so_far.1 in (
       c.index-lines-at.result ∷ so_far.0,
       here,
-      one_more (region_at (worth c.args.table.now)) c.loop-at.regions c.push_region.new.regions (regions_of (worth c.args.table.now) c.args.lines.now) so_far.0 c.args.lines.now c.loop-at.at c.index-lines-at.result _ c.loop-at-test.true c.index-lines-at.is (rest_is c.args.lines.now (c.loop-at.at + 1)) (c.in_ok-push_region.ensures so_far.0 here) so_far.2,
+      one_more (region_at (worth c.args.table.now)) c.loop-at.regions.items c.push_region.new.regions.items (regions_of (worth c.args.table.now) c.args.lines.now) so_far.0 c.args.lines.now c.loop-at.at c.index-lines-at.result _ c.loop-at-test.true c.index-lines-at.is (rest_is c.args.lines.now (c.loop-at.at + 1)) (c.in_ok-push_region.ensures so_far.0 here) so_far.2,
     )

@@ -27,12 +27,12 @@ loop-index-preserved c =
           (other_lines c.as_slice-found.result.now c.loop-index.index this c.loop-index.tokens.now c.loop-index.rest.now is c.loop-index.invariant.read c.first_line.result.0.now c.first_line.result.1.now c.first_line.ensures.lines);
       counts = rw c.behind-tokens.ensures (counts_left c.as_slice-found.result.now c.loop-index.index this c.loop-index.tokens.now is c.loop-index.invariant.counts).1;
       meant = rw (
-        c.in_ok-push.ensures,
+        c.in_ok-push.ensures.items,
         c.in_ok-line.ensures
             (own_line c.as_slice-found.result.now c.loop-index.index this c.loop-index.tokens.now c.loop-index.rest.now is c.loop-index.invariant.read c.first_line.result.0.now c.first_line.result.1.now c.first_line.ensures.lines),
       )
-          (next_item c.loop-index.lines (items_of c.args.self.now) c.loop-index.index c.loop-index.rest.now c.loop-index.invariant.meant c.first_line.result.0.now c.first_line.result.1.now c.first_line.ensures.lines);
+          (next_item c.loop-index.lines.items (items_of c.args.self.now) c.loop-index.index c.loop-index.rest.now c.loop-index.invariant.meant c.first_line.result.0.now c.first_line.result.1.now c.first_line.ensures.lines);
     }
 
 pub returns : goal.returns
-returns c = all_items c.loop-index.lines (items_of c.args.self.now) c.loop-index.index c.loop-index.rest.now c.loop-index.invariant.meant c.as_slice-found.result.now c.loop-index.tokens.now (omega arith) c.loop-index.invariant.read
+returns c = all_items c.loop-index.lines.items (items_of c.args.self.now) c.loop-index.index c.loop-index.rest.now c.loop-index.invariant.meant c.as_slice-found.result.now c.loop-index.tokens.now (omega arith) c.loop-index.invariant.read

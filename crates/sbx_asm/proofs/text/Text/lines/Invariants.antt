@@ -9,5 +9,5 @@ abbrev pub invariant-loop-index : goal.invariant-loop-index
 invariant-loop-index l = record {
   read : each_own (drop l.index l.found) l.tokens ≡ map tokens_of (lines_of l.rest);
   counts : counted (drop l.index l.found) ≡ length l.tokens;
-  meant : l.lines ++ map item_of (numbered l.index (lines_of l.rest)) ≡ items_of l.fn.self;
+  meant : l.lines.items ++ map item_of (numbered l.index (lines_of l.rest)) ≡ items_of l.fn.self;
 }

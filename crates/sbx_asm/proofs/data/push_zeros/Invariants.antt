@@ -1,6 +1,6 @@
 use Rattle.std.proofs.Common.{◌≡◌, ◌++◌}
 use Rattle.std.specs.Prelude.{replicate}
-use Rattle.sbx_asm.proofs.growing.Growing.push_copies.Given as goal
+use Rattle.sbx_asm.proofs.data.push_zeros.Given as goal
 
 abbrev pub invariant-loop : goal.invariant-loop
-invariant-loop g l = l.self ≡ l.fn.self ++ replicate l.counter l.item
+invariant-loop l = l.bytes.items ≡ l.fn.bytes.items ++ replicate l.counter 0

@@ -1,0 +1,26 @@
+-- What some lines say of the whole, of a function or of a block: what was found so far, and what is still to come.
+use Rattle.std.proofs.Common.{◌≡◌, ℕ, Bool, true, false, List, Option, None, Some, refl, arith}
+use Rattle.std.specs.Prelude.{max, if◌then◌else◌}
+use Rattle.sbx_asm.specs.Items.{first_or}
+
+-- the first of some values: the one that was found, else the first of the others
+abbrev pub first_of : {A : Type 0} → A → Option A → List A → A
+first_of default None xs = first_or default xs
+first_of default (Some x) xs = x
+
+-- the version, where it is known whether depths and regions are to come
+abbrev pub later : ℕ → Bool → Bool → ℕ
+later version depths regions = if depths then 3 else (if regions then max version 2 else version)
+
+max_again : (n : ℕ) → max (max n 2) 2 ≡ max n 2
+max_again n = grind arith
+
+pub with_depths : (d r : Bool) → later 3 d r ≡ 3
+with_depths true r = refl
+with_depths false true = refl
+with_depths false false = refl
+
+pub with_regions : (n : ℕ) (d r : Bool) → later (max n 2) d r ≡ later n d true
+with_regions n true r = refl
+with_regions n false true = max_again n
+with_regions n false false = refl
