@@ -10,3 +10,4 @@ pub mod Contexts
 pub mod Images
 pub mod Meaning
 pub mod Laws
+pub mod Regions

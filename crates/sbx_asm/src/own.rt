@@ -1,8 +1,8 @@
-//! The lines that belong to a function, to a block or to a region.
+//! The lines that belong to a function or to a block.
 ghost use Rattle.std.specs.Prelude.{◌≡◌};
-ghost use Rattle.sbx_asm.specs.Items.{up_to, ends_function, ends_block, is_region};
+ghost use Rattle.sbx_asm.specs.Items.{up_to, ends_function, ends_block};
 
-use crate::kinds::{ends_block, ends_function, is_region};
+use crate::kinds::{ends_block, ends_function};
 use crate::reading::Line;
 
 /// The lines up to the next `.function`.
@@ -23,18 +23,6 @@ pub fn up_to_block<'l, 'a>(lines: &'l [Line<'a>]) -> &'l [Line<'a>]
 {
     for (at, line) in lines.iter().enumerate() {
         if ends_block(line) {
-            return &lines[..at];
-        }
-    }
-    lines
-}
-
-/// The lines up to the next `.region`.
-pub fn up_to_region<'l, 'a>(lines: &'l [Line<'a>]) -> &'l [Line<'a>]
-    ensures { result.now ≡ up_to is_region lines.now }
-{
-    for (at, line) in lines.iter().enumerate() {
-        if is_region(line) {
             return &lines[..at];
         }
     }
