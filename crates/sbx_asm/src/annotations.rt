@@ -1,5 +1,5 @@
 //! What lines say of a function, of a block or of the whole.
-ghost use Rattle.std.specs.Prelude.{◌≡◌, ◌*◌, IfOk};
+ghost use Rattle.std.specs.Prelude.{◌≡◌, IfOk};
 ghost use Rattle.std.specs.List.{flat_map, list_any};
 ghost use Rattle.sbx_asm.specs.Items.{services, stacks, params, results, depths, has, first_or, is_region};
 ghost use Rattle.sbx_asm.specs.Images.{block_with, version_with};

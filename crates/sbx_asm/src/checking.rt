@@ -125,10 +125,8 @@ pub fn check(
         words: Vec::new(alloc),
     };
     let mut context = Context::start();
-    for index in 0..lines.len() {
-        let line = &lines[index];
-        let behind = &lines[index + 1..];
-        let is_acting = checked.add_line(alloc, table, context, line, behind)?;
+    for (at, line) in lines.iter().enumerate() {
+        let is_acting = checked.add_line(alloc, table, context, line, &lines[at + 1..])?;
         context = context.after(line, is_acting);
     }
     Ok(checked)

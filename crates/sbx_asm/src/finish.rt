@@ -1,6 +1,5 @@
 //! The image of parts, or why they are none.
-ghost use Rattle.std.specs.Prelude.{◌≡◌, ◌%◌, ◌-◌, length, nat_lt, None};
-ghost use Rattle.sbx_image.specs.Regions.{page_rights};
+ghost use Rattle.std.specs.Prelude.{◌≡◌, None};
 ghost use Rattle.sbx_asm.specs.Meaning.{judged, pass_pages, whole_cause};
 
 use crate::fault::{AsmFault, Cause};

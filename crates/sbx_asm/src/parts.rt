@@ -1,5 +1,5 @@
 //! The parts of an image, which lines without faults make.
-ghost use Rattle.std.specs.Prelude.{◌≡◌, [], List, IfOk};
+ghost use Rattle.std.specs.Prelude.{◌≡◌, [], IfOk};
 ghost use Rattle.sbx_asm.specs.Tables.{worth};
 ghost use Rattle.sbx_asm.specs.Items.{each};
 ghost use Rattle.sbx_asm.specs.Addresses.{values_of};

@@ -8,10 +8,10 @@ use Rattle.sbx_asm.specs.Tables.{worth}
 use Rattle.sbx_asm.specs.Contexts.{context_at}
 use Rattle.sbx_asm.proofs.checking.check.Given as goal
 
-abbrev pub invariant-loop-index : goal.invariant-loop-index
-invariant-loop-index l = record {
+abbrev pub invariant-loop-at : goal.invariant-loop-at
+invariant-loop-at l = record {
   before : List Item;
   context : l.context ≡ context_at (worth l.table) before;
-  faults : fold told l.checked.fault (each (faults_at (worth l.table)) before (drop l.index l.lines)) ≡ fold told l.fn.told_before (each (faults_at (worth l.table)) [] l.lines);
-  words : l.checked.words.items ++ each (words_at (worth l.table)) before (drop l.index l.lines) ≡ each (words_at (worth l.table)) [] l.lines;
+  faults : fold told l.checked.fault (each (faults_at (worth l.table)) before (drop l.at l.lines)) ≡ fold told l.fn.told_before (each (faults_at (worth l.table)) [] l.lines);
+  words : l.checked.words.items ++ each (words_at (worth l.table)) before (drop l.at l.lines) ≡ each (words_at (worth l.table)) [] l.lines;
 }
