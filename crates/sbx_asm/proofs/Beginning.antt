@@ -17,10 +17,10 @@ use Rattle.sbx_directives.specs.Data.{data_of, bytes_of_width}
 use Rattle.sbx_asm.specs.declared.place.Section.{Section}
 use Rattle.sbx_asm.specs.declared.place.Section.TheVariants.{Code, Data}
 use Rattle.sbx_asm.specs.declared.fault.Cause.TheVariants as causes
-use Rattle.sbx_asm.specs.Faults.{at}
-use Rattle.sbx_asm.specs.Items.{Item, Said, each, behind, up_to, count, is_region, is_data, has_bytes, is_text}
-use Rattle.sbx_asm.specs.Addresses.{data_length, section_room, data_offset, region_start, section_after, label_address, is_code}
-use Rattle.sbx_asm.specs.Rules.{Values, when, data_rules, value_rules, line_rules, faults_at}
+use Rattle.sbx_asm.specs.Rules.{at, Values, when, data_rules, value_rules, line_rules, faults_at}
+use Rattle.sbx_asm.specs.Items.{Item, Said, each, up_to, count, is_region, is_data, has_bytes, is_text}
+use Rattle.sbx_asm.proofs.Views.{behind}
+use Rattle.sbx_asm.specs.Addresses.{data_length, section_room, data_offset, region_start, label_address}
 use Rattle.sbx_asm.specs.Images.{filled, region_with, bytes_at, region_at}
 use Rattle.sbx_asm.specs.Laws.{RegionsBeginWhereLabelsSay}
 use Rattle.sbx_asm.proofs.Views.{item, leaves_region, address_in_section, another_region}

@@ -3,7 +3,7 @@ use Rattle.std.proofs.Common.{◌≡◌, ℕ, zero, suc, ◌+◌, ◌-◌, ◌<�
 use Rattle.std.specs.Prelude.{◌==◌, ◌&&◌, ◌≢◌, slice_index}
 use Rattle.std.proofs.lemmas.Bool.{eqb-true}
 use Rattle.std.proofs.lemmas.List.{take_all, length-drop}
-use Rattle.sbx_asm.specs.Lines.{starts_with, in_front, lines_of}
+use Rattle.sbx_asm.specs.Items.{in_front, lines_of}
 
 -- no LF at so many places
 abbrev pub IsClear : ℕ → List ℕ → Type 0

@@ -1,11 +1,10 @@
 -- What some lines say of the whole, of a function or of a block: what was found so far, and what is still to come.
 use Rattle.std.proofs.Common.{◌≡◌, ℕ, Bool, true, false, List, Option, None, Some, refl, arith}
 use Rattle.std.specs.Prelude.{max, if◌then◌else◌}
-use Rattle.sbx_asm.specs.Items.{first_or}
 
 -- the first of some values: the one that was found, else the first of the others
 abbrev pub first_of : {A : Type 0} → A → Option A → List A → A
-first_of default None xs = first_or default xs
+first_of default None xs = get_or xs 0 default
 first_of default (Some x) xs = x
 
 -- the version, where it is known whether depths and regions are to come

@@ -19,11 +19,10 @@ use Rattle.sbx_directives.specs.declared.directive.Statement.TheVariants as stat
 use Rattle.sbx_directives.specs.declared.fault.DataFault.{DataFault}
 use Rattle.sbx_directives.specs.Directives.{label_count}
 use Rattle.sbx_directives.specs.Data.{data_of}
-use Rattle.sbx_asm.specs.Items.{Item, Said, read_line, item_of, all_lines, items_of, each, up_to, is_region, ends_function, ends_block, services, params, results, depths, fuels, cells, terms, has, first_or}
+use Rattle.sbx_asm.specs.Items.{Item, Said, read_line, item_of, items_of, each, up_to, is_region, ends_function, ends_block, services, params, results, depths, fuels, cells, terms, has}
 use Rattle.sbx_asm.specs.Addresses.{padding_of, code_address, data_offset, values_of}
 use Rattle.sbx_asm.specs.Rules.{Values, faults_of, least_of}
-use Rattle.sbx_asm.specs.Images.{block_with, block_at, function_at, filled, region_with, words_at, bytes_at, region_at, regions_of, version_with, image_of}
-use Rattle.sbx_asm.specs.Meaning.{source_image}
+use Rattle.sbx_asm.specs.Images.{block_with, block_at, function_at, filled, region_with, words_at, bytes_at, region_at, regions_of, image_of, source_image}
 use Rattle.sbx_asm.specs.Laws.{MeantImagesFitTheirFields}
 use Rattle.sbx_asm.proofs.Views.{saying, words_meant, bytes_meant}
 use Rattle.sbx_asm.proofs.Wholes.{append_all, copies_all, map_all}
@@ -42,7 +41,7 @@ abbrev Fit : List Item → Type 0
 Fit is = AllByRecursion ItemFits is
 
 module _ {A : Type 0} (P : A → Type 0) where
-  first_fits : (default : A) (xs : List A) → P default → AllByRecursion P xs → P (first_or default xs)
+  first_fits : (default : A) (xs : List A) → P default → AllByRecursion P xs → P (get_or xs) 0 default
   first_fits default [] h k = h
   first_fits default (x ∷ xs) h k = k.0
 

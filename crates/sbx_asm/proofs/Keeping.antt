@@ -7,8 +7,8 @@ use Rattle.sbx_text.specs.declared.fault.TextFault.{TextFault}
 use Rattle.sbx_text.specs.Tokens.{tokens_of, in_front}
 use Rattle.sbx_asm.specs.declared.text.Found.{Found}
 use Rattle.sbx_asm.specs.declared.text.Found.TheVariants.{Tokens, Fault}
-use Rattle.sbx_asm.specs.Lines.{lines_of}
-use Rattle.sbx_asm.specs.Items.{Item, item_of, numbered}
+use Rattle.sbx_asm.specs.Items.{lines_of, Item, item_of}
+use Rattle.std.specs.List.{enumerate_from}
 use Rattle.sbx_asm.specs.Reads.{Adds, Keeps, count_of, own, each_own, counted}
 
 -- ---- one more line

@@ -17,12 +17,11 @@ use Rattle.sbx_asm.specs.declared.place.Section.{Section}
 use Rattle.sbx_asm.specs.declared.place.Section.TheVariants.{Code, Data}
 use Rattle.sbx_asm.specs.declared.fault.Cause.{Cause}
 use Rattle.sbx_asm.specs.declared.fault.Cause.TheVariants as causes
-use Rattle.sbx_asm.specs.Faults.{at}
-use Rattle.sbx_asm.specs.Items.{Item, items_of, Said, each, behind, up_to, count, is_region}
-use Rattle.sbx_asm.specs.Addresses.{data_length, padding_of, section_room, up_to_room, fits_behind, data_offset, last_start, start_behind, region_start, data_address, section_after, label_address, all_labels, values_of, is_code}
-use Rattle.sbx_asm.specs.Rules.{Values, duplicates, faults_of, least_of, when, data_rules, value_rules, line_rules, faults_at}
-use Rattle.sbx_asm.specs.Images.{filled, region_with, bytes_at, region_at, image_of}
-use Rattle.sbx_asm.specs.Meaning.{source_image}
+use Rattle.sbx_asm.specs.Rules.{at, Values, duplicates, faults_of, least_of, when, data_rules, value_rules, line_rules, faults_at}
+use Rattle.sbx_asm.specs.Items.{Item, items_of, Said, each, up_to, count, is_region}
+use Rattle.sbx_asm.proofs.Views.{behind, up_to_room, fits_behind, last_start, data_address}
+use Rattle.sbx_asm.specs.Addresses.{data_length, padding_of, section_room, data_offset, start_behind, region_start, label_address, all_labels, values_of}
+use Rattle.sbx_asm.specs.Images.{filled, region_with, bytes_at, region_at, image_of, source_image}
 use Rattle.sbx_asm.specs.Laws.{DataLieWhereLabelsSay}
 use Rattle.sbx_asm.proofs.Views.{item, address_in_section, another_region}
 use Rattle.sbx_asm.proofs.Rooms.{in_room, data_within, low}

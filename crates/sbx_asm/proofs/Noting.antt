@@ -7,10 +7,9 @@ use Rattle.sbx_asm.specs.declared.fault.AsmFault.{AsmFault}
 use Rattle.sbx_asm.specs.declared.fault.Cause.{Cause}
 use Rattle.sbx_asm.specs.declared.fault.Cause.TheVariants as causes
 use Rattle.sbx_asm.specs.declared.notes.Notes.{Notes}
-use Rattle.sbx_asm.specs.Faults.{at, told}
+use Rattle.sbx_asm.specs.Rules.{at, told, Values, when, acts, line_rules, faults_at}
 use Rattle.sbx_asm.specs.Items.{Item, up_to, is_region, has_bytes, ends_block, begins_block}
-use Rattle.sbx_asm.specs.Rules.{Values, when, acts, line_rules, faults_at}
-use Rattle.sbx_asm.specs.Contexts.{noted}
+use Rattle.sbx_asm.specs.Kept.{noted}
 use Rattle.sbx_asm.proofs.Views.{leaves_region}
 use Rattle.sbx_asm.proofs.Surveys.{fold_append}
 

@@ -20,13 +20,13 @@ use Rattle.sbx_asm.specs.declared.fault.Cause.{Cause}
 use Rattle.sbx_asm.specs.declared.fault.Cause.TheVariants as causes
 use Rattle.sbx_asm.specs.declared.place.Section.{Section}
 use Rattle.sbx_asm.specs.declared.place.Section.TheVariants.{Code, Data}
-use Rattle.sbx_asm.specs.Faults.{at}
-use Rattle.sbx_asm.specs.Items.{Item, Said, each, up_to, count, starts_function, ends_function, is_data, is_region, has_bytes, is_block, ends_block, in_function, begins_block, block_count, services, stacks, params, results, depths, fuels, cells, terms, has, first_or, is_text}
-use Rattle.sbx_asm.specs.Addresses.{Label, code_length, data_length, region_start, section_room, up_to_room, start_behind, code_offset, data_offset, code_address, fits_behind, section_after, labelled, names_said, labels_at, all_labels, worth_in, values_of, is_called, is_code}
-use Rattle.sbx_asm.specs.Rules.{Values, when, ascending, duplicates, data_rules, another_block, block_rules, in_place, value_rules, acts, takes_annotations, takes_ranges, has_fuel, has_depth, line_rules, faults_at, faults_of, least_of}
+use Rattle.sbx_asm.specs.Rules.{at, Values, when, ascending, duplicates, data_rules, another_block, block_rules, in_place, value_rules, acts, takes_annotations, takes_ranges, has_fuel, line_rules, faults_at, faults_of, least_of}
+use Rattle.sbx_asm.specs.Items.{Item, Said, each, up_to, count, starts_function, ends_function, is_data, is_region, has_bytes, is_block, ends_block, in_function, begins_block, block_count, services, stacks, params, results, depths, fuels, cells, terms, has, is_text}
+use Rattle.sbx_asm.specs.Addresses.{Label, code_length, data_length, region_start, section_room, start_behind, code_offset, data_offset, code_address, labelled, names_said, labels_at, all_labels, worth_in, values_of}
+use Rattle.sbx_asm.proofs.Views.{up_to_room, fits_behind, is_called, has_depth, renumbered, retold}
 use Rattle.sbx_asm.specs.Images as images
-use Rattle.sbx_asm.specs.Images.{block_with, block_at, function_at, words_at, bytes_at, filled, region_with, version_with, region_at, image_of}
-use Rattle.sbx_asm.specs.Laws.{renumbered, retold, BlankLinesChangeNothing, NumbersShowInFaultsAlone}
+use Rattle.sbx_asm.specs.Images.{block_with, block_at, function_at, words_at, bytes_at, filled, region_with, region_at, image_of}
+use Rattle.sbx_asm.specs.Laws.{BlankLinesChangeNothing, NumbersShowInFaultsAlone}
 use Rattle.sbx_asm.proofs.Views.{saying, leaves_region, address_in_section, told_again, range_rules, statement_rules, words_meant}
 use Rattle.sbx_asm.proofs.Rooms.{in_room, code_within, data_within}
 use Rattle.sbx_asm.proofs.Tables.{same_values}
@@ -218,7 +218,7 @@ module _ (f : ℕ → ℕ) where
   block_with_u : (a : ℕ) (own : List Turn) → block_with a (left own) ≡ block_with a (right own)
   block_with_u a own =
       let zs = flat_u fuels (λ _. refl) (λ _ _ _. refl) own in let cs = flat_u cells (λ _. refl) (λ _ _ _. refl) own in let ts = flat_u terms (λ _. refl) (λ _ _ _. refl) own in
-      λ k. record { address = a; fuel = first_or (pos 0) (zs k); cells = cs k; terms = ts k }
+      λ k. record { address = a; fuel = get_or (zs k) 0 (pos 0); cells = cs k; terms = ts k }
 
   -- a block up to its end, at its place
   block_there : (before after : List Turn) → block_with (code_address (left before)) (up_to ends_block (left after)) ≡ block_with (code_address (right before)) (up_to ends_block (right after))
@@ -245,7 +245,7 @@ module _ (f : ℕ → ℕ) where
       let ns = of_function depths (λ _. refl) (λ _ _ _. refl) after in
       let b = up_to_u ends_function (λ _. refl) (λ _ _ _. refl) (λ is. block_with (code_address (left before)) (up_to ends_block is)) (λ is. block_with (code_address (right before)) (up_to ends_block is)) after (block_there before own) in
       let bs = up_to_u ends_function (λ _. refl) (λ _ _ _. refl) (each block_at (u it ∷ left before)) (each block_at (it ∷ right before)) after (blocks_u (keep it ∷ before) own) in
-      λ k. record { kind = kind; params = ps k; results = rs k; entry = a k; frame = frame; stack_room = room; budget = budget; depth = first_or 0 (ns k); blocks = b k ∷ bs k } ∷ []
+      λ k. record { kind = kind; params = ps k; results = rs k; entry = a k; frame = frame; stack_room = room; budget = budget; depth = get_or (ns k) 0 0; blocks = b k ∷ bs k } ∷ []
   function_u before i after (Ok (statements.Directive _)) = refl
   function_u before i after (Ok _) = refl
   function_u before i after (Err e) = refl
@@ -396,7 +396,7 @@ module _ (f : ℕ → ℕ) where
       let ss = flat_u services (λ _. refl) (λ _ _ _. refl) is in
       let ks = flat_u stacks (λ _. refl) (λ _ _ _. refl) is in
       let fs = functions_u [] is in
-      λ k. record { version = version_with (deep k) (regional k); services = first_or (record { 0 = 0 }) (ss k); words = ws k; regions = rs k; stack_pages = first_or 1 (ks k); functions = fs k }
+      λ k. record { version = version_with (deep k) (regional k); services = get_or (ss k) 0 (record { 0 = 0 }); words = ws k; regions = rs k; stack_pages = get_or (ks k) 0 1; functions = fs k }
 
   all_faults_u : (is : List Turn) → Few is → faults_of (left is) ≡ map r (faults_of (right is))
   all_faults_u is h =

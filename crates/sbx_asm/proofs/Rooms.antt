@@ -6,7 +6,8 @@ use Rattle.std.proofs.lemmas.Bool.{cond_both, le-leb, leb-true}
 use Rattle.sbx_image.specs.Regions.{pages_for}
 use Rattle.sbx_asm.specs.declared.place.Section.TheVariants.{Data}
 use Rattle.sbx_asm.specs.Items.{Item, is_region}
-use Rattle.sbx_asm.specs.Addresses.{code_length, data_length, code_offset, section_room, up_to_room, last_start, start_behind, region_start, data_offset, section_after, label_address, is_code, code_address, data_address}
+use Rattle.sbx_asm.specs.Addresses.{code_length, data_length, code_offset, section_room, start_behind, region_start, data_offset, label_address, code_address}
+use Rattle.sbx_asm.proofs.Views.{up_to_room, last_start, data_address}
 
 pub in_room : (size : ℕ) → size ≤ section_room → up_to_room size ≡ size
 in_room size h = ap (λ (t : Bool). cond t size section_room) (le-leb size section_room h)

@@ -22,7 +22,7 @@ use Rattle.sbx_directives.specs.declared.fault.DataFault.TheVariants as data_fau
 use Rattle.sbx_directives.specs.declared.operand.Operand.{Operand}
 use Rattle.sbx_directives.specs.Directives.{label_count, ◌>>=◌, operands_of, integer_in, natural_in, range_of, coefficient, plain_name, location, is_expression, services_of, frames_of, right_of, value_count, directive_of, called, told, keyword_named, begun, statement_of}
 use Rattle.sbx_directives.specs.Data.{bytes_of_width, fits, spelled, value_of, is_known, is_fit, bytes_of, listed, data_of}
-use Rattle.sbx_asm.specs.Items.{Item, Said, read_line, item_of, items_of, all_lines}
+use Rattle.sbx_asm.specs.Items.{Item, Said, read_line, item_of, items_of}
 use Rattle.sbx_asm.specs.Rules.{Values, value_rules}
 use Rattle.sbx_asm.proofs.Views.{bytes_meant}
 use Rattle.sbx_asm.proofs.Wholes.{map_all}

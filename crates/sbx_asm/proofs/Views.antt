@@ -13,11 +13,11 @@ use Rattle.sbx_asm.specs.declared.place.Section.{Section}
 use Rattle.sbx_asm.specs.declared.fault.AsmFault.{AsmFault}
 use Rattle.sbx_asm.specs.declared.fault.Cause.{Cause}
 use Rattle.sbx_asm.specs.declared.fault.Cause.TheVariants as causes
-use Rattle.sbx_asm.specs.Faults.{at}
+use Rattle.sbx_asm.specs.Rules.{at, when}
 use Rattle.sbx_asm.specs.Items.{Item, Said, count, is_text, is_data, is_region}
-use Rattle.sbx_asm.specs.Addresses.{code_address, data_address, is_code}
-use Rattle.sbx_asm.specs.Rules.{when}
-use Rattle.sbx_asm.specs.Meaning.{whole_cause}
+use Rattle.sbx_asm.specs.Addresses.{code_address}
+use Rattle.sbx_asm.proofs.Views.{data_address}
+use Rattle.sbx_asm.specs.Images.{whole_cause}
 
 -- ---- a line by what it says
 

@@ -4,7 +4,7 @@ use Rattle.std.specs.List.{fold, list_any}
 use Rattle.std.proofs.lemmas.List.{length-drop, take_all, at_drop_more}
 use Rattle.std.proofs.lemmas.List.Sums.{fold-append}
 use Rattle.sbx_asm.specs.declared.fault.AsmFault.{AsmFault}
-use Rattle.sbx_asm.specs.Faults.{told}
+use Rattle.sbx_asm.specs.Rules.{told}
 use Rattle.sbx_asm.specs.Items.{Item, each, up_to}
 
 -- whether one of some lines passes a test, up to the first that is an end

@@ -1,8 +1,8 @@
 //! What lines say of a function, of a block or of the whole.
 ghost use Rattle.std.specs.Prelude.{◌≡◌, IfOk};
 ghost use Rattle.std.specs.List.{flat_map, list_any};
-ghost use Rattle.sbx_asm.specs.Items.{services, stacks, params, results, depths, has, first_or, is_region};
-ghost use Rattle.sbx_asm.specs.Images.{block_with, version_with};
+ghost use Rattle.sbx_asm.specs.Items.{services, stacks, params, results, depths, has, is_region};
+ghost use Rattle.sbx_asm.specs.Images.{block_with};
 
 use crate::reading::Line;
 use sbx_directives::{Directive, Statement};
@@ -27,7 +27,7 @@ pub struct Heading {
 
 /// The signature that some lines say. Without a depth it is 0; of several the first counts.
 pub fn signature_of(alloc: Global, lines: &[Line<'_>]) -> Result<Signature, AllocError>
-    ensures { IfOk result (λ found. (found.params ≡ flat_map params lines.now) × (found.results ≡ flat_map results lines.now) × (found.depth ≡ first_or 0 (flat_map depths lines.now))) }
+    ensures { IfOk result (λ found. (found.params ≡ flat_map params lines.now) × (found.results ≡ flat_map results lines.now) × (found.depth ≡ get_or (flat_map depths lines.now) 0 0)) }
 {
     let mut params = Vec::new(alloc);
     let mut results = Vec::new(alloc);
@@ -74,7 +74,7 @@ pub fn block_with(alloc: Global, address: u32, lines: &[Line<'_>]) -> Result<Blo
 /// regions, where there are some.
 #[tactic(auto, using(crate::proofs::Firsts::with_depths, crate::proofs::Firsts::with_regions))]
 pub fn heading_of(lines: &[Line<'_>]) -> Heading
-    ensures { (result.version ≡ version_with (list_any (has depths) lines.now) (list_any is_region lines.now)) × (result.services ≡ first_or (record { 0 = 0 }) (flat_map services lines.now)) × (result.stack_pages ≡ first_or 1 (flat_map stacks lines.now)) }
+    ensures { (result.version ≡ version_with (list_any (has depths) lines.now) (list_any is_region lines.now)) × (result.services ≡ get_or (flat_map services lines.now) 0 (record { 0 = 0 })) × (result.stack_pages ≡ get_or (flat_map stacks lines.now) 0 1) }
 {
     let mut version = 1;
     let mut services = None;

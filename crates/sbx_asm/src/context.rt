@@ -5,7 +5,7 @@ ghost use Rattle.sbx_image.specs.Cell.{Cell};
 ghost use Rattle.sbx_image.specs.Term.{Term};
 ghost use Rattle.sbx_asm.specs.Items.{Item, begins_block, has, services, stacks, params, results, depths, fuels, cells, terms};
 ghost use Rattle.sbx_asm.specs.Rules.{Values, acts, takes_annotations, takes_ranges};
-ghost use Rattle.sbx_asm.specs.Contexts.{at_most, locations_of, totals_at, function_context, block_context, context_at};
+ghost use Rattle.sbx_asm.specs.Kept.{locations_of, context_at};
 
 use crate::kinds::{ends_block, ends_function, is_block, is_data, is_region, starts_function};
 use crate::place::Place;

@@ -1,6 +1,6 @@
 //! The data of lines without faults.
 ghost use Rattle.std.specs.Prelude.{◌≡◌, ◌++◌, [], ◌∷◌, List, IfOk, replicate};
-ghost use Rattle.sbx_asm.specs.Tables.{worth};
+ghost use Rattle.sbx_asm.specs.Kept.{worth};
 ghost use Rattle.sbx_asm.specs.Items.{Item};
 ghost use Rattle.sbx_asm.specs.Addresses.{place_at};
 ghost use Rattle.sbx_asm.specs.Images.{filled, region_with, regions_of};

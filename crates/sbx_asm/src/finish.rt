@@ -1,6 +1,6 @@
 //! The image of parts, or why they are none.
 ghost use Rattle.std.specs.Prelude.{◌≡◌, None};
-ghost use Rattle.sbx_asm.specs.Meaning.{judged, pass_pages, whole_cause};
+ghost use Rattle.sbx_asm.specs.Images.{judged, whole_cause};
 
 use crate::fault::{AsmFault, Cause};
 use sbx_image::{Image, Parts, Region};

@@ -5,10 +5,9 @@ ghost use Rattle.v8_formats.specs.Spelling.{spelling};
 ghost use Rattle.sbx_directives.specs.Data.{data_of};
 ghost use Rattle.sbx_asm.specs.Items.{Item};
 ghost use Rattle.sbx_asm.specs.Addresses.{code_address};
-ghost use Rattle.sbx_asm.specs.Rules.{Values, acts};
+ghost use Rattle.sbx_asm.specs.Rules.{Values, acts, value_fault_of, syntax_fault_of};
 ghost use Rattle.sbx_asm.specs.Images.{words_at};
-ghost use Rattle.sbx_asm.specs.Tables.{worth};
-ghost use Rattle.sbx_asm.specs.Contexts.{value_fault_of, syntax_fault_of};
+ghost use Rattle.sbx_asm.specs.Kept.{worth};
 
 use crate::reading::Line;
 use crate::scope::Scope;

@@ -1,6 +1,6 @@
 //! The parts of an image, which lines without faults make.
 ghost use Rattle.std.specs.Prelude.{◌≡◌, [], IfOk};
-ghost use Rattle.sbx_asm.specs.Tables.{worth};
+ghost use Rattle.sbx_asm.specs.Kept.{worth};
 ghost use Rattle.sbx_asm.specs.Items.{each};
 ghost use Rattle.sbx_asm.specs.Addresses.{values_of};
 ghost use Rattle.sbx_asm.specs.Images.{words_at, image_of};

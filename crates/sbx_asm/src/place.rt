@@ -3,7 +3,7 @@ ghost use Rattle.std.specs.Prelude.{◌≡◌, ◌+◌, ◌*◌, ◌≤◌, List
 ghost use Rattle.sbx_directives.specs.Data.{bytes_of_width};
 ghost use Rattle.sbx_image.specs.Regions.{pages_for};
 ghost use Rattle.sbx_asm.specs.Items.{Item};
-ghost use Rattle.sbx_asm.specs.Addresses.{code_offset, data_offset, data_length, fits_behind, is_code, label_address, last_start, padding_of, place_at, section_after, section_room, start_behind, up_to_room};
+ghost use Rattle.sbx_asm.specs.Addresses.{code_offset, data_offset, data_length, label_address, padding_of, place_at, section_room, start_behind};
 
 use crate::kinds::{is_data, is_region, is_text};
 use crate::reading::Line;

@@ -8,8 +8,8 @@ ghost use Rattle.v8_syntax.specs.Statements.{statement_length};
 ghost use Rattle.sbx_directives.specs.declared.directive.Statement.TheVariants as statements;
 ghost use Rattle.sbx_asm.specs.Items.{Item, count, starts_function, is_data, is_region};
 ghost use Rattle.sbx_asm.specs.declared.fault.Cause.TheVariants as causes;
-ghost use Rattle.sbx_asm.specs.Rules.{Values, when, in_place, data_rules, value_rules, another_block, block_rules, ascending, takes_annotations, takes_ranges, has_depth, has_fuel, directive_rules, line_rules};
-ghost use Rattle.sbx_asm.specs.Contexts.{noted, at_most, locations_of, context_at, value_fault_of, syntax_fault_of};
+ghost use Rattle.sbx_asm.specs.Rules.{Values, when, in_place, data_rules, value_rules, another_block, block_rules, ascending, takes_annotations, takes_ranges, has_fuel, directive_rules, line_rules, value_fault_of, syntax_fault_of};
+ghost use Rattle.sbx_asm.specs.Kept.{noted, locations_of, context_at};
 
 use crate::context::{BLOCKS, CELLS, Context, FUNCTIONS, Locations, RANGES, REGIONS, TERMS};
 use crate::fault::Cause;

@@ -2,11 +2,10 @@
 ghost use Rattle.std.specs.Prelude.{◌≡◌, IfOk, List, MatchOption, None, [], ◌∷◌, ◌++◌, map};
 ghost use Rattle.std.specs.List.{fold};
 ghost use Rattle.sbx_directives.specs.Directives.{text_of};
-ghost use Rattle.sbx_asm.specs.Faults.{told};
+ghost use Rattle.sbx_asm.specs.Rules.{told, duplicates};
 ghost use Rattle.sbx_asm.specs.Items.{Item, label_names};
 ghost use Rattle.sbx_asm.specs.Addresses.{Label, all_labels, labelled, labels_at, names_said, place_at, values_of};
-ghost use Rattle.sbx_asm.specs.Rules.{duplicates};
-ghost use Rattle.sbx_asm.specs.Tables.{IsSurvey, worth};
+ghost use Rattle.sbx_asm.specs.Kept.{IsSurvey, worth};
 
 use crate::fault::{AsmFault, Cause, told};
 use crate::place::Place;

@@ -3,8 +3,7 @@ ghost use Rattle.std.specs.Prelude.{◌≡◌, ◌≢◌, ◌≤◌, ◌∷◌, 
 ghost use Rattle.want.specs.Wants.{refused};
 ghost use Rattle.sbx_text.specs.declared.fault.TextFault.TheVariants.{Memory};
 ghost use Rattle.sbx_text.specs.Tokens.{tokens_of};
-ghost use Rattle.sbx_asm.specs.Lines.{lines_of};
-ghost use Rattle.sbx_asm.specs.Items.{item_of, items_of};
+ghost use Rattle.sbx_asm.specs.Items.{lines_of, item_of, items_of};
 ghost use Rattle.sbx_asm.specs.Reads.{Adds, Keeps, count_of, own};
 
 use crate::lines::first_line;
@@ -36,7 +35,7 @@ pub struct Text<'a> {
 
 impl<'a> Model for Text<'a> {
     ghost use Rattle.std.specs.Prelude.{ℕ, List};
-    ghost use Rattle.sbx_asm.specs.Lines.{lines_of};
+    ghost use Rattle.sbx_asm.specs.Items.{lines_of};
     ghost use Rattle.sbx_asm.specs.Reads.{Keeps};
 
     ghost Value = { List ℕ };

@@ -1,8 +1,8 @@
 use Rattle.std.proofs.Common.{◌≡◌, List, inr, sym, ap, ◌∙◌}
 use Rattle.sbx_asm.specs.Items.{Item, items_of}
 use Rattle.sbx_asm.specs.Rules.{faults_of, least_of}
-use Rattle.sbx_asm.specs.Meaning.{source_image}
-use Rattle.sbx_asm.specs.Tables.{worth}
+use Rattle.sbx_asm.specs.Images.{source_image}
+use Rattle.sbx_asm.specs.Kept.{worth}
 use Rattle.sbx_asm.proofs.Judging.{all_told, is_told, is_judged, gives}
 use Rattle.sbx_asm.proofs.assembling.assemble.Goals as goal
 

@@ -2,7 +2,6 @@ use Rattle.std.proofs.Common.{◌≡◌, ◌+◌, ap, sym, ◌∙◌}
 use Rattle.std.specs.Prelude.{min}
 use Rattle.sbx_asm.specs.declared.place.Section.TheVariants.{Data}
 use Rattle.sbx_asm.specs.declared.place.Place.{Place}
-use Rattle.sbx_asm.specs.Addresses.{section_after}
 use Rattle.sbx_asm.proofs.Rooms.{in_data}
 use Rattle.sbx_asm.proofs.place.Place.address.Goals as goal
 

@@ -3,9 +3,8 @@ use Rattle.std.specs.Map.{update}
 use Rattle.std.specs.Str.{bytes_eq}
 use Rattle.sbx_asm.specs.declared.fault.AsmFault.{AsmFault}
 use Rattle.sbx_asm.specs.declared.fault.Cause.TheVariants.{DuplicateLabel}
-use Rattle.sbx_asm.specs.Faults.{told, at}
+use Rattle.sbx_asm.specs.Rules.{told, at, Values}
 use Rattle.sbx_asm.specs.Addresses.{Label, labelled, worth_in}
-use Rattle.sbx_asm.specs.Rules.{Values}
 use Rattle.sbx_asm.proofs.Surveys.{worth_stays, told_twice, worth_taken, told_once}
 use Rattle.sbx_asm.proofs.survey.Survey.add.Goals as goal
 

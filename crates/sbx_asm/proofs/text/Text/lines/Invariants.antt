@@ -1,7 +1,7 @@
 use Rattle.std.proofs.Common.{◌≡◌, ◌++◌, drop, length, map}
 use Rattle.sbx_text.specs.Tokens.{tokens_of}
-use Rattle.sbx_asm.specs.Lines.{lines_of}
-use Rattle.sbx_asm.specs.Items.{item_of, items_of, numbered}
+use Rattle.sbx_asm.specs.Items.{lines_of, item_of, items_of}
+use Rattle.std.specs.List.{enumerate_from}
 use Rattle.sbx_asm.specs.Reads.{each_own, counted}
 use Rattle.sbx_asm.proofs.text.Text.lines.Given as goal
 

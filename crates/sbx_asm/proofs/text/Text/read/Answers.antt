@@ -1,5 +1,5 @@
 use Rattle.std.proofs.Common.{List, subst, ℕ, arith}
-use Rattle.sbx_asm.specs.Lines.{lines_of}
+use Rattle.sbx_asm.specs.Items.{lines_of}
 use Rattle.sbx_asm.specs.Reads.{Keeps}
 use Rattle.sbx_asm.proofs.Keeping.{all_read}
 use Rattle.sbx_asm.proofs.text.Text.read.Goals as goal

@@ -1,5 +1,5 @@
 use Rattle.std.proofs.Common.{◌≡◌, ℕ, List, ◌++◌, length}
-use Rattle.sbx_asm.specs.Lines.{lines_of}
+use Rattle.sbx_asm.specs.Items.{lines_of}
 use Rattle.sbx_asm.specs.Reads.{Keeps}
 use Rattle.sbx_asm.proofs.text.Text.read.Given as goal
 
