@@ -4,8 +4,9 @@ use Rattle.std.specs.List.{fold, list_any}
 use Rattle.std.proofs.lemmas.List.{drop_more, take_more}
 use Rattle.std.proofs.lemmas.List.Sums.{fold-append}
 use Rattle.sbx_asm.specs.declared.fault.AsmFault.{AsmFault}
-use Rattle.sbx_asm.specs.Faults.{told}
-use Rattle.sbx_asm.specs.Items.{Item, each, behind, up_to}
+use Rattle.sbx_asm.specs.Rules.{told}
+use Rattle.sbx_asm.specs.Items.{Item, each, up_to}
+use Rattle.sbx_asm.proofs.Views.{behind}
 
 -- ---- up to an end
 

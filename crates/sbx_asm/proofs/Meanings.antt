@@ -17,14 +17,12 @@ use Rattle.sbx_image.specs.Rules.{parts_keep}
 use Rattle.sbx_directives.specs.declared.directive.Statement.TheVariants as statements
 use Rattle.sbx_directives.specs.Directives.{labels_first, statement_of}
 use Rattle.sbx_asm.specs.declared.fault.AsmFault.{AsmFault}
-use Rattle.sbx_asm.specs.Faults.{at, told, is_earlier}
-use Rattle.sbx_asm.specs.Items.{Item, label_names, read_line, items_of, each, behind}
-use Rattle.sbx_asm.specs.Addresses.{Label, worth_in, values_of, is_called}
-use Rattle.sbx_asm.specs.Rules.{Values, duplicates, faults_of, least_of}
-use Rattle.sbx_asm.specs.Images.{words_at, image_of}
-use Rattle.sbx_asm.specs.Meaning.{whole_cause, judged, source_image}
-use Rattle.sbx_asm.specs.Laws.{CodeIsItsStatements, WordsLookAheadByLabelsAlone, BlankLinesSayNothing, renamed, LabelsMayBeRenamed, IsLeastOf, TheLeastFaultIsTold}
-use Rattle.sbx_asm.proofs.Views.{told_again, kept}
+use Rattle.sbx_asm.specs.Rules.{at, told, is_earlier, Values, duplicates, faults_of, least_of}
+use Rattle.sbx_asm.specs.Items.{Item, label_names, read_line, items_of, each}
+use Rattle.sbx_asm.proofs.Views.{behind, is_called, renamed, IsLeastOf, told_again, kept}
+use Rattle.sbx_asm.specs.Addresses.{Label, worth_in, values_of}
+use Rattle.sbx_asm.specs.Images.{words_at, image_of, whole_cause, judged, source_image}
+use Rattle.sbx_asm.specs.Laws.{CodeIsItsStatements, WordsLookAheadByLabelsAlone, BlankLinesSayNothing, LabelsMayBeRenamed, TheLeastFaultIsTold}
 use Rattle.sbx_asm.proofs.Orders.{key, earlier_by_key}
 
 -- ---- no fault

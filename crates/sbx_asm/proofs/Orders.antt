@@ -5,7 +5,7 @@ use Rattle.std.proofs.lemmas.Bool.{ltb-true, ltb-false, eqb-true, eqb-false}
 use Rattle.sbx_asm.specs.declared.fault.AsmFault.{AsmFault}
 use Rattle.sbx_asm.specs.declared.fault.Cause.{Cause}
 use Rattle.sbx_asm.specs.declared.fault.Cause.TheVariants as causes
-use Rattle.sbx_asm.specs.Faults.{rank, is_earlier}
+use Rattle.sbx_asm.specs.Rules.{rank, is_earlier}
 
 rank_small : (c : Cause) → rank c ≤ 6
 rank_small (causes.Text f) = omega arith

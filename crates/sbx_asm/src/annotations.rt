@@ -1,7 +1,7 @@
 //! What lines say of their source, of a function or of a block.
-ghost use Rattle.std.specs.Prelude.{◌≡◌, IfOk, pos};
+ghost use Rattle.std.specs.Prelude.{◌≡◌, IfOk, get_or, pos};
 ghost use Rattle.std.specs.List.{flat_map, list_any};
-ghost use Rattle.sbx_asm.specs.Items.{services, stacks, params, results, depths, cells, fuels, terms, has, first_or, is_region};
+ghost use Rattle.sbx_asm.specs.Items.{services, stacks, params, results, depths, cells, fuels, terms, has, is_region};
 
 use crate::growing::Growing;
 use crate::reading::Line;
@@ -35,7 +35,7 @@ pub fn have_region(lines: &[Line<'_>]) -> bool
 
 /// The services that are said first, or none.
 pub fn services_of(lines: &[Line<'_>]) -> Services
-    ensures { result ≡ first_or (record { 0 = 0 }) (flat_map services lines.now) }
+    ensures { result ≡ get_or (flat_map services lines.now) 0 (record { 0 = 0 }) }
 {
     for line in lines {
         if let Ok(Statement::Directive(Directive::Services(services))) = line.said() {
@@ -47,7 +47,7 @@ pub fn services_of(lines: &[Line<'_>]) -> Services
 
 /// The pages of stack that are said first, or one.
 pub fn stack_of(lines: &[Line<'_>]) -> u16
-    ensures { result ≡ first_or 1 (flat_map stacks lines.now) }
+    ensures { result ≡ get_or (flat_map stacks lines.now) 0 1 }
 {
     for line in lines {
         if let Ok(Statement::Directive(Directive::Stack(pages))) = line.said() {
@@ -59,7 +59,7 @@ pub fn stack_of(lines: &[Line<'_>]) -> u16
 
 /// The depth that is said first, or 0.
 pub fn depth_of(lines: &[Line<'_>]) -> u16
-    ensures { result ≡ first_or 0 (flat_map depths lines.now) }
+    ensures { result ≡ get_or (flat_map depths lines.now) 0 0 }
 {
     for line in lines {
         if let Ok(Statement::Directive(Directive::Depth(depth))) = line.said() {
@@ -71,7 +71,7 @@ pub fn depth_of(lines: &[Line<'_>]) -> u16
 
 /// The fuel that is said first, or 0.
 pub fn fuel_of(lines: &[Line<'_>]) -> i64
-    ensures { result ≡ first_or (pos 0) (flat_map fuels lines.now) }
+    ensures { result ≡ get_or (flat_map fuels lines.now) 0 (pos 0) }
 {
     for line in lines {
         if let Ok(Statement::Directive(Directive::Fuel(fuel))) = line.said() {

@@ -1,6 +1,6 @@
 //! The image that a source means.
 ghost use Rattle.std.specs.Prelude.{◌≡◌};
-ghost use Rattle.sbx_asm.specs.Meaning.{source_image, Gives};
+ghost use Rattle.sbx_asm.specs.Images.{source_image, Gives};
 
 use crate::checking::check;
 use crate::fault::AsmFault;

@@ -1,12 +1,10 @@
 //! The faults of all lines but those of their labels, and the words of their instructions.
 ghost use Rattle.std.specs.Prelude.{◌≡◌, ◌++◌, ◌&&◌, ◌||◌, not, [], IfOk, List};
 ghost use Rattle.std.specs.List.{list_any, fold};
-ghost use Rattle.sbx_asm.specs.Faults.{told};
+ghost use Rattle.sbx_asm.specs.Rules.{told, acts, faults_at};
 ghost use Rattle.sbx_asm.specs.Items.{Item, begins_block, each, up_to, has_bytes, is_text, is_region, ends_block};
-ghost use Rattle.sbx_asm.specs.Rules.{acts, faults_at};
 ghost use Rattle.sbx_asm.specs.Images.{words_at};
-ghost use Rattle.sbx_asm.specs.Tables.{worth};
-ghost use Rattle.sbx_asm.specs.Contexts.{context_at};
+ghost use Rattle.sbx_asm.specs.Kept.{worth, context_at};
 
 use crate::context::Context;
 use crate::fault::{AsmFault, Cause};

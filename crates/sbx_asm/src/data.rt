@@ -1,6 +1,6 @@
 //! The data of lines without faults, a region of its own lines.
 ghost use Rattle.std.specs.Prelude.{◌≡◌, ◌++◌, [], ◌∷◌, List, IfOk, true, Bool};
-ghost use Rattle.sbx_asm.specs.Tables.{worth};
+ghost use Rattle.sbx_asm.specs.Kept.{worth};
 ghost use Rattle.sbx_asm.specs.Items.{Item, each, up_to, is_region};
 ghost use Rattle.sbx_asm.specs.Addresses.{place_at};
 ghost use Rattle.sbx_asm.specs.Images.{filled, region_with, bytes_at, region_at, regions_of};

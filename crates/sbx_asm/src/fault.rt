@@ -1,6 +1,6 @@
 //! Why a source has no image.
 ghost use Rattle.std.specs.Prelude.{◌≡◌, Some};
-ghost use Rattle.sbx_asm.specs.Faults.{at, code_of, shown, rank, is_earlier, told};
+ghost use Rattle.sbx_asm.specs.Rules.{at, code_of, shown, rank, is_earlier, told};
 ghost use Rattle.sbx_asm.specs.declared.fault.Cause.TheVariants.{Memory};
 ghost use Rattle.want.specs.Wants.{refused};
 

@@ -1,6 +1,6 @@
 //! The lines of a source.
 ghost use Rattle.std.specs.Prelude.{◌≡◌, ◌<◌, ◌∷◌, length};
-ghost use Rattle.sbx_asm.specs.Lines.{lines_of};
+ghost use Rattle.sbx_asm.specs.Items.{lines_of};
 
 use memchr::memchr;
 

@@ -1,7 +1,7 @@
 //! The faults of a line, told one after the other.
 ghost use Rattle.std.specs.Prelude.{◌≡◌, [], ◌∷◌};
 ghost use Rattle.sbx_asm.specs.Rules.{when};
-ghost use Rattle.sbx_asm.specs.Contexts.{noted};
+ghost use Rattle.sbx_asm.specs.Kept.{noted};
 
 use crate::fault::{AsmFault, Cause, told};
 

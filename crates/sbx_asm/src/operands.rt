@@ -3,10 +3,9 @@ ghost use Rattle.std.specs.Prelude.{◌≡◌, ◌++◌, [], IfOk, List, map};
 ghost use Rattle.v8_formats.specs.Spelling.{spelling};
 ghost use Rattle.sbx_asm.specs.Items.{Item};
 ghost use Rattle.sbx_asm.specs.Addresses.{code_address};
-ghost use Rattle.sbx_asm.specs.Rules.{Values, acts};
+ghost use Rattle.sbx_asm.specs.Rules.{Values, acts, value_fault_of, syntax_fault_of};
 ghost use Rattle.sbx_asm.specs.Images.{words_at};
-ghost use Rattle.sbx_asm.specs.Tables.{worth};
-ghost use Rattle.sbx_asm.specs.Contexts.{value_fault_of, syntax_fault_of};
+ghost use Rattle.sbx_asm.specs.Kept.{worth};
 
 use crate::growing::Growing;
 use crate::reading::Line;

@@ -1,9 +1,9 @@
 //! The parts of an image, which lines without faults make.
-ghost use Rattle.std.specs.Prelude.{◌≡◌, [], List, IfOk};
-ghost use Rattle.sbx_asm.specs.Tables.{worth};
+ghost use Rattle.std.specs.Prelude.{◌≡◌, [], if◌then◌else◌, List, IfOk};
+ghost use Rattle.sbx_asm.specs.Kept.{worth};
 ghost use Rattle.sbx_asm.specs.Items.{each};
 ghost use Rattle.sbx_asm.specs.Addresses.{values_of};
-ghost use Rattle.sbx_asm.specs.Images.{words_at, version_with, image_of};
+ghost use Rattle.sbx_asm.specs.Images.{words_at, image_of};
 
 use crate::annotations::{have_depth, have_region, services_of, stack_of};
 use crate::data::regions_of;
@@ -16,7 +16,7 @@ use std::alloc::{AllocError, Global};
 
 /// The version of the image format: the one that has depths or, else, regions, where the source has some.
 fn version_with(depths: bool, regions: bool) -> u16
-    ensures { result ≡ version_with depths regions }
+    ensures { result ≡ (if depths then 3 else (if regions then 2 else 1)) }
 {
     if depths {
         3

@@ -1,5 +1,5 @@
 //! What a statement's names are worth.
-ghost use Rattle.sbx_asm.specs.Tables.{worth};
+ghost use Rattle.sbx_asm.specs.Kept.{worth};
 
 use crate::table::Table;
 use v8_syntax::Symbols;
@@ -12,7 +12,7 @@ pub struct Scope<'t, 'a> {
 }
 
 impl<'t, 'a> Symbols for Scope<'t, 'a> {
-    ghost use Rattle.sbx_asm.specs.Tables.{worth};
+    ghost use Rattle.sbx_asm.specs.Kept.{worth};
 
     ghost values = { λ s. worth s.table.now };
 

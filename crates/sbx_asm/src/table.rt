@@ -3,7 +3,7 @@ ghost use Rattle.std.specs.Prelude.{◌≡◌, IfOk, [], Some};
 ghost use Rattle.std.specs.Map.{update};
 ghost use Rattle.std.specs.Str.{bytes_eq};
 ghost use Rattle.sbx_asm.specs.Addresses.{worth_in};
-ghost use Rattle.sbx_asm.specs.Tables.{worth};
+ghost use Rattle.sbx_asm.specs.Kept.{worth};
 
 use std::alloc::{AllocError, Global};
 use std::collections::HashMap;

@@ -6,7 +6,7 @@ use Rattle.v8_map.specs.declared.TheConstants.{CODE_START}
 use Rattle.sbx_image.specs.Parts.{Parts}
 use Rattle.sbx_image.specs.Reading.{reading}
 use Rattle.sbx_image.specs.Spelling.{spelling}
-use Rattle.sbx_asm.specs.Meaning.{source_image}
+use Rattle.sbx_asm.specs.Images.{source_image}
 use Rattle.sbx_rules.specs.Verdicts.{Checked}
 use Rattle.sbx_listing.specs.Listing.{listing}
 use Rattle.sbx_put.specs.Fronts.{WroteSome}

@@ -5,8 +5,8 @@ use Rattle.sbx_image.specs.Parts.{Parts}
 use Rattle.sbx_image.specs.Rules.{parts_keep}
 use Rattle.sbx_image.proofs.AgainLaws.{reading_again}
 use Rattle.sbx_asm.specs.declared.fault.AsmFault.{AsmFault}
-use Rattle.sbx_asm.specs.Faults.{at}
-use Rattle.sbx_asm.specs.Meaning.{source_image, judged, whole_cause}
+use Rattle.sbx_asm.specs.Rules.{at}
+use Rattle.sbx_asm.specs.Images.{source_image, judged, whole_cause}
 use Rattle.sbx_asm.proofs.Fitting.{meant_images_fit}
 use Rattle.sbx_stream.proofs.Whole.{checked_is_safe}
 use Rattle.sbx_command.specs.Laws.{SourcesAreSafe}

@@ -3,7 +3,7 @@ use Rattle.std.specs.Prelude.{◌≡◌, List, ℕ, Ok, Option, Some}
 use Rattle.sbx_image.specs.Parts.{Parts}
 use Rattle.sbx_image.specs.Reading.{reading}
 use Rattle.sbx_image.specs.Spelling.{spelling}
-use Rattle.sbx_asm.specs.Meaning.{source_image}
+use Rattle.sbx_asm.specs.Images.{source_image}
 use Rattle.sbx_flat.specs.Runs.{AreBytes, FlatSafe}
 use Rattle.sbx_rules.specs.Verdicts.{Checked}
 use Rattle.sbx_command.specs.Streaming.{Ran, RanOnWhole}

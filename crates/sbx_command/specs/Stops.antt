@@ -2,7 +2,7 @@
 use Rattle.std.specs.Prelude.{◌≡◌, ℕ, Bool, true, false, List, [], ◌∷◌, ◌++◌, codes, Ok, Err, Option}
 use Rattle.std.specs.Io.KnownBytes.{Appends}
 use Rattle.sbx_image.specs.Faults as images
-use Rattle.sbx_asm.specs.Faults as sources
+use Rattle.sbx_asm.specs.Rules as sources
 use Rattle.sbx_rules.specs.Causes as rules
 use Rattle.sbx_image.specs.ImageFault.{ImageFault}
 use Rattle.sbx_image.specs.ImageFault.TheVariants as fault
@@ -10,7 +10,7 @@ use Rattle.sbx_image.specs.Reading.{reading}
 use Rattle.sbx_asm.specs.declared.fault.Cause.{Cause}
 use Rattle.sbx_asm.specs.declared.fault.Cause.TheVariants as causes
 use Rattle.sbx_asm.specs.declared.fault.AsmFault.{AsmFault}
-use Rattle.sbx_asm.specs.Meaning.{source_image}
+use Rattle.sbx_asm.specs.Images.{source_image}
 use Rattle.sbx_stream.specs.RunFault.{RunFault}
 use Rattle.sbx_stream.specs.RunFault.TheVariants as runs
 use Rattle.sbx_put.specs.Fronts.{WroteSome}

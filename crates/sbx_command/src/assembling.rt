@@ -2,7 +2,7 @@
 ghost use Rattle.std.specs.Prelude.{◌≡◌, IfErr, IfOk, IfSome, Ok, OnErr, OnOk};
 ghost use Rattle.std.specs.Io.KnownBytes.{Appends};
 ghost use Rattle.sbx_image.specs.Spelling.{spelling};
-ghost use Rattle.sbx_asm.specs.Meaning.{source_image};
+ghost use Rattle.sbx_asm.specs.Images.{source_image};
 ghost use Rattle.sbx_put.specs.Fronts.{WroteSome};
 ghost use Rattle.sbx_command.specs.Stops.{IsEarly, IsOfOutput, IsTrueOfSource};
 ghost use Rattle.sbx_command.specs.Verdicts.{BeginsObject, FrontLeft, IsSource, Assembled, FitsItsFields};

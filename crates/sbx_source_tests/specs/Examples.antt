@@ -4,8 +4,8 @@ use Rattle.std.specs.List.{flat_map}
 use Rattle.sbx_image.specs.Kind.TheVariants.{Leaf, Framed}
 use Rattle.sbx_image.specs.Parts.{Parts}
 use Rattle.sbx_asm.specs.declared.fault.Cause.TheVariants as causes
-use Rattle.sbx_asm.specs.Faults.{at}
-use Rattle.sbx_asm.specs.Meaning.{source_image}
+use Rattle.sbx_asm.specs.Rules.{at}
+use Rattle.sbx_asm.specs.Images.{source_image}
 
 -- each line and LF
 abbrev pub lines_to_text : List (List ℕ) → List ℕ

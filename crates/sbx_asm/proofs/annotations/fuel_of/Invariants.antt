@@ -1,7 +1,7 @@
-use Rattle.std.proofs.Common.{◌≡◌, drop, pos}
+use Rattle.std.proofs.Common.{◌≡◌, drop, pos, get_or}
 use Rattle.std.specs.List.{flat_map}
-use Rattle.sbx_asm.specs.Items.{fuels, first_or}
+use Rattle.sbx_asm.specs.Items.{fuels}
 use Rattle.sbx_asm.proofs.annotations.fuel_of.Given as goal
 
 abbrev pub invariant-loop-line : goal.invariant-loop-line
-invariant-loop-line l = first_or (pos 0) (flat_map fuels (drop l.line-index l.lines)) ≡ first_or (pos 0) (flat_map fuels l.lines)
+invariant-loop-line l = get_or (flat_map fuels (drop l.line-index l.lines)) 0 (pos 0) ≡ get_or (flat_map fuels l.lines) 0 (pos 0)

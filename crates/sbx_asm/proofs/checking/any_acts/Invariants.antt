@@ -1,7 +1,7 @@
 use Rattle.std.proofs.Common.{◌≡◌, drop}
 use Rattle.sbx_asm.specs.Items.{ends_block}
 use Rattle.sbx_asm.specs.Rules.{acts}
-use Rattle.sbx_asm.specs.Tables.{worth}
+use Rattle.sbx_asm.specs.Kept.{worth}
 use Rattle.sbx_asm.proofs.Ahead.{found_in}
 use Rattle.sbx_asm.proofs.checking.any_acts.Given as goal
 

@@ -1,11 +1,9 @@
 use Rattle.std.proofs.Common.{ℕ, ◌+◌, List, [], ◌++◌, refl, sym, ap, ◌∙◌}
 use Rattle.std.specs.List.{fold}
-use Rattle.sbx_asm.specs.Faults.{told}
+use Rattle.sbx_asm.specs.Rules.{told, Values, faults_at}
 use Rattle.sbx_asm.specs.Items.{Item, each}
-use Rattle.sbx_asm.specs.Rules.{Values, faults_at}
 use Rattle.sbx_asm.specs.Images.{words_at}
-use Rattle.sbx_asm.specs.Tables.{worth}
-use Rattle.sbx_asm.specs.Contexts.{context_at}
+use Rattle.sbx_asm.specs.Kept.{worth, context_at}
 use Rattle.sbx_asm.proofs.Walks.{rest_is}
 use Rattle.sbx_asm.proofs.Ahead.{before_at, before_next, told_next, given_next}
 use Rattle.sbx_asm.proofs.checking.check.Goals as goal

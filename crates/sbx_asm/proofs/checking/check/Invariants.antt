@@ -1,11 +1,9 @@
 use Rattle.std.proofs.Common.{◌≡◌, ◌++◌, [], drop}
 use Rattle.std.specs.List.{fold}
-use Rattle.sbx_asm.specs.Faults.{told}
+use Rattle.sbx_asm.specs.Rules.{told, faults_at}
 use Rattle.sbx_asm.specs.Items.{each}
-use Rattle.sbx_asm.specs.Rules.{faults_at}
 use Rattle.sbx_asm.specs.Images.{words_at}
-use Rattle.sbx_asm.specs.Tables.{worth}
-use Rattle.sbx_asm.specs.Contexts.{context_at}
+use Rattle.sbx_asm.specs.Kept.{worth, context_at}
 use Rattle.sbx_asm.proofs.Ahead.{before_at}
 use Rattle.sbx_asm.proofs.checking.check.Given as goal
 

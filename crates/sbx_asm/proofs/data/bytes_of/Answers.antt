@@ -1,5 +1,5 @@
 use Rattle.std.proofs.Common.{◌+◌, ◌∷◌, drop, refl}
-use Rattle.sbx_asm.specs.Tables.{worth}
+use Rattle.sbx_asm.specs.Kept.{worth}
 use Rattle.sbx_asm.specs.Items.{each}
 use Rattle.sbx_asm.specs.Images.{bytes_at}
 use Rattle.sbx_asm.proofs.Walks.{one_more}

@@ -1,5 +1,5 @@
 use Rattle.std.proofs.Common.{◌≡◌, List, ◌++◌, drop}
-use Rattle.sbx_asm.specs.Tables.{worth}
+use Rattle.sbx_asm.specs.Kept.{worth}
 use Rattle.sbx_asm.specs.Items.{Item, each}
 use Rattle.sbx_asm.specs.Addresses.{place_at}
 use Rattle.sbx_asm.specs.Images.{bytes_at}

@@ -1,5 +1,5 @@
 use Rattle.std.proofs.Common.{◌∷◌, ◌+◌}
-use Rattle.sbx_asm.specs.Tables.{worth}
+use Rattle.sbx_asm.specs.Kept.{worth}
 use Rattle.sbx_asm.specs.Images.{region_at, regions_of}
 use Rattle.sbx_asm.proofs.Walks.{rest_is, one_more}
 use Rattle.sbx_asm.proofs.data.regions_of.Goals as goal

@@ -1,7 +1,8 @@
 use Rattle.std.proofs.Common.{List, [], take, ap, subst, ◌∙◌}
-use Rattle.sbx_asm.specs.Items.{Item, each, behind}
+use Rattle.sbx_asm.specs.Items.{Item, each}
+use Rattle.sbx_asm.proofs.Views.{behind}
 use Rattle.sbx_asm.specs.Addresses.{Label, labels_at, place_at}
-use Rattle.sbx_asm.specs.Tables.{IsSurvey}
+use Rattle.sbx_asm.specs.Kept.{IsSurvey}
 use Rattle.sbx_asm.proofs.Surveys.{behind_more, labels_more}
 use Rattle.sbx_asm.proofs.survey.survey_lines.Goals as goal
 

@@ -3,8 +3,7 @@ use Rattle.std.specs.Prelude.{nat_lt}
 use Rattle.sbx_asm.specs.declared.fault.Cause.TheVariants as causes
 use Rattle.sbx_asm.specs.declared.context.Context.{Context}
 use Rattle.sbx_asm.specs.Rules.{Values, when, line_rules}
-use Rattle.sbx_asm.specs.Tables.{worth}
-use Rattle.sbx_asm.specs.Contexts.{noted}
+use Rattle.sbx_asm.specs.Kept.{worth, noted}
 use Rattle.sbx_asm.proofs.Noting.{all_noted}
 use Rattle.sbx_asm.proofs.checking.Checked.add_line.Goals as goal
 

@@ -2,7 +2,7 @@ use Rattle.std.proofs.Common.{◌≡◌, Ok, ap, ◌∙◌}
 use Rattle.sbx_directives.specs.declared.directive.Statement.TheVariants as statements
 use Rattle.sbx_asm.specs.Items.{Said}
 use Rattle.sbx_asm.specs.Rules.{line_rules}
-use Rattle.sbx_asm.specs.Contexts.{noted}
+use Rattle.sbx_asm.specs.Kept.{noted}
 use Rattle.sbx_asm.proofs.context.Context.line_rules.Goals as goal
 
 pub returns-in-Ok-Malformed : goal.returns-in-Ok-Malformed

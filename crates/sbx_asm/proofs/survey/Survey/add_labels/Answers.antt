@@ -3,7 +3,7 @@ use Rattle.std.specs.List.{fold}
 use Rattle.std.proofs.lemmas.List.{nil_from_length}
 use Rattle.sbx_asm.specs.Items.{label_names}
 use Rattle.sbx_asm.specs.Addresses.{Label}
-use Rattle.sbx_asm.specs.Tables.{IsSurvey}
+use Rattle.sbx_asm.specs.Kept.{IsSurvey}
 use Rattle.sbx_asm.proofs.Names.{goes_on, ends, is_done, at_tokens}
 use Rattle.sbx_asm.proofs.Surveys.{with_one, with_all}
 use Rattle.sbx_asm.proofs.survey.Survey.add_labels.Goals as goal

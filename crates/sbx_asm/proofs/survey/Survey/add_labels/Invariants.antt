@@ -2,7 +2,7 @@ use Rattle.std.proofs.Common.{◌≡◌, ◌-◌, List}
 use Rattle.std.specs.List.{fold}
 use Rattle.sbx_asm.specs.Items.{label_names}
 use Rattle.sbx_asm.specs.Addresses.{Label}
-use Rattle.sbx_asm.specs.Tables.{IsSurvey}
+use Rattle.sbx_asm.specs.Kept.{IsSurvey}
 use Rattle.sbx_asm.proofs.Surveys.{with_one}
 use Rattle.sbx_asm.proofs.survey.Survey.add_labels.Given as goal
 
