@@ -1,6 +1,7 @@
 -- Where the regions of an image begin: where a label behind their `.region` points.
 use Rattle.std.proofs.Common.{◌≡◌, ℕ, suc, ◌+◌, ◌*◌, ◌<◌, ◌≤◌, Bool, true, false, List, [], ◌∷◌, ◌++◌, length, drop, None, Some, Ok, Err, refl, sym, ap, subst, ◌∙◌, append_assoc, arith}
 use Rattle.std.specs.Prelude.{not, ◌&&◌, ◌||◌, nat_le, slice_get, if◌then◌else◌, nat_lt}
+use Rattle.std.specs.Result.{result_err}
 use Rattle.std.specs.List.{AllByRecursion, list_any, list_all}
 use Rattle.std.proofs.lemmas.Bool.{ltb-true}
 use Rattle.std.proofs.lemmas.List.{append-nil, length-append}
@@ -14,16 +15,13 @@ use Rattle.sbx_directives.specs.declared.directive.Directive.TheVariants as dire
 use Rattle.sbx_directives.specs.declared.directive.Statement.TheVariants as statements
 use Rattle.sbx_directives.specs.Directives.{operands_of, is_expression, value_count}
 use Rattle.sbx_directives.specs.Data.{data_of, bytes_of_width}
-use Rattle.sbx_asm.specs.declared.place.Section.{Section}
-use Rattle.sbx_asm.specs.declared.place.Section.TheVariants.{Code, Data}
 use Rattle.sbx_asm.specs.declared.fault.Cause.TheVariants as causes
 use Rattle.sbx_asm.specs.Rules.{at, Values, when, data_rules, value_rules, line_rules, faults_at}
 use Rattle.sbx_asm.specs.Items.{Item, Said, each, up_to, count, is_region, is_data, has_bytes, is_text}
-use Rattle.sbx_asm.proofs.Views.{behind}
-use Rattle.sbx_asm.specs.Addresses.{data_length, section_room, data_offset, region_start, label_address}
+use Rattle.sbx_asm.proofs.Views.{behind, item, leaves_region, address_in_section, another_region}
+use Rattle.sbx_asm.specs.Addresses.{data_length, section_room, data_offset, region_start, in_code, label_address}
 use Rattle.sbx_asm.specs.Images.{filled, region_with, bytes_at, region_at}
 use Rattle.sbx_asm.specs.Laws.{RegionsBeginWhereLabelsSay}
-use Rattle.sbx_asm.proofs.Views.{item, leaves_region, address_in_section, another_region}
 use Rattle.sbx_asm.proofs.Nils.{cons_nil, nil_left, nil_right, nil_map}
 use Rattle.sbx_asm.proofs.ValueCounts.{SaysCount, ItemCounts}
 use Rattle.sbx_asm.proofs.Lying.{which_region, no_size, filled_length, filled_pages, begins_behind, newest, newest_more, length_is, line_clean, size_more, room_more, start_same, regions_here, clean_here, counts_here, worth}
@@ -68,11 +66,11 @@ its_start writable (x ∷ xs) rs start h = refl
 
 -- ---- lines that leave the code alone
 
-stays_out : (text data_line region : Bool) (x : Section) → region ≡ false → data_line ≡ false → x ≡ Code → (if text then Code else (if data_line || region then Data else x)) ≡ Code
+stays_out : (text data_line region : Bool) (x : Bool) → region ≡ false → data_line ≡ false → x ≡ true → (if text then true else (if data_line || region then false else x)) ≡ true
 stays_out true data_line region x h k e = refl
-stays_out false data_line region x h k e = (λ j. if k j || h j then Data else x) ∙ e
+stays_out false data_line region x h k e = (λ j. if k j || h j then false else x) ∙ e
 
-in_data : (before : List Item) (i : Item) (s : Said) → is_region (record i { said = s }) ≡ true → section_after (record i { said = s } ∷ before) ≡ Data
+in_data : (before : List Item) (i : Item) (s : Said) → is_region (record i { said = s }) ≡ true → in_code (record i { said = s } ∷ before) ≡ false
 in_data before i (Ok (statements.Directive (directives.Region writable))) h = refl
 in_data before i (Ok (statements.Directive _)) h = absurd (cc)
 in_data before i (Ok _) h = absurd (cc)
@@ -98,10 +96,10 @@ no_cause false h = refl
 module _ (values : Values) where
   -- data in the code have a fault, so what stands there has no bytes
   none_in_code : (before : List Item) (number : ℕ) (labels : List (List ℕ)) (bytes : List ℕ) (tokens : List Token) (s : Said)
-      → section_after before ≡ Code → line_rules values before (item number labels bytes tokens s) s ≡ [] → bytes_at values before (item number labels bytes tokens s) [] ≡ []
-  none_in_code before number labels bytes tokens (Ok (statements.Directive (directives.Values w n))) e clean = cons_nil (sym (ap (λ (x : Section). when (is_code x) causes.Directive) e) ∙ nil_left (when (is_code (section_after before)) causes.Directive) _ (nil_left (data_rules before (bytes_of_width w * n)) (value_rules (data_of values bytes w tokens)) clean))
-  none_in_code before number labels bytes tokens (Ok (statements.Directive (directives.Skip n))) e clean = cons_nil (sym (ap (λ (x : Section). when (is_code x) causes.Directive) e) ∙ nil_left (when (is_code (section_after before)) causes.Directive) _ clean)
-  none_in_code before number labels bytes tokens (Ok (statements.Directive (directives.Align n))) e clean = cons_nil (sym (ap (λ (x : Section). when (is_code x) causes.Directive) e) ∙ nil_left (when (is_code (section_after before)) causes.Directive) _ clean)
+      → in_code before ≡ true → line_rules values before (item number labels bytes tokens s) s ≡ [] → bytes_at values before (item number labels bytes tokens s) [] ≡ []
+  none_in_code before number labels bytes tokens (Ok (statements.Directive (directives.Values w n))) e clean = cons_nil (sym (ap (λ (x : Bool). when x causes.Directive) e) ∙ nil_left (when (in_code before) causes.Directive) _ (nil_left (data_rules before (bytes_of_width w * n)) (value_rules (result_err (data_of values bytes w tokens))) clean))
+  none_in_code before number labels bytes tokens (Ok (statements.Directive (directives.Skip n))) e clean = cons_nil (sym (ap (λ (x : Bool). when x causes.Directive) e) ∙ nil_left (when (in_code before) causes.Directive) _ clean)
+  none_in_code before number labels bytes tokens (Ok (statements.Directive (directives.Align n))) e clean = cons_nil (sym (ap (λ (x : Bool). when x causes.Directive) e) ∙ nil_left (when (in_code before) causes.Directive) _ clean)
   none_in_code before number labels bytes tokens (Ok (statements.Directive _)) e clean = refl
   none_in_code before number labels bytes tokens (Ok _) e clean = refl
   none_in_code before number labels bytes tokens (Err f) e clean = refl
@@ -199,12 +197,12 @@ module _ (values : Values) where
         ∙ h
 
     -- no data stand before the first region
-    none_yet : (e : is_region j ≡ false) → (list_any is_data before ≡ false → (section_after before ≡ Code) × (bs ≡ []))
-        → list_any is_data (j ∷ before) ≡ false → (section_after (j ∷ before) ≡ Code) × (bs ++ bytes_at values before j [] ≡ [])
+    none_yet : (e : is_region j ≡ false) → (list_any is_data before ≡ false → (in_code before ≡ true) × (bs ≡ []))
+        → list_any is_data (j ∷ before) ≡ false → (in_code (j ∷ before) ≡ true) × (bs ++ bytes_at values before j [] ≡ [])
     none_yet e before_it h =
         let so_far = before_it (or_right (is_data j) (list_any is_data before) h) in
         let own = none_in_code before j.number j.labels j.bytes j.tokens j.said so_far.0 mine in (
-          stays_out (is_text j) (is_data j) (is_region j) (section_after before) e (or_left (is_data j) (list_any is_data before) h) so_far.0,
+          stays_out (is_text j) (is_data j) (is_region j) (in_code before) e (or_left (is_data j) (list_any is_data before) h) so_far.0,
           (λ k. so_far.1 k ++ own k),
         )
 
@@ -251,7 +249,7 @@ module _ (values : Values) where
     -- from before the first one
     AfterNone : List Item → List Item → Type 0
     AfterNone front before = (bs : List ℕ) (writable : Bool) → data_offset before ≡ length bs → length bs ≤ section_room → AllByRecursion ItemCounts (front ++ i ∷ after) → each (faults_at values) before (front ++ i ∷ after) ≡ []
-        → (list_any is_data before ≡ false → (section_after before ≡ Code) × (bs ≡ [])) → starts_at writable bs before (front ++ i ∷ after) (count is_region front) (i ∷ behind before front)
+        → (list_any is_data before ≡ false → (in_code before ≡ true) × (bs ≡ [])) → starts_at writable bs before (front ++ i ∷ after) (count is_region front) (i ∷ behind before front)
 
     no_data : (before : List Item) (j : Item) → is_region j ≡ true → line_rules values before j j.said ≡ [] → list_any is_data before ≡ false
     no_data before j e mine = no_cause (list_any is_data before) (nil_left (when (list_any is_data before) causes.Directive) (when (nat_le 8 (count is_region before)) causes.Limit) (sym (asks before j j.said e) ∙ mine))

@@ -3,7 +3,7 @@ use Rattle.std.proofs.Common.{◌≡◌, ℕ, zero, suc, ◌+◌, ◌-◌, ◌<�
 use Rattle.std.specs.Prelude.{◌==◌, ◌&&◌, ◌≢◌, slice_index}
 use Rattle.std.proofs.lemmas.Bool.{eqb-true}
 use Rattle.std.proofs.lemmas.List.{take_all, length-drop}
-use Rattle.sbx_asm.specs.Items.{in_front, lines_of}
+use Rattle.sbx_asm.specs.Items.{lines_of}
 
 -- no LF at so many places
 abbrev pub IsClear : ℕ → List ℕ → Type 0
@@ -21,15 +21,14 @@ and_false : (t : Bool) → (t && false) ≡ false
 and_false true = refl
 and_false false = refl
 
-starts_clear : (s : List ℕ) → (slice_index s 0 == 10) ≡ false → starts_with 10 s ≡ false
-starts_clear [] h = refl
-starts_clear (b ∷ s) h = h
+abbrev in_front : ℕ → List (List ℕ) → List (List ℕ)
+in_front byte ls = elim ls [ [] ↦ (byte ∷ []) ∷ [] | line ∷ lines ↦ (byte ∷ line) ∷ lines ]
 
-no_end : (b : ℕ) (s : List ℕ) → starts_with 10 s ≡ false → (b == 13 && starts_with 10 s) ≡ false
+no_end : (b : ℕ) (s : List ℕ) → (slice_index s 0 == 10) ≡ false → (b == 13 && (slice_index s 0 == 10)) ≡ false
 no_end b s h = rw h (and_false (b == 13))
 
 -- a byte that begins no end of a line
-goes_on : (b : ℕ) (s : List ℕ) → (b == 10) ≡ false → (b == 13 && starts_with 10 s) ≡ false → lines_of (b ∷ s) ≡ in_front b (lines_of s)
+goes_on : (b : ℕ) (s : List ℕ) → (b == 10) ≡ false → (b == 13 && (slice_index s 0 == 10)) ≡ false → lines_of (b ∷ s) ≡ in_front b (lines_of s)
 unfolding lines_of
 goes_on b s lf cr = rw (lf, cr) refl
 
@@ -41,7 +40,7 @@ behind_return n [] lt cr lf clear = absurd (omega arith)
 behind_return zero (a ∷ []) lt cr lf clear = absurd (omega arith)
 behind_return zero (a ∷ b ∷ s) lt cr lf clear = rw (cr, lf) refl
 behind_return (suc n) (a ∷ s) lt cr lf clear =
-    goes_on a s (clear 0 (omega arith)) (no_end a s (starts_clear s (clear 1 (omega arith))))
+    goes_on a s (clear 0 (omega arith)) (no_end a s (clear 1 (omega arith)))
     ∙ ap (in_front a) (behind_return n s (omega arith) cr lf (later (suc n) a s clear))
 
 -- LF alone
@@ -52,7 +51,7 @@ before_end zero (a ∷ s) lt lf clear plain = rw lf refl
 before_end (suc zero) (a ∷ s) lt lf clear plain =
     goes_on a s (clear 0 (omega arith)) (rw plain refl) ∙ ap (in_front a) (before_end zero s (omega arith) lf (λ k below. absurd (omega arith)) tt)
 before_end (suc (suc n)) (a ∷ s) lt lf clear plain =
-    goes_on a s (clear 0 (omega arith)) (no_end a s (starts_clear s (clear 1 (omega arith))))
+    goes_on a s (clear 0 (omega arith)) (no_end a s (clear 1 (omega arith)))
     ∙ ap (in_front a) (before_end (suc n) s (omega arith) lf (later (suc n) a s clear) plain)
 
 -- no end at all

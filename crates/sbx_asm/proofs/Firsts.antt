@@ -1,5 +1,5 @@
 -- What some lines say of the whole, of a function or of a block: what was found so far, and what is still to come.
-use Rattle.std.proofs.Common.{◌≡◌, ℕ, Bool, true, false, List, Option, None, Some, refl, arith}
+use Rattle.std.proofs.Common.{◌≡◌, ℕ, Bool, true, false, List, Option, None, Some, refl, arith, get_or}
 use Rattle.std.specs.Prelude.{max, if◌then◌else◌}
 
 -- the first of some values: the one that was found, else the first of the others

@@ -1,8 +1,8 @@
 -- Each number of an image that a source means is one that its field can hold.
-use Rattle.std.proofs.Common.{ℕ, ◌+◌, ◌*◌, ◌^◌, ◌<◌, Bool, true, false, cond, pos, List, [], ◌∷◌, length, drop, Result, Ok, Err, IfOk, subst, arith}
+use Rattle.std.proofs.Common.{ℕ, ◌+◌, ◌*◌, ◌^◌, ◌<◌, Bool, true, false, cond, pos, List, [], ◌∷◌, length, drop, Result, Ok, Err, IfOk, subst, arith, get_or}
 use Rattle.std.specs.Prelude.{replicate, FitsSigned}
 use Rattle.std.specs.Int.{w64}
-use Rattle.std.specs.List.{AllByRecursion, flat_map, list_any}
+use Rattle.std.specs.List.{AllByRecursion, flat_map, list_any, enumerate_from}
 use Rattle.std.proofs.lemmas.Int.{ints}
 use Rattle.sbx_text.specs.declared.Token.{Token}
 use Rattle.sbx_text.specs.declared.fault.TextFault.{TextFault}
@@ -19,12 +19,12 @@ use Rattle.sbx_directives.specs.declared.directive.Statement.TheVariants as stat
 use Rattle.sbx_directives.specs.declared.fault.DataFault.{DataFault}
 use Rattle.sbx_directives.specs.Directives.{label_count}
 use Rattle.sbx_directives.specs.Data.{data_of}
-use Rattle.sbx_asm.specs.Items.{Item, Said, read_line, item_of, items_of, each, up_to, is_region, ends_function, ends_block, services, params, results, depths, fuels, cells, terms, has}
+use Rattle.sbx_asm.specs.Items.{Item, Said, read_line, item_of, items_of, each, up_to, is_region, ends_function, ends_block, services, params, results, depths, fuels, cells, terms, has, lines_of}
 use Rattle.sbx_asm.specs.Addresses.{padding_of, code_address, data_offset, values_of}
 use Rattle.sbx_asm.specs.Rules.{Values, faults_of, least_of}
 use Rattle.sbx_asm.specs.Images.{block_with, block_at, function_at, filled, region_with, words_at, bytes_at, region_at, regions_of, image_of, source_image}
 use Rattle.sbx_asm.specs.Laws.{MeantImagesFitTheirFields}
-use Rattle.sbx_asm.proofs.Views.{saying, words_meant, bytes_meant}
+use Rattle.sbx_asm.proofs.Views.{saying, words_meant, bytes_meant, version_with}
 use Rattle.sbx_asm.proofs.Wholes.{append_all, copies_all, map_all}
 use Rattle.sbx_asm.proofs.Rooms.{code_within}
 use Rattle.sbx_asm.proofs.StatementWords.{AreSpelled, source_spelled}
@@ -41,7 +41,7 @@ abbrev Fit : List Item → Type 0
 Fit is = AllByRecursion ItemFits is
 
 module _ {A : Type 0} (P : A → Type 0) where
-  first_fits : (default : A) (xs : List A) → P default → AllByRecursion P xs → P (get_or xs) 0 default
+  first_fits : (default : A) (xs : List A) → P default → AllByRecursion P xs → P (get_or xs 0 default)
   first_fits default [] h k = h
   first_fits default (x ∷ xs) h k = k.0
 
@@ -244,4 +244,4 @@ unfolding source_image
 meant_images_fit source parts told =
     let items : List Item = items_of source in
     subst PartsFit (judged_parts (length items + 1) (least_of (faults_of items)) (image_of items) parts told).1
-    (image_fits items (map_all ItemFits item_of (λ x. read_fits x.0 x.1 (tokens_of x.1)) (all_lines source)))
+    (image_fits items (map_all ItemFits item_of (λ x. read_fits x.0 x.1 (tokens_of x.1)) (enumerate_from 1 (lines_of source))))

@@ -1,7 +1,9 @@
 -- Where the data of a source lie in its image: where its labels say.
 use Rattle.std.proofs.Common.{◌≡◌, ℕ, zero, suc, ◌+◌, ◌-◌, ◌*◌, ◌%◌, ◌<◌, ◌≤◌, Bool, true, false, cond, leb, List, [], ◌∷◌, ◌++◌, length, Option, None, Some, Ok, Err, refl, sym, ap, subst, ◌∙◌, append_assoc, arith}
-use Rattle.std.specs.Prelude.{not, nat_le, nat_lt, slice_get, if◌then◌else◌}
+use Rattle.std.specs.Prelude.{min, not, nat_le, nat_lt, slice_get, if◌then◌else◌}
 use Rattle.std.specs.List.{AllByRecursion}
+use Rattle.std.proofs.Math.Nat.{min-eq_left}
+use Rattle.std.specs.Result.{result_err}
 use Rattle.std.proofs.lemmas.Bool.{cond_both, le-leb, le-ltb, leb-true, leb-false}
 use Rattle.std.proofs.lemmas.List.{append-nil, length-append, length-replicate}
 use Rattle.std.proofs.lemmas.Option.{slice_get_past, slice_get_within}
@@ -13,17 +15,14 @@ use Rattle.sbx_image.specs.Regions.{Placed, byte_in, byte_of_region, data_at, or
 use Rattle.sbx_directives.specs.declared.directive.Directive.TheVariants as directives
 use Rattle.sbx_directives.specs.declared.directive.Statement.TheVariants as statements
 use Rattle.sbx_directives.specs.Data.{data_of, bytes_of_width}
-use Rattle.sbx_asm.specs.declared.place.Section.{Section}
-use Rattle.sbx_asm.specs.declared.place.Section.TheVariants.{Code, Data}
 use Rattle.sbx_asm.specs.declared.fault.Cause.{Cause}
 use Rattle.sbx_asm.specs.declared.fault.Cause.TheVariants as causes
 use Rattle.sbx_asm.specs.Rules.{at, Values, duplicates, faults_of, least_of, when, data_rules, value_rules, line_rules, faults_at}
 use Rattle.sbx_asm.specs.Items.{Item, items_of, Said, each, up_to, count, is_region}
-use Rattle.sbx_asm.proofs.Views.{behind, up_to_room, fits_behind, last_start, data_address}
-use Rattle.sbx_asm.specs.Addresses.{data_length, padding_of, section_room, data_offset, start_behind, region_start, label_address, all_labels, values_of}
+use Rattle.sbx_asm.proofs.Views.{behind, up_to_room, fits_behind, last_start, data_address, item, address_in_section, another_region}
+use Rattle.sbx_asm.specs.Addresses.{data_length, padding_of, section_room, data_offset, start_behind, region_start, in_code, label_address, all_labels, values_of}
 use Rattle.sbx_asm.specs.Images.{filled, region_with, bytes_at, region_at, image_of, source_image}
 use Rattle.sbx_asm.specs.Laws.{DataLieWhereLabelsSay}
-use Rattle.sbx_asm.proofs.Views.{item, address_in_section, another_region}
 use Rattle.sbx_asm.proofs.Rooms.{in_room, data_within, low}
 use Rattle.sbx_asm.proofs.Nils.{cons_nil, nil_left, nil_right, nil_map}
 use Rattle.sbx_asm.proofs.Meanings.{none_told, judged_parts}
@@ -115,13 +114,13 @@ no_size before i h = ap (λ (t : Bool). if t then 0 else up_to_room (data_offset
 -- ---- where regions begin
 
 abbrev up_to_last : ℕ → ℕ
-up_to_last address = if nat_le address last_start then address else last_start
+up_to_last address = min address last_start
 
 capped : (address : ℕ) → up_to_last address ≤ address
-capped address = cond_both (leb address last_start) address last_start (λ m. m ≤ address) (λ _. omega arith) (λ h. let k = leb-false address last_start h in omega (arith, k))
+capped address = omega arith
 
 not_below : (start address : ℕ) → start ≤ last_start → start ≤ address → start ≤ up_to_last address
-not_below start address h k = cond_both (leb address last_start) address last_start (λ m. start ≤ m) (λ _. k) (λ _. h)
+not_below start address h k = omega arith
 
 rises_with : (start size : ℕ) (begins : Bool) → start ≤ last_start → start ≤ (if begins then start_behind start size else start)
 rises_with start size true h = not_below start (start + 4096 * pages_for size) h (omega arith)
@@ -149,7 +148,7 @@ begins_behind before clean =
     let less = leb-false 8 (count is_region before) few in
     let start = within before in
     let size = data_within before in
-    ap (λ (t : Bool). cond t (region_start before + 4096 * pages_for (data_offset before)) last_start) (le-leb (region_start before + 4096 * pages_for (data_offset before)) last_start (omega (arith, less, start, size)))
+    min-eq_left (omega (arith, less, start, size))
   where
     no_limit : (t : Bool) → when t causes.Limit ≡ [] → t ≡ false
     no_limit true h = cons_nil h
@@ -167,7 +166,7 @@ module _ (values : Values) (before : List Item) (number : ℕ) (labels : List (L
 
   -- the bytes of a line are as many as its length
   pub length_is : (s : Said) → SaysCount bytes tokens s → line_rules values before (it s) s ≡ [] → length (bytes_at values before (it s) []) ≡ data_length (data_offset before) s
-  length_is (Ok (statements.Directive (directives.Values w n))) says clean = values_length values bytes w tokens n says (nil_right (data_rules before (bytes_of_width w * n)) (value_rules (data_of values bytes w tokens)) clean)
+  length_is (Ok (statements.Directive (directives.Values w n))) says clean = values_length values bytes w tokens n says (nil_right (data_rules before (bytes_of_width w * n)) (value_rules (result_err (data_of values bytes w tokens))) clean)
   length_is (Ok (statements.Directive (directives.Skip n))) says clean = length-replicate n 0
   length_is (Ok (statements.Directive (directives.Align n))) says clean = length-replicate (padding_of n (data_offset before)) 0
   length_is (Ok (statements.Directive _)) says clean = refl
@@ -176,7 +175,7 @@ module _ (values : Values) (before : List Item) (number : ℕ) (labels : List (L
 
   room_left : (n : ℕ) → data_rules before n ≡ [] → data_offset before + n ≤ section_room
   room_left n clean =
-      let fits : fits_behind (data_offset before) n ≡ true = has_room (fits_behind (data_offset before) n) (nil_right (when (is_code (section_after before)) causes.Directive) (when (not (fits_behind (data_offset before) n)) causes.Limit) clean) in
+      let fits : fits_behind (data_offset before) n ≡ true = has_room (fits_behind (data_offset before) n) (nil_right (when (in_code before) causes.Directive) (when (not (fits_behind (data_offset before) n)) causes.Limit) clean) in
       let k = leb-true n (section_room - data_offset before) fits in
       let size = data_within before in
       omega (arith, k, size)
@@ -186,7 +185,7 @@ module _ (values : Values) (before : List Item) (number : ℕ) (labels : List (L
 
   -- and its region holds them
   room_is : (s : Said) → line_rules values before (it s) s ≡ [] → data_offset before + data_length (data_offset before) s ≤ section_room
-  room_is (Ok (statements.Directive (directives.Values w n))) clean = room_left (bytes_of_width w * n) (nil_left (data_rules before (bytes_of_width w * n)) (value_rules (data_of values bytes w tokens)) clean)
+  room_is (Ok (statements.Directive (directives.Values w n))) clean = room_left (bytes_of_width w * n) (nil_left (data_rules before (bytes_of_width w * n)) (value_rules (result_err (data_of values bytes w tokens))) clean)
   room_is (Ok (statements.Directive (directives.Skip n))) clean = room_left n clean
   room_is (Ok (statements.Directive (directives.Align n))) clean = room_left (padding_of n (data_offset before)) clean
   room_is (Ok (statements.Directive _)) clean = no_more
@@ -194,14 +193,14 @@ module _ (values : Values) (before : List Item) (number : ℕ) (labels : List (L
   room_is (Err f) clean = no_more
 
   -- what has bytes stands in the data
-  no_code : (x : Section) (cs : List Cause) → when (is_code x) causes.Directive ++ cs ≡ [] → x ≡ Data
-  no_code Code cs h = cons_nil h
-  no_code Data cs h = refl
+  no_code : (x : Bool) (cs : List Cause) → when x causes.Directive ++ cs ≡ [] → x ≡ false
+  no_code true cs h = cons_nil h
+  no_code false cs h = refl
 
-  in_data : (s : Said) (k b : ℕ) → line_rules values before (it s) s ≡ [] → slice_get (bytes_at values before (it s) []) k ≡ Some b → section_after before ≡ Data
-  in_data (Ok (statements.Directive (directives.Values w n))) k b clean h = no_code (section_after before) _ (nil_left (data_rules before (bytes_of_width w * n)) (value_rules (data_of values bytes w tokens)) clean)
-  in_data (Ok (statements.Directive (directives.Skip n))) k b clean h = no_code (section_after before) _ clean
-  in_data (Ok (statements.Directive (directives.Align n))) k b clean h = no_code (section_after before) _ clean
+  in_data : (s : Said) (k b : ℕ) → line_rules values before (it s) s ≡ [] → slice_get (bytes_at values before (it s) []) k ≡ Some b → in_code before ≡ false
+  in_data (Ok (statements.Directive (directives.Values w n))) k b clean h = no_code (in_code before) _ (nil_left (data_rules before (bytes_of_width w * n)) (value_rules (result_err (data_of values bytes w tokens))) clean)
+  in_data (Ok (statements.Directive (directives.Skip n))) k b clean h = no_code (in_code before) _ clean
+  in_data (Ok (statements.Directive (directives.Align n))) k b clean h = no_code (in_code before) _ clean
   in_data (Ok (statements.Directive _)) k b clean h = absurd (cc)
   in_data (Ok _) k b clean h = absurd (cc)
   in_data (Err f) k b clean h = absurd (cc)

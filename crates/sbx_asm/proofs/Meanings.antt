@@ -19,11 +19,10 @@ use Rattle.sbx_directives.specs.Directives.{labels_first, statement_of}
 use Rattle.sbx_asm.specs.declared.fault.AsmFault.{AsmFault}
 use Rattle.sbx_asm.specs.Rules.{at, told, is_earlier, Values, duplicates, faults_of, least_of}
 use Rattle.sbx_asm.specs.Items.{Item, label_names, read_line, items_of, each}
-use Rattle.sbx_asm.proofs.Views.{behind, is_called, renamed, IsLeastOf}
+use Rattle.sbx_asm.proofs.Views.{behind, is_called, renamed, IsLeastOf, told_again, kept}
 use Rattle.sbx_asm.specs.Addresses.{Label, worth_in, values_of}
 use Rattle.sbx_asm.specs.Images.{words_at, image_of, whole_cause, judged, source_image}
 use Rattle.sbx_asm.specs.Laws.{CodeIsItsStatements, WordsLookAheadByLabelsAlone, BlankLinesSayNothing, LabelsMayBeRenamed, TheLeastFaultIsTold}
-use Rattle.sbx_asm.proofs.Views.{told_again, kept}
 use Rattle.sbx_asm.proofs.Orders.{key, earlier_by_key}
 
 -- ---- no fault

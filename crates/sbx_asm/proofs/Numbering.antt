@@ -1,5 +1,5 @@
 -- Numbers of lines show in faults alone, and a line that says nothing changes nothing else.
-use Rattle.std.proofs.Common.{◌≡◌, ℕ, ◌+◌, ◌*◌, ◌≤◌, Bool, true, false, cond, leb, pos, List, [], ◌∷◌, ◌++◌, length, map, Some, Ok, Err, refl, sym, ap, ◌∙◌, arith}
+use Rattle.std.proofs.Common.{◌≡◌, ℕ, ◌+◌, ◌*◌, ◌≤◌, Bool, true, false, cond, leb, pos, List, [], ◌∷◌, ◌++◌, length, map, Some, Ok, Err, refl, sym, ap, ◌∙◌, arith, get_or}
 use Rattle.std.specs.Prelude.{not, ◌&&◌, ◌||◌, nat_lt, replicate, if◌then◌else◌}
 use Rattle.std.specs.List.{AllByRecursion, flat_map, list_any}
 use Rattle.std.specs.Str.{bytes_eq}
@@ -18,16 +18,13 @@ use Rattle.sbx_directives.specs.Data.{data_of, bytes_of_width}
 use Rattle.sbx_asm.specs.declared.fault.AsmFault.{AsmFault}
 use Rattle.sbx_asm.specs.declared.fault.Cause.{Cause}
 use Rattle.sbx_asm.specs.declared.fault.Cause.TheVariants as causes
-use Rattle.sbx_asm.specs.declared.place.Section.{Section}
-use Rattle.sbx_asm.specs.declared.place.Section.TheVariants.{Code, Data}
-use Rattle.sbx_asm.specs.Rules.{at, Values, when, ascending, duplicates, data_rules, another_block, block_rules, in_place, value_rules, acts, takes_annotations, takes_ranges, has_fuel, line_rules, faults_at, faults_of, least_of}
+use Rattle.sbx_asm.specs.Rules.{at, Values, when, ascending, duplicates, data_rules, another_block, block_rules, in_place, value_rules, acts, takes_annotations, takes_ranges, has_fuel, line_rules, faults_at, faults_of, least_of, value_fault_of}
 use Rattle.sbx_asm.specs.Items.{Item, Said, each, up_to, count, starts_function, ends_function, is_data, is_region, has_bytes, is_block, ends_block, in_function, begins_block, block_count, services, stacks, params, results, depths, fuels, cells, terms, has, is_text}
-use Rattle.sbx_asm.specs.Addresses.{Label, code_length, data_length, region_start, section_room, start_behind, code_offset, data_offset, code_address, labelled, names_said, labels_at, all_labels, worth_in, values_of}
-use Rattle.sbx_asm.proofs.Views.{up_to_room, fits_behind, is_called, has_depth, renumbered, retold}
+use Rattle.sbx_asm.specs.Addresses.{Label, code_length, data_length, region_start, section_room, start_behind, code_offset, data_offset, code_address, in_code, labelled, names_said, labels_at, all_labels, worth_in, values_of}
+use Rattle.sbx_asm.proofs.Views.{up_to_room, fits_behind, is_called, has_depth, renumbered, retold, saying, leaves_region, address_in_section, told_again, range_rules, statement_rules, words_meant, version_with, fault_meant}
 use Rattle.sbx_asm.specs.Images as images
 use Rattle.sbx_asm.specs.Images.{block_with, block_at, function_at, words_at, bytes_at, filled, region_with, region_at, image_of}
 use Rattle.sbx_asm.specs.Laws.{BlankLinesChangeNothing, NumbersShowInFaultsAlone}
-use Rattle.sbx_asm.proofs.Views.{saying, leaves_region, address_in_section, told_again, range_rules, statement_rules, words_meant}
 use Rattle.sbx_asm.proofs.Rooms.{in_room, code_within, data_within}
 use Rattle.sbx_asm.proofs.Tables.{same_values}
 
@@ -143,14 +140,14 @@ module _ (f : ℕ → ℕ) where
   start_u (skip n bs ts ∷ is) = start_u is
   start_u (keep i ∷ is) = let a = start_u is in let b = data_offset_u is in λ k. if is_region i then start_behind (a k) (b k) else a k
 
-  section_u : (is : List Turn) → section_after (left is) ≡ section_after (right is)
+  section_u : (is : List Turn) → in_code (left is) ≡ in_code (right is)
   section_u [] = refl
   section_u (skip n bs ts ∷ is) = section_u is
-  section_u (keep i ∷ is) = ap (λ (x : Section). if is_text i then Code else (if is_data i || is_region i then Data else x)) (section_u is)
+  section_u (keep i ∷ is) = ap (λ (x : Bool). if is_text i then true else (if is_data i || is_region i then false else x)) (section_u is)
 
-  address_u : (is : List Turn) (x : Section) → address_in_section (left is) x ≡ address_in_section (right is) x
-  address_u is Code = code_address_u is
-  address_u is Data = let a = start_u is in let b = data_offset_u is in λ k. a k + b k
+  address_u : (is : List Turn) (x : Bool) → address_in_section (left is) x ≡ address_in_section (right is) x
+  address_u is true = code_address_u is
+  address_u is false = let a = start_u is in let b = data_offset_u is in λ k. a k + b k
 
   -- ---- labels
 
@@ -161,13 +158,13 @@ module _ (f : ℕ → ℕ) where
 
   labels_at_u : (before : List Turn) (i : Item) → labels_at (left before) (u i) [] ≡ map relabelled (labels_at (right before) i [])
   labels_at_u before i =
-      let here : address_in_section (left before) (section_after (left before)) ≡ address_in_section (right before) (section_after (right before))
-      = address_u before (section_after (left before)) ∙ ap (address_in_section (right before)) (section_u before) in
+      let here : address_in_section (left before) (in_code (left before)) ≡ address_in_section (right before) (in_code (right before))
+      = address_u before (in_code (left before)) ∙ ap (address_in_section (right before)) (section_u before) in
       let there = code_address_u before in
       (λ k. map (labelled (f i.number) (here k)) i.labels ++ map (labelled (f i.number) (there k)) (names_said i.bytes i.said))
-      ∙ (let a = map_labelled i.number (address_in_section (right before) (section_after (right before))) i.labels in
+      ∙ (let a = map_labelled i.number (address_in_section (right before) (in_code (right before))) i.labels in
       let b = map_labelled i.number (code_address (right before)) (names_said i.bytes i.said) in λ k. a k ++ b k)
-      ∙ sym (map-append relabelled (map (labelled i.number (address_in_section (right before) (section_after (right before)))) i.labels) (map (labelled i.number (code_address (right before))) (names_said i.bytes i.said)))
+      ∙ sym (map-append relabelled (map (labelled i.number (address_in_section (right before) (in_code (right before)))) i.labels) (map (labelled i.number (code_address (right before))) (names_said i.bytes i.said)))
 
   labels_u : (before is : List Turn) → each labels_at (left before) (left is) ≡ map relabelled (each labels_at (right before) (right is))
   labels_u before [] = refl
@@ -317,10 +314,10 @@ module _ (f : ℕ → ℕ) where
     has_depth_u is = let a = in_function_u is in let b = any_in_function (has depths) (λ _. refl) (λ _ _ _. refl) is in λ k. a k && b k
 
     data_rules_u : (is : List Turn) (m n : ℕ) → m ≡ n → data_rules (left is) m ≡ data_rules (right is) n
-    data_rules_u is m n p = let a = section_u is in let b = data_offset_u is in λ k. when (is_code (a k)) causes.Directive ++ when (not (fits_behind (b k) (p k))) causes.Limit
+    data_rules_u is m n p = let a = section_u is in let b = data_offset_u is in λ k. when ((a k)) causes.Directive ++ when (not (fits_behind (b k) (p k))) causes.Limit
 
     another_block_u : (is : List Turn) → another_block (left is) ≡ another_block (right is)
-    another_block_u is = ap (λ (n : ℕ). when (not (nat_lt n 4096)) causes.Limit) (block_count_u is)
+    another_block_u is = ap (λ (n : ℕ). when (leb 4096 n) causes.Limit) (block_count_u is)
 
     block_rules_u : (is : List Turn) → block_rules (left is) ≡ block_rules (right is)
     block_rules_u is = let a = in_function_u is in let b = another_block_u is in λ k. cond (a k) (b k) (causes.Annotation ∷ [])
@@ -330,7 +327,7 @@ module _ (f : ℕ → ℕ) where
     line_rules_u is i (Ok statements.Nothing) = refl
     line_rules_u is i (Ok statements.Instruction) =
         let a = section_u is in let b = in_function_u is in let c = code_offset_u is in
-        λ k. when (not (is_code (a k) && b k)) causes.Directive ++ (when (not (fits_behind (c k) (4 * statement_length i.bytes i.tokens))) causes.Limit ++ statement_rules (source_meaning values (CODE_START + c k) i.bytes i.tokens))
+        λ k. when (not (a k && b k)) causes.Directive ++ (when (not (fits_behind (c k) (4 * statement_length i.bytes i.tokens))) causes.Limit ++ statement_rules (fault_meant values (CODE_START + c k) i))
     line_rules_u is i (Ok (statements.Malformed keywords.Block name)) = ap (λ (cs : List Cause). cs ++ causes.Directive ∷ []) (block_rules_u is)
     line_rules_u is i (Ok (statements.Malformed _ name)) = refl
     line_rules_u is i (Ok (statements.Directive directives.Text)) = refl
@@ -348,7 +345,7 @@ module _ (f : ℕ → ℕ) where
     line_rules_u is i (Ok (statements.Directive (directives.Cell x))) = let a = annotations_u is in let b = in_block cells (λ _. refl) (λ _ _ _. refl) is in λ k. in_place (a k) (ascending 64 (map (λ (c : Cell). c.location) (b k)) x.location)
     line_rules_u is i (Ok (statements.Directive (directives.Fuel z))) = let a = has_fuel_u is in let b = annotations_u is in λ k. cond (a k) (causes.Directive ∷ []) (in_place (b k) [])
     line_rules_u is i (Ok (statements.Directive (directives.Term x))) = let a = annotations_u is in let b = in_block terms (λ _. refl) (λ _ _ _. refl) is in λ k. in_place (a k) (ascending 8 (map (λ (t : Term). t.location) (b k)) x.location)
-    line_rules_u is i (Ok (statements.Directive (directives.Values w n))) = ap (λ (cs : List Cause). cs ++ value_rules (data_of values i.bytes w i.tokens)) (data_rules_u is (bytes_of_width w * n) (bytes_of_width w * n) refl)
+    line_rules_u is i (Ok (statements.Directive (directives.Values w n))) = ap (λ (cs : List Cause). cs ++ value_rules (value_fault_of values i)) (data_rules_u is (bytes_of_width w * n) (bytes_of_width w * n) refl)
     line_rules_u is i (Ok (statements.Directive (directives.Skip n))) = data_rules_u is n n refl
     line_rules_u is i (Ok (statements.Directive (directives.Align n))) = data_rules_u is _ _ (ap (λ (o : ℕ). data_length o (Ok (statements.Directive (directives.Align n)))) (data_offset_u is))
 

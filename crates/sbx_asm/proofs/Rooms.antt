@@ -1,19 +1,17 @@
 -- How far a section is filled, and where a region begins at the latest.
-use Rattle.std.proofs.Common.{◌≡◌, ℕ, ◌+◌, ◌*◌, Bool, true, false, cond, leb, ◌≤◌, List, [], ◌∷◌, sym, ap, ◌∙◌, arith}
+use Rattle.std.proofs.Common.{◌≡◌, ℕ, ◌+◌, ◌*◌, Bool, true, false, ◌≤◌, List, [], ◌∷◌, sym, ap, ◌∙◌, arith}
 use Rattle.std.specs.Prelude.{if◌then◌else◌, min}
 use Rattle.std.proofs.Math.Nat.{min-eq_left}
-use Rattle.std.proofs.lemmas.Bool.{cond_both, le-leb, leb-true}
 use Rattle.sbx_image.specs.Regions.{pages_for}
-use Rattle.sbx_asm.specs.declared.place.Section.TheVariants.{Data}
 use Rattle.sbx_asm.specs.Items.{Item, is_region}
-use Rattle.sbx_asm.specs.Addresses.{code_length, data_length, code_offset, section_room, start_behind, region_start, data_offset, label_address, code_address}
+use Rattle.sbx_asm.specs.Addresses.{code_length, data_length, code_offset, section_room, start_behind, region_start, data_offset, in_code, label_address, code_address}
 use Rattle.sbx_asm.proofs.Views.{up_to_room, last_start, data_address}
 
 pub in_room : (size : ℕ) → size ≤ section_room → up_to_room size ≡ size
-in_room size h = ap (λ (t : Bool). cond t size section_room) (le-leb size section_room h)
+in_room size h = min-eq_left h
 
 within_room : (size : ℕ) → up_to_room size ≤ section_room
-within_room size = cond_both (leb size section_room) size section_room (λ m. m ≤ section_room) (λ h. leb-true size section_room h) (λ _. omega arith)
+within_room size = omega arith
 
 pub code_within : (before : List Item) → code_offset before ≤ section_room
 code_within [] = omega arith
@@ -29,8 +27,7 @@ data_within (i ∷ before) = by (is_region i)
 
 -- a region begins below the end of the words' addresses, and so does what stands in it
 low_start : (start size : ℕ) → start_behind start size ≤ last_start
-low_start start size =
-    cond_both (leb (start + 4096 * pages_for size) last_start) (start + 4096 * pages_for size) last_start (λ m. m ≤ last_start) (λ h. leb-true (start + 4096 * pages_for size) last_start h) (λ _. omega arith)
+low_start start size = omega arith
 
 low_with : (start size : ℕ) (begins : Bool) → start ≤ last_start → (if begins then start_behind start size else start) ≤ last_start
 low_with start size true h = low_start start size
@@ -41,7 +38,7 @@ low [] = omega arith
 low (i ∷ before) = low_with (region_start before) (data_offset before) (is_region i) (low before)
 
 -- where labels point in the data
-pub in_data : (before : List Item) → section_after before ≡ Data → min (region_start before + data_offset before) 4294967295 ≡ label_address before
+pub in_data : (before : List Item) → in_code before ≡ false → min (region_start before + data_offset before) 4294967295 ≡ label_address before
 in_data before here =
     min-eq_left (let h = low before in let k = data_within before in omega arith)
-    ∙ sym (ap (λ s. if is_code s then code_address before else data_address before) here)
+    ∙ sym (ap (λ s. if s then code_address before else data_address before) here)

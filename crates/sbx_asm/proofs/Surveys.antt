@@ -11,11 +11,10 @@ use Rattle.sbx_asm.specs.declared.fault.AsmFault.{AsmFault}
 use Rattle.sbx_asm.specs.declared.fault.Cause.TheVariants as causes
 use Rattle.sbx_asm.specs.Rules.{told, at, duplicates}
 use Rattle.sbx_asm.specs.Items.{Item, Said, each}
-use Rattle.sbx_asm.proofs.Views.{behind, is_called}
+use Rattle.sbx_asm.proofs.Views.{behind, is_called, told_again}
 use Rattle.sbx_asm.specs.Addresses.{Label, labelled, labels_at, worth_in, names_said, label_address, code_address}
 use Rattle.sbx_asm.specs.declared.survey.Survey.{Survey}
 use Rattle.sbx_asm.specs.Kept.{IsSurvey}
-use Rattle.sbx_asm.proofs.Views.{told_again}
 use Rattle.sbx_asm.proofs.Tables.{same_values}
 
 pub fold_append : {A B : Type 0} (f : B → A → B) (a : B) (xs ys : List A) → fold f a (xs ++ ys) ≡ fold f (fold f a xs) ys

@@ -2,7 +2,8 @@
 use Rattle.std.proofs.Common.{◌≡◌, ℕ, suc, ◌+◌, ◌*◌, Bool, true, false, cond, ℤ, List, [], ◌∷◌, length, drop, Option, None, Some, IfSome, Result, Ok, Err, refl, ap, ◌∙◌, arith}
 use Rattle.std.specs.Prelude.{not, ◌&&◌, ◌||◌, ◌==◌}
 use Rattle.std.specs.Option.{is_none, option_map_or}
-use Rattle.std.specs.List.{AllByRecursion, flat_map, list_all}
+use Rattle.std.specs.Result.{result_err}
+use Rattle.std.specs.List.{AllByRecursion, flat_map, list_all, enumerate_from}
 use Rattle.std.proofs.lemmas.Bool.{cond_both}
 use Rattle.std.proofs.lemmas.List.{length-append}
 use Rattle.sbx_text.specs.declared.Token.{Token}
@@ -22,7 +23,7 @@ use Rattle.sbx_directives.specs.declared.fault.DataFault.TheVariants as data_fau
 use Rattle.sbx_directives.specs.declared.operand.Operand.{Operand}
 use Rattle.sbx_directives.specs.Directives.{label_count, ◌>>=◌, operands_of, integer_in, natural_in, range_of, coefficient, plain_name, location, is_expression, services_of, frames_of, right_of, value_count, directive_of, called, told, keyword_named, begun, statement_of}
 use Rattle.sbx_directives.specs.Data.{bytes_of_width, fits, spelled, value_of, is_known, is_fit, bytes_of, listed, data_of}
-use Rattle.sbx_asm.specs.Items.{Item, Said, read_line, item_of, items_of}
+use Rattle.sbx_asm.specs.Items.{Item, Said, read_line, item_of, items_of, lines_of}
 use Rattle.sbx_asm.specs.Rules.{Values, value_rules}
 use Rattle.sbx_asm.proofs.Views.{bytes_meant}
 use Rattle.sbx_asm.proofs.Wholes.{map_all}
@@ -103,7 +104,7 @@ read_counts number line (Ok ts) = statement_counts line (drop (2 * label_count l
 read_counts number line (Err f) = tt
 
 pub items_count : (source : List ℕ) → AllByRecursion ItemCounts (items_of source)
-items_count source = map_all ItemCounts item_of (λ x. read_counts x.0 x.1 (tokens_of x.1)) (all_lines source)
+items_count source = map_all ItemCounts item_of (λ x. read_counts x.0 x.1 (tokens_of x.1)) (enumerate_from 1 (lines_of source))
 
 -- ---- so many bytes
 
@@ -148,17 +149,17 @@ module _ (values : Values) (line : List ℕ) (w : Width) where
           ∙ ap (λ (n : ℕ). bytes_of_width w + n) (more rest) ∙ one_more w (length os)
       by false e rest more = absurd (cc)
 
-  listed_length : (os : List Operand) (n : ℕ) → value_count os ≡ Some n → value_rules (listed values line w os) ≡ [] → length (bytes_meant (listed values line w os)) ≡ bytes_of_width w * n
+  listed_length : (os : List Operand) (n : ℕ) → value_count os ≡ Some n → value_rules (result_err (listed values line w os)) ≡ [] → length (bytes_meant (listed values line w os)) ≡ bytes_of_width w * n
   unfolding listed
   listed_length os n count clean = by (is_none (value_count os)) (not (list_all (is_known values line) os)) (list_all (is_fit values line w) os) refl clean
     where
       by : (a b c : Bool) → list_all (is_fit values line w) os ≡ c
-          → value_rules (cond a (Err data_faults.Malformed) (cond b (Err data_faults.UnknownSymbol) (cond (not c) (Err data_faults.Malformed) (Ok (flat_map (bytes_of values line w) os))))) ≡ []
+          → value_rules (result_err (cond a (Err data_faults.Malformed) (cond b (Err data_faults.UnknownSymbol) (cond (not c) (Err data_faults.Malformed) (Ok (flat_map (bytes_of values line w) os)))))) ≡ []
           → length (bytes_meant (cond a (Err data_faults.Malformed) (cond b (Err data_faults.UnknownSymbol) (cond (not c) (Err data_faults.Malformed) (Ok (flat_map (bytes_of values line w) os)))))) ≡ bytes_of_width w * n
       by true b c e k = cons_nil k
       by false true c e k = cons_nil k
       by false false false e k = cons_nil k
       by false false true e k = fitting_length os e ∙ ap (λ (m : ℕ). bytes_of_width w * m) (as_many os n count)
 
-  pub values_length : (ts : List Token) (n : ℕ) → value_count (operands_of line (drop 1 ts)) ≡ Some n → value_rules (data_of values line w ts) ≡ [] → length (bytes_meant (data_of values line w ts)) ≡ bytes_of_width w * n
+  pub values_length : (ts : List Token) (n : ℕ) → value_count (operands_of line (drop 1 ts)) ≡ Some n → value_rules (result_err (data_of values line w ts)) ≡ [] → length (bytes_meant (data_of values line w ts)) ≡ bytes_of_width w * n
   values_length ts n count clean = listed_length (operands_of line (drop 1 ts)) n count clean

@@ -1,5 +1,5 @@
 -- Where the lines of a source stand, and what their labels are worth: the start of a section and the lengths before them.
-use Rattle.std.specs.Prelude.{ℕ, ◌+◌, ◌-◌, ◌*◌, ◌%◌, Bool, true, false, ◌||◌, nat_le, ◌==◌, if◌then◌else◌, List, [], ◌∷◌, ◌++◌, map, Option, Some, None, Ok, Err}
+use Rattle.std.specs.Prelude.{ℕ, ◌+◌, ◌-◌, ◌*◌, ◌%◌, min, Bool, true, false, ◌||◌, ◌==◌, if◌then◌else◌, List, [], ◌∷◌, ◌++◌, map, Option, Some, None, Ok, Err}
 use Rattle.std.specs.Str.{bytes_eq}
 use Rattle.v8_map.specs.declared.TheConstants.{CODE_START, DATA_START}
 use Rattle.v8_syntax.specs.Statements.{statement_length}
@@ -8,8 +8,6 @@ use Rattle.sbx_directives.specs.declared.directive.Directive.TheVariants as dire
 use Rattle.sbx_directives.specs.declared.directive.Statement.TheVariants as statements
 use Rattle.sbx_directives.specs.Directives.{text_of}
 use Rattle.sbx_directives.specs.Data.{bytes_of_width}
-use Rattle.sbx_asm.specs.declared.place.Section.{Section}
-use Rattle.sbx_asm.specs.declared.place.Section.TheVariants.{Code, Data}
 use Rattle.sbx_asm.specs.declared.place.Place.{Place}
 use Rattle.sbx_asm.specs.Items.{Item, Said, each, is_text, is_data, is_region}
 
@@ -34,32 +32,21 @@ data_length size _ = 0
 abbrev pub section_room : ℕ
 section_room = 0x40000
 
-abbrev pub up_to_room : ℕ → ℕ
-up_to_room size = if nat_le size section_room then size else section_room
-
--- what so many bytes leave room for
-abbrev pub fits_behind : ℕ → ℕ → Bool
-fits_behind offset n = nat_le n (section_room - offset)
-
 -- how far some items, the nearest first, fill the code
 abbrev pub code_offset : List Item → ℕ
 code_offset [] = 0
-code_offset (i ∷ before) = up_to_room (code_offset before + code_length i)
+code_offset (i ∷ before) = min (code_offset before + code_length i) section_room
 
 -- and the data, of which the newest region counts
 abbrev pub data_offset : List Item → ℕ
 data_offset [] = 0
-data_offset (i ∷ before) = if is_region i then 0 else up_to_room (data_offset before + data_length (data_offset before) i.said)
+data_offset (i ∷ before) = if is_region i then 0 else min (data_offset before + data_length (data_offset before) i.said) section_room
 
 -- ---- addresses
 
--- where a ninth region, which is too many, begins at the latest
-abbrev pub last_start : ℕ
-last_start = DATA_START + 8 * section_room
-
--- a region begins at the page behind the last one of the region before it, which has so many bytes
+-- a region begins at the page behind the last one of the region before it, which has so many bytes; a ninth is too many, and begins in bounds
 abbrev pub start_behind : ℕ → ℕ → ℕ
-start_behind start size = if nat_le (start + 4096 * pages_for size) last_start then start + 4096 * pages_for size else last_start
+start_behind start size = min (start + 4096 * pages_for size) (DATA_START + 8 * section_room)
 
 -- where the newest region begins, or the data where there are no regions
 abbrev pub region_start : List Item → ℕ
@@ -70,25 +57,18 @@ region_start (i ∷ before) = if is_region i then start_behind (region_start bef
 abbrev pub code_address : List Item → ℕ
 code_address before = CODE_START + code_offset before
 
-abbrev pub data_address : List Item → ℕ
-data_address before = region_start before + data_offset before
+-- whether the code is the section that `.text`, `.data` or `.region` chose last
+abbrev pub in_code : List Item → Bool
+in_code [] = true
+in_code (i ∷ before) = if is_text i then true else (if is_data i || is_region i then false else in_code before)
 
-abbrev pub is_code : Section → Bool
-is_code Code = true
-is_code Data = false
-
--- the section that `.text`, `.data` or `.region` chose last
-abbrev pub section_after : List Item → Section
-section_after [] = Code
-section_after (i ∷ before) = if is_text i then Code else (if is_data i || is_region i then Data else section_after before)
-
--- where the next line's labels point
+-- where the next line's labels point: behind the code, or the data of the newest region
 abbrev pub label_address : List Item → ℕ
-label_address before = if is_code (section_after before) then code_address before else data_address before
+label_address before = if in_code before then code_address before else region_start before + data_offset before
 
 -- the place of a line behind some others, the nearest first
 abbrev pub place_at : List Item → Place
-place_at before = record { section = section_after before; next_word = code_address before; region_start = region_start before; region_bytes = data_offset before }
+place_at before = record { in_code = in_code before; next_word = code_address before; region_start = region_start before; region_bytes = data_offset before }
 
 -- ---- labels
 
@@ -116,13 +96,10 @@ labels_at before i after =
 abbrev pub all_labels : List Item → List Label
 all_labels items = each labels_at [] items
 
-abbrev pub is_called : List ℕ → Label → Bool
-is_called name l = bytes_eq l.name name
-
 -- a name is worth the address of the first label of that name
 abbrev pub worth_in : List Label → List ℕ → Option ℕ
 worth_in [] name = None
-worth_in (l ∷ ls) name = if is_called name l then Some l.address else worth_in ls name
+worth_in (l ∷ ls) name = if bytes_eq l.name name then Some l.address else worth_in ls name
 
 abbrev pub values_of : List Item → List ℕ → Option ℕ
 values_of items = worth_in (all_labels items)

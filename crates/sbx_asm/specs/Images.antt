@@ -1,25 +1,29 @@
--- The image of a source without faults, as a map over its lines: words and bytes one after the other, functions and blocks as groups.
-use Rattle.std.specs.Prelude.{ℕ, ◌-◌, ◌%◌, pos, Bool, true, if◌then◌else◌, List, [], ◌∷◌, ◌++◌, length, map, replicate, Ok}
+-- What a source means. Without faults that is its image, a map over its lines: words and bytes one after the other, functions and blocks as groups.
+use Rattle.std.specs.Prelude.{◌≡◌, ◌⊎◌, ℕ, ◌+◌, ◌-◌, ◌%◌, pos, Bool, true, not, ◌&&◌, ◌==◌, nat_lt, if◌then◌else◌, List, [], ◌∷◌, ◌++◌, length, map, get_or, replicate, Option, Some, None, Result, Ok, Err, MatchResult}
 use Rattle.std.specs.Result.{result_unwrap_or}
 use Rattle.std.specs.List.{flat_map, list_any}
 use Rattle.v8_formats.specs.Spelling.{spelling}
 use Rattle.v8_syntax.specs.Statements.{source_meaning}
 use Rattle.sbx_image.specs.Block.{Block}
 use Rattle.sbx_image.specs.Function.{Function}
-use Rattle.sbx_image.specs.Parts.{Parts}
+pub use Rattle.sbx_image.specs.Parts.{Parts}
 use Rattle.sbx_image.specs.Region.{Region}
+use Rattle.sbx_image.specs.Regions.{page_rights}
+use Rattle.sbx_image.specs.Rules.{parts_keep}
+use Rattle.want.specs.Wants.{refused}
 use Rattle.sbx_directives.specs.declared.directive.Directive.TheVariants as directives
 use Rattle.sbx_directives.specs.declared.directive.Statement.TheVariants as statements
 use Rattle.sbx_directives.specs.Data.{data_of}
-use Rattle.sbx_asm.specs.Items.{Item, each, up_to, ends_function, ends_block, is_region, services, stacks, params, results, depths, fuels, cells, terms, has, first_or}
+use Rattle.sbx_asm.specs.declared.fault.Cause.TheVariants as causes
+use Rattle.sbx_asm.specs.Items.{Item, items_of, each, up_to, ends_function, ends_block, is_region, services, stacks, params, results, depths, fuels, cells, terms, has}
 use Rattle.sbx_asm.specs.Addresses.{padding_of, code_address, data_offset, values_of}
-use Rattle.sbx_asm.specs.Rules.{Values}
+use Rattle.sbx_asm.specs.Rules.{AsmFault, Cause, Values, at, faults_of, least_of}
 
 -- ---- blocks and functions
 
 -- the block that begins at an address and has some lines
 abbrev pub block_with : ℕ → List Item → Block
-block_with address own = record { address = address; fuel = first_or (pos 0) (flat_map fuels own); cells = flat_map cells own; terms = flat_map terms own }
+block_with address own = record { address = address; fuel = get_or (flat_map fuels own) 0 (pos 0); cells = flat_map cells own; terms = flat_map terms own }
 
 -- a `.block` and the lines up to the next, or to a `.function`
 abbrev pub block_at : List Item → Item → List Item → List Block
@@ -39,7 +43,7 @@ function_at before i after =
             frame = frame;
             stack_room = room;
             budget = budget;
-            depth = first_or 0 (flat_map depths own);
+            depth = get_or (flat_map depths own) 0 0;
             blocks = block_with (code_address before) (up_to ends_block own) ∷ each block_at (i ∷ before) own;
           } ∷ []
       | _ ↦ []
@@ -83,18 +87,36 @@ module _ (values : Values) where
 
 -- ---- the image
 
--- the version that has depths, where a `.depth` stands; else the one that has regions, where a `.region` stands
-abbrev pub version_with : Bool → Bool → ℕ
-version_with depths regions = if depths then 3 else (if regions then 2 else 1)
-
--- Without their lines, no services and one page of stack.
+-- The version is the one that has depths, where a `.depth` stands; else the one that has regions, where a `.region` stands. Without their lines,
+-- no services and one page of stack.
 unfoldable pub image_of : List Item → Parts
 image_of items =
     record {
-      version = version_with (list_any (has depths) items) (list_any is_region items);
-      services = first_or (record { 0 = 0 }) (flat_map services items);
+      version = if list_any (has depths) items then 3 else (if list_any is_region items then 2 else 1);
+      services = get_or (flat_map services items) 0 (record { 0 = 0 });
       words = each (words_at (values_of items)) [] items;
       regions = regions_of (values_of items) items;
-      stack_pages = first_or 1 (flat_map stacks items);
+      stack_pages = get_or (flat_map stacks items) 0 1;
       functions = each function_at [] items;
     }
+
+-- ---- what is told
+
+-- why parts are no image: they have no function, or their data take more than 64 pages
+abbrev pub whole_cause : Parts → Cause
+whole_cause p = if not (length p.functions == 0) && nat_lt 64 (length (page_rights p.regions)) then causes.Limit else causes.Directive
+
+-- the fault of the lines where one is told, else their image; what is none though no line has a fault is told at the line after the last
+abbrev pub judged : ℕ → Option AsmFault → Parts → Result Parts AsmFault
+judged after (Some f) p = Err f
+judged after None p = elim (parts_keep p) [ Ok u ↦ Ok p | Err f ↦ Err (at after (whole_cause p)) ]
+
+-- The image of a source, as its parts, or the fault that is told: the least one.
+unfoldable pub source_image : List ℕ → Result Parts AsmFault
+source_image source =
+    let items : List Item = items_of source in
+    judged (length items + 1) (least_of (faults_of items)) (image_of items)
+
+-- what a call gives is this, but want of memory, told at line 0, may stand in the place of any answer
+abbrev pub Gives : Result Parts AsmFault → Result Parts AsmFault → Type 0
+Gives result meant = MatchResult result (λ p. meant ≡ Ok p) (λ f. (f ≡ at 0 (causes.Memory refused)) ⊎ (meant ≡ Err f))

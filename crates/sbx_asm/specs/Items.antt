@@ -1,19 +1,27 @@
 -- The lines of a source as items: the labels of each, and the statement or the directive behind them.
-use Rattle.std.specs.Prelude.{ℕ, zero, suc, ◌+◌, ◌*◌, Bool, true, false, ◌||◌, ◌&&◌, nat_lt, if◌then◌else◌, List, [], ◌∷◌, ◌++◌, drop, length, map, not, ◌==◌, ℤ, Result, Ok, Err}
+use Rattle.std.specs.Prelude.{ℕ, zero, suc, ◌+◌, ◌*◌, Bool, true, false, ◌||◌, ◌&&◌, nat_lt, if◌then◌else◌, List, [], ◌∷◌, ◌++◌, drop, length, map, slice_index, not, ◌==◌, ℤ, Result, Ok, Err}
+use Rattle.std.specs.List.{enumerate_from}
 use Rattle.sbx_text.specs.declared.Token.{Token}
 use Rattle.sbx_text.specs.declared.fault.TextFault.{TextFault}
 use Rattle.sbx_text.specs.Tokens.{tokens_of}
 use Rattle.v8_syntax.specs.Statements.{bytes_between}
 use Rattle.sbx_image.specs.Range.{Range}
-use Rattle.sbx_image.specs.Cell.{Cell}
+pub use Rattle.sbx_image.specs.Cell.{Cell}
 use Rattle.sbx_image.specs.Services.{Services}
-use Rattle.sbx_image.specs.Term.{Term}
+pub use Rattle.sbx_image.specs.Term.{Term}
 use Rattle.sbx_directives.specs.declared.directive.Keyword.TheVariants as keywords
 use Rattle.sbx_directives.specs.declared.directive.Directive.TheVariants as directives
 use Rattle.sbx_directives.specs.declared.directive.Statement.{Statement}
 use Rattle.sbx_directives.specs.declared.directive.Statement.TheVariants as statements
 use Rattle.sbx_directives.specs.Directives.{label_count, statement_of}
-use Rattle.sbx_asm.specs.Lines.{lines_of}
+
+-- A line ends by LF, which is 10, or by CR, 13, and LF; what follows the last end is a line if it has a byte.
+unfoldable pub lines_of : List ℕ → List (List ℕ)
+lines_of [] = []
+lines_of (b ∷ bytes) =
+    if b == 10 then [] ∷ lines_of bytes
+    else (if b == 13 && slice_index bytes 0 == 10 then lines_of bytes
+    else elim (lines_of bytes) [ [] ↦ (b ∷ []) ∷ [] | line ∷ lines ↦ (b ∷ line) ∷ lines ])
 
 -- what stands behind the labels of a line, or why the line has no tokens
 abbrev pub Said : Type 0
@@ -44,17 +52,9 @@ read_line number line (Err f) = record { number = number; labels = []; bytes = l
 abbrev pub item_of : ℕ × List ℕ → Item
 item_of x = read_line x.0 x.1 (tokens_of x.1)
 
--- each line with its number, where so many come before the first
-unfoldable pub numbered : ℕ → List (List ℕ) → List (ℕ × List ℕ)
-numbered before [] = []
-numbered before (line ∷ lines) = (before + 1, line) ∷ numbered (before + 1) lines
-
-abbrev pub all_lines : List ℕ → List (ℕ × List ℕ)
-all_lines source = numbered 0 (lines_of source)
-
 -- the items of a source
 abbrev pub items_of : List ℕ → List Item
-items_of source = map item_of (all_lines source)
+items_of source = map item_of (enumerate_from 1 (lines_of source))
 
 -- ---- each item in its place
 
@@ -62,11 +62,6 @@ items_of source = map item_of (all_lines source)
 abbrev pub each : {A : Type 0} → (List Item → Item → List Item → List A) → List Item → List Item → List A
 each gives before [] = []
 each gives before (i ∷ after) = gives before i after ++ each gives (i ∷ before) after
-
--- the items before those that stand behind some more
-abbrev pub behind : List Item → List Item → List Item
-behind before [] = before
-behind before (i ∷ is) = behind (i ∷ before) is
 
 -- the items up to the next, or back to the nearest, that passes a test
 abbrev pub up_to : (Item → Bool) → List Item → List Item
@@ -151,8 +146,3 @@ terms i = elim i.said [ Ok (statements.Directive (directives.Term t)) ↦ t ∷ 
 -- an item that has any of them
 abbrev pub has : {A : Type 0} → (Item → List A) → Item → Bool
 has of i = not (length (of i) == 0)
-
--- the first of some values, else the default
-abbrev pub first_or : {A : Type 0} → A → List A → A
-first_or default [] = default
-first_or default (x ∷ xs) = x

@@ -1,18 +1,14 @@
 -- What holds of the meaning of sources, as anyone knows assemblers.
-use Rattle.std.specs.Prelude.{◌≡◌, ℕ, ◌+◌, ◌≤◌, ◌⊎◌, true, false, List, [], ◌∷◌, ◌++◌, length, map, slice_get, None, Some, Ok, Err}
+use Rattle.std.specs.Prelude.{◌≡◌, ℕ, ◌+◌, ◌≤◌, ◌⊎◌, true, false, List, [], ◌∷◌, ◌++◌, length, map, reverse, slice_get, None, Some, Ok, Err}
 use Rattle.std.specs.List.{AllByRecursion}
 use Rattle.sbx_text.specs.Tokens.{tokens_of}
-use Rattle.sbx_image.specs.Parts.{Parts}
 use Rattle.sbx_image.specs.Regions.{data_at, start_of}
 use Rattle.sbx_image.specs.Spelling.{IsTyped}
 use Rattle.sbx_directives.specs.declared.directive.Statement.TheVariants as statements
-use Rattle.sbx_asm.specs.declared.fault.AsmFault.{AsmFault}
-use Rattle.sbx_asm.specs.Faults.{at, is_earlier}
-use Rattle.sbx_asm.specs.Items.{Item, item_of, items_of, each, behind, count, is_region}
+use Rattle.sbx_asm.specs.Items.{Item, item_of, items_of, each, count, is_region}
 use Rattle.sbx_asm.specs.Addresses.{Label, label_address, worth_in, values_of}
-use Rattle.sbx_asm.specs.Rules.{duplicates, faults_of, least_of}
-use Rattle.sbx_asm.specs.Images.{words_at, bytes_at, image_of}
-use Rattle.sbx_asm.specs.Meaning.{source_image, whole_cause}
+use Rattle.sbx_asm.specs.Rules.{AsmFault, at, is_earlier, duplicates, faults_of, least_of}
+use Rattle.sbx_asm.specs.Images.{Parts, words_at, bytes_at, image_of, source_image, whole_cause}
 
 -- each of its numbers is one that its field can hold, and its regions have bytes
 abbrev pub MeantImagesFitTheirFields : Type 0
@@ -28,20 +24,20 @@ CodeIsItsStatements = (source : List ℕ) (parts : Parts) → source_image sourc
 abbrev pub DataLieWhereLabelsSay : Type 0
 DataLieWhereLabelsSay = (source : List ℕ) (parts : Parts) → source_image source ≡ Ok parts
     → (front after : List Item) (i : Item) (k b : ℕ) → items_of source ≡ front ++ i ∷ after
-    → slice_get (bytes_at (values_of (items_of source)) (behind [] front) i after) k ≡ Some b → data_at parts.regions (label_address (behind [] front) + k) ≡ Some b
+    → slice_get (bytes_at (values_of (items_of source)) (reverse front) i after) k ≡ Some b → data_at parts.regions (label_address (reverse front) + k) ≡ Some b
 
 -- So do its regions: a `.region` begins the one with its number, counted from 0, and a label right behind it points to the first byte.
 abbrev pub RegionsBeginWhereLabelsSay : Type 0
 RegionsBeginWhereLabelsSay = (source : List ℕ) (parts : Parts) → source_image source ≡ Ok parts
     → (front after : List Item) (i : Item) → items_of source ≡ front ++ i ∷ after → is_region i ≡ true
-    → start_of parts.regions (count is_region front) ≡ Some (label_address (i ∷ behind [] front))
+    → start_of parts.regions (count is_region front) ≡ Some (label_address (i ∷ reverse front))
 
 -- Two sources that begin with the same lines, and whose labels are worth the same, begin with the same words: those that these lines mean
 -- with the labels' worth, whatever follows.
 abbrev pub WordsLookAheadByLabelsAlone : Type 0
 WordsLookAheadByLabelsAlone = (front after other : List Item) → values_of (front ++ after) ≡ values_of (front ++ other)
-    → ((image_of (front ++ after)).words ≡ each (words_at (values_of (front ++ after))) [] front ++ each (words_at (values_of (front ++ after))) (behind [] front) after)
-    × ((image_of (front ++ other)).words ≡ each (words_at (values_of (front ++ after))) [] front ++ each (words_at (values_of (front ++ after))) (behind [] front) other)
+    → ((image_of (front ++ after)).words ≡ each (words_at (values_of (front ++ after))) [] front ++ each (words_at (values_of (front ++ after))) (reverse front) after)
+    × ((image_of (front ++ other)).words ≡ each (words_at (values_of (front ++ after))) [] front ++ each (words_at (values_of (front ++ after))) (reverse front) other)
 
 -- a blank line or a comment has no label and says nothing
 abbrev pub BlankLinesSayNothing : Type 0
@@ -53,32 +49,21 @@ BlankLinesChangeNothing = (front after : List Item) (i : Item) → i.labels ≡ 
     → (least_of (faults_of (front ++ i ∷ after)) ≡ least_of (faults_of (front ++ after)))
     × (least_of (faults_of (front ++ after)) ≡ None → image_of (front ++ i ∷ after) ≡ image_of (front ++ after))
 
--- the same line, and the same fault, by another number
-abbrev pub renumbered : (ℕ → ℕ) → Item → Item
-renumbered number i = record i { number = number i.number }
-
-abbrev pub retold : (ℕ → ℕ) → AsmFault → AsmFault
-retold number f = record f { line = number f.line }
-
 -- Numbers of lines up to 1,000,000 show in the lines of faults, and nowhere else.
 abbrev pub NumbersShowInFaultsAlone : Type 0
-NumbersShowInFaultsAlone = (number : ℕ → ℕ) (items : List Item) → AllByRecursion (λ i. (i.number ≤ 1000000) × (number i.number ≤ 1000000)) items
-    → (image_of (map (renumbered number) items) ≡ image_of items) × (faults_of (map (renumbered number) items) ≡ map (retold number) (faults_of items))
-
-abbrev pub renamed : (List ℕ → List ℕ) → Label → Label
-renamed rename l = record l { name = rename l.name }
+NumbersShowInFaultsAlone = (number : ℕ → ℕ) (items : List Item) → AllByRecursion (λ i. (i.number ≤ 1000000) × (number i.number ≤ 1000000)) items →
+    let renumbered : List Item = map (λ (i : Item). record i { number = number i.number }) items in
+    (image_of renumbered ≡ image_of items) × (faults_of renumbered ≡ map (λ (f : AsmFault). record f { line = number f.line }) (faults_of items))
 
 -- Labels may be renamed one to one: each new name is worth what the old one was, and the same labels stand twice.
 abbrev pub LabelsMayBeRenamed : Type 0
-LabelsMayBeRenamed = (rename : List ℕ → List ℕ) → ((a b : List ℕ) → rename a ≡ rename b → a ≡ b) → (labels : List Label)
-    → ((name : List ℕ) → worth_in (map (renamed rename) labels) (rename name) ≡ worth_in labels name)
-    × (duplicates [] (map (renamed rename) labels) ≡ duplicates [] labels)
+LabelsMayBeRenamed = (rename : List ℕ → List ℕ) → ((a b : List ℕ) → rename a ≡ rename b → a ≡ b) → (labels : List Label) →
+    let renamed : List Label = map (λ (l : Label). record l { name = rename l.name }) labels in
+    ((name : List ℕ) → worth_in renamed (rename name) ≡ worth_in labels name) × (duplicates [] renamed ≡ duplicates [] labels)
 
--- one of some faults, of which no other is earlier
-abbrev pub IsLeastOf : AsmFault → List AsmFault → Type 0
-IsLeastOf f faults = ((front : List AsmFault) × (rest : List AsmFault) × (faults ≡ front ++ f ∷ rest)) × AllByRecursion (λ g. is_earlier g f ≡ false) faults
-
--- What is told is a least fault of the lines; else they have none, and it is told of the whole at the line after the last.
+-- What is told is a fault of the lines, of which no other is earlier; else they have none, and it is told of the whole at the line after the last.
 abbrev pub TheLeastFaultIsTold : Type 0
-TheLeastFaultIsTold = (source : List ℕ) (f : AsmFault) → source_image source ≡ Err f
-    → IsLeastOf f (faults_of (items_of source)) ⊎ ((faults_of (items_of source) ≡ []) × (f ≡ at (length (items_of source) + 1) (whole_cause (image_of (items_of source)))))
+TheLeastFaultIsTold = (source : List ℕ) (f : AsmFault) → source_image source ≡ Err f →
+    let faults : List AsmFault = faults_of (items_of source) in
+    (((front : List AsmFault) × (rest : List AsmFault) × (faults ≡ front ++ f ∷ rest)) × AllByRecursion (λ g. is_earlier g f ≡ false) faults)
+    ⊎ ((faults ≡ []) × (f ≡ at (length (items_of source) + 1) (whole_cause (image_of (items_of source)))))

@@ -1,13 +1,6 @@
-pub mod Faults
-pub mod Lines
 pub mod Items
 pub mod Addresses
 pub mod Rules
-pub mod Reads
-pub mod Told
-pub mod Tables
-pub mod Contexts
 pub mod Images
-pub mod Meaning
 pub mod Laws
-pub mod Regions
+pub mod Kept

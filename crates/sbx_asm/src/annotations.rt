@@ -1,5 +1,5 @@
 //! What lines say of a function, of a block or of the whole.
-ghost use Rattle.std.specs.Prelude.{◌≡◌, IfOk};
+ghost use Rattle.std.specs.Prelude.{◌≡◌, if◌then◌else◌, get_or, IfOk};
 ghost use Rattle.std.specs.List.{flat_map, list_any};
 ghost use Rattle.sbx_asm.specs.Items.{services, stacks, params, results, depths, has, is_region};
 ghost use Rattle.sbx_asm.specs.Images.{block_with};
@@ -74,7 +74,7 @@ pub fn block_with(alloc: Global, address: u32, lines: &[Line<'_>]) -> Result<Blo
 /// regions, where there are some.
 #[tactic(auto, using(crate::proofs::Firsts::with_depths, crate::proofs::Firsts::with_regions))]
 pub fn heading_of(lines: &[Line<'_>]) -> Heading
-    ensures { (result.version ≡ version_with (list_any (has depths) lines.now) (list_any is_region lines.now)) × (result.services ≡ get_or (flat_map services lines.now) 0 (record { 0 = 0 })) × (result.stack_pages ≡ get_or (flat_map stacks lines.now) 0 1) }
+    ensures { (result.version ≡ (if list_any (has depths) lines.now then 3 else (if list_any is_region lines.now then 2 else 1))) × (result.services ≡ get_or (flat_map services lines.now) 0 (record { 0 = 0 })) × (result.stack_pages ≡ get_or (flat_map stacks lines.now) 0 1) }
 {
     let mut version = 1;
     let mut services = None;

@@ -1,6 +1,5 @@
 //! What the rules of a line ask of the lines before it.
-ghost use Rattle.std.specs.Prelude.{◌≡◌, ℕ, false, ◌+◌, ◌&&◌, ◌||◌, not, nat_le, [], ◌∷◌, ◌++◌, List, if◌then◌else◌, map, length};
-ghost use Rattle.std.specs.List.{flat_map};
+ghost use Rattle.std.specs.Prelude.{◌≡◌, ℕ, false, ◌+◌, min, [], ◌∷◌, ◌++◌, List, if◌then◌else◌, map};
 ghost use Rattle.sbx_image.specs.Cell.{Cell};
 ghost use Rattle.sbx_image.specs.Term.{Term};
 ghost use Rattle.sbx_asm.specs.Items.{Item, begins_block, has, services, stacks, params, results, depths, fuels, cells, terms};
@@ -39,7 +38,6 @@ pub struct Totals {
     pub blocks: u16,
     pub regions: u16,
     pub has_data: bool,
-    pub has_region: bool,
     pub has_services: bool,
     pub has_stack: bool,
 }
@@ -78,60 +76,45 @@ pub struct Context {
 fn has_services(line: &Line<'_>) -> bool
     ensures { result ≡ has services line.now }
 {
-    match line.said() {
-        Ok(Statement::Directive(Directive::Services(_))) => true,
-        _ => false,
-    }
+    matches!(
+        line.said(),
+        Ok(Statement::Directive(Directive::Services(_)))
+    )
 }
 
 fn has_stack(line: &Line<'_>) -> bool
     ensures { result ≡ has stacks line.now }
 {
-    match line.said() {
-        Ok(Statement::Directive(Directive::Stack(_))) => true,
-        _ => false,
-    }
+    matches!(line.said(), Ok(Statement::Directive(Directive::Stack(_))))
 }
 
 fn has_depth(line: &Line<'_>) -> bool
     ensures { result ≡ has depths line.now }
 {
-    match line.said() {
-        Ok(Statement::Directive(Directive::Depth(_))) => true,
-        _ => false,
-    }
+    matches!(line.said(), Ok(Statement::Directive(Directive::Depth(_))))
 }
 
 fn has_fuel(line: &Line<'_>) -> bool
     ensures { result ≡ has fuels line.now }
 {
-    match line.said() {
-        Ok(Statement::Directive(Directive::Fuel(_))) => true,
-        _ => false,
-    }
+    matches!(line.said(), Ok(Statement::Directive(Directive::Fuel(_))))
 }
 
 fn is_param(line: &Line<'_>) -> bool
     ensures { result ≡ has params line.now }
 {
-    match line.said() {
-        Ok(Statement::Directive(Directive::Param(_))) => true,
-        _ => false,
-    }
+    matches!(line.said(), Ok(Statement::Directive(Directive::Param(_))))
 }
 
 fn is_result(line: &Line<'_>) -> bool
     ensures { result ≡ has results line.now }
 {
-    match line.said() {
-        Ok(Statement::Directive(Directive::Result(_))) => true,
-        _ => false,
-    }
+    matches!(line.said(), Ok(Statement::Directive(Directive::Result(_))))
 }
 
 /// A count with one more, where there is one.
 fn counted(most: u16, count: u16, more: bool) -> u16
-    ensures { (n : ℕ) → count ≡ at_most most n → result ≡ at_most most (if more then n + 1 else n) }
+    ensures { (n : ℕ) → count ≡ min most n → result ≡ min most (if more then n + 1 else n) }
 {
     if more && count < most {
         count + 1
@@ -181,14 +164,13 @@ impl Locations {
 impl Totals {
     /// Before the first line.
     fn none() -> Totals
-        ensures { result ≡ totals_at [] }
+        ensures { (values : Values) → result ≡ (context_at values []).totals }
     {
         Totals {
             functions: 0,
             blocks: 0,
             regions: 0,
             has_data: false,
-            has_region: false,
             has_services: false,
             has_stack: false,
         }
@@ -196,14 +178,13 @@ impl Totals {
 
     /// With one more line.
     fn after(self, line: &Line<'_>, begins: bool) -> Totals
-        ensures { (before : List Item) → self ≡ totals_at before → begins ≡ begins_block before line.now → result ≡ totals_at (line.now ∷ before) }
+        ensures { (values : Values) (before : List Item) → self ≡ (context_at values before).totals → begins ≡ begins_block before line.now → result ≡ (context_at values (line.now ∷ before)).totals }
     {
         Totals {
             functions: counted(FUNCTIONS, self.functions, starts_function(line)),
             blocks: counted(BLOCKS, self.blocks, begins),
             regions: counted(REGIONS, self.regions, is_region(line)),
             has_data: is_data(line) | self.has_data,
-            has_region: is_region(line) | self.has_region,
             has_services: has_services(line) | self.has_services,
             has_stack: has_stack(line) | self.has_stack,
         }
@@ -226,7 +207,7 @@ impl FunctionContext {
 
     /// With one more line.
     fn after(self, line: &Line<'_>) -> FunctionContext
-        ensures { (before : List Item) → self ≡ function_context before → result ≡ function_context (line.now ∷ before) }
+        ensures { (values : Values) (before : List Item) → self ≡ (context_at values before).function → result ≡ (context_at values (line.now ∷ before)).function }
     {
         if ends_function(line) {
             FunctionContext::new(starts_function(line))
@@ -263,8 +244,8 @@ impl BlockContext {
         begins: bool,
         is_annotated: bool,
     ) -> BlockContext
-        ensures { (values : Values) (before : List Item) → self ≡ block_context values before → is_acting ≡ acts values line.now → begins ≡ begins_block before line.now → is_annotated ≡ takes_annotations values before
-            → result ≡ block_context values (line.now ∷ before) }
+        ensures { (values : Values) (before : List Item) → self ≡ (context_at values before).block → is_acting ≡ acts values line.now → begins ≡ begins_block before line.now → is_annotated ≡ takes_annotations values before
+            → result ≡ (context_at values (line.now ∷ before)).block }
     {
         let has_fuel = !begins & ((has_fuel(line) & is_annotated) | self.has_fuel);
         if ends_block(line) {

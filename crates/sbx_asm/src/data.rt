@@ -1,10 +1,9 @@
 //! The data of lines without faults.
 ghost use Rattle.std.specs.Prelude.{◌≡◌, ◌++◌, [], ◌∷◌, List, IfOk, replicate};
-ghost use Rattle.sbx_asm.specs.Kept.{worth};
+ghost use Rattle.sbx_asm.specs.Kept.{worth, regions_with};
 ghost use Rattle.sbx_asm.specs.Items.{Item};
 ghost use Rattle.sbx_asm.specs.Addresses.{place_at};
 ghost use Rattle.sbx_asm.specs.Images.{filled, region_with, regions_of};
-ghost use Rattle.sbx_asm.specs.Regions.{regions_with};
 
 use crate::operands::push_line_values;
 use crate::place::{Place, padding};

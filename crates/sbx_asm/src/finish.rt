@@ -1,5 +1,6 @@
 //! The image of parts, or why they are none.
-ghost use Rattle.std.specs.Prelude.{◌≡◌, None};
+ghost use Rattle.std.specs.Prelude.{◌≡◌, ◌%◌, ◌-◌, length, nat_lt, None};
+ghost use Rattle.sbx_image.specs.Regions.{page_rights};
 ghost use Rattle.sbx_asm.specs.Images.{judged, whole_cause};
 
 use crate::fault::{AsmFault, Cause};
@@ -11,7 +12,7 @@ const PAGES: usize = 64;
 
 /// Whether regions take more pages than an image may have.
 fn pass_pages(regions: &[Region]) -> bool
-    ensures { result ≡ pass_pages regions.now }
+    ensures { result ≡ nat_lt 64 (length (page_rights regions.now)) }
 {
     let mut left = PAGES;
     for region in regions {

@@ -1,21 +1,14 @@
 //! Places of a source: how far the code and the data have come.
-ghost use Rattle.std.specs.Prelude.{◌≡◌, ◌+◌, ◌*◌, ◌≤◌, List, [], ◌∷◌};
+ghost use Rattle.std.specs.Prelude.{◌≡◌, ◌+◌, ◌-◌, ◌*◌, ◌≤◌, min, nat_le, List, [], ◌∷◌};
 ghost use Rattle.sbx_directives.specs.Data.{bytes_of_width};
 ghost use Rattle.sbx_image.specs.Regions.{pages_for};
 ghost use Rattle.sbx_asm.specs.Items.{Item};
-ghost use Rattle.sbx_asm.specs.Addresses.{code_offset, data_offset, data_length, label_address, padding_of, place_at, section_room, start_behind};
+ghost use Rattle.sbx_asm.specs.Addresses.{code_offset, data_offset, data_length, in_code, label_address, padding_of, place_at, section_room, start_behind};
 
 use crate::kinds::{is_data, is_region, is_text};
 use crate::reading::Line;
 use sbx_directives::{Directive, Statement, Width, byte_len};
 use v8_map::{CODE_END, CODE_START, DATA_START};
-
-/// What an ordinary line adds to.
-#[derive(Clone, Copy)]
-pub enum Section {
-    Code,
-    Data,
-}
 
 /// The bytes that a section has room for, as the code, the data or a region of them.
 pub const ROOM: u32 = 0x40000;
@@ -23,10 +16,12 @@ pub const ROOM: u32 = 0x40000;
 /// Where a ninth region, which is too many, begins at the latest.
 const LAST_START: u32 = DATA_START + 8 * ROOM;
 
-/// The current section, the address of what comes next in the code, and how much the newest region of the data has.
+/// How far the code and the newest region of the data have come.
 #[derive(Clone, Copy)]
 pub struct Place {
-    pub section: Section,
+    /// Whether the code is the current section, what labels and data speak of.
+    pub in_code: bool,
+    /// The address of what comes next in the code.
     pub next_word: u32,
     /// Where the newest region begins, or the data where there are no regions.
     pub region_start: u32,
@@ -66,7 +61,7 @@ fn start_behind(start: u32, bytes: u32) -> u32
 
 /// How far a section is filled behind so many bytes and some more.
 fn up_to_room(offset: u32, more: u128) -> u32
-    ensures value { result ≡ up_to_room (offset + more) }
+    ensures value { result ≡ min (offset + more) section_room }
     ensures bound { result ≤ section_room }
 {
     if offset <= ROOM && more <= u128::from(ROOM - offset) {
@@ -78,7 +73,7 @@ fn up_to_room(offset: u32, more: u128) -> u32
 
 /// Whether so many bytes fit behind others of their section.
 fn fits_behind(offset: u32, bytes: u128) -> bool
-    ensures { result ≡ fits_behind offset bytes }
+    ensures { result ≡ nat_le bytes (section_room - offset) }
 {
     bytes <= u128::from(ROOM.saturating_sub(offset))
 }
@@ -95,19 +90,11 @@ fn data_length(bytes: u32, line: &Line<'_>) -> u128
     }
 }
 
-impl Section {
-    /// The section that is current behind a line.
-    fn after(self, line: &Line<'_>) -> Section
-        ensures { (before : List Item) → self ≡ section_after before → result ≡ section_after (line.now ∷ before) }
-    {
-        if is_text(line) {
-            Section::Code
-        } else if is_data(line) || is_region(line) {
-            Section::Data
-        } else {
-            self
-        }
-    }
+/// Whether the code is the current section behind a line.
+fn in_code_after(current: bool, line: &Line<'_>) -> bool
+    ensures { (before : List Item) → current ≡ in_code before → result ≡ in_code (line.now ∷ before) }
+{
+    is_text(line) || (current && !is_data(line) && !is_region(line))
 }
 
 impl Place {
@@ -116,7 +103,7 @@ impl Place {
         ensures { result ≡ place_at [] }
     {
         Place {
-            section: Section::Code,
+            in_code: true,
             next_word: CODE_START,
             region_start: DATA_START,
             region_bytes: 0,
@@ -134,11 +121,11 @@ impl Place {
     pub fn after(self, line: &Line<'_>) -> Place
         ensures { (before : List Item) → self ≡ place_at before → result ≡ place_at (line.now ∷ before) }
     {
-        let section = self.section.after(line);
+        let in_code = in_code_after(self.in_code, line);
         let next_word = CODE_START + up_to_room(self.code_offset(), line.code_length());
         if is_region(line) {
             Place {
-                section,
+                in_code,
                 next_word,
                 region_start: start_behind(self.region_start, self.region_bytes),
                 region_bytes: 0,
@@ -146,7 +133,7 @@ impl Place {
         } else {
             let more = data_length(self.region_bytes, line);
             Place {
-                section,
+                in_code,
                 next_word,
                 region_start: self.region_start,
                 region_bytes: up_to_room(self.region_bytes, more),
@@ -158,33 +145,24 @@ impl Place {
     pub fn address(self) -> u32
         ensures { (before : List Item) → self ≡ place_at before → result ≡ label_address before }
     {
-        match self.section {
-            Section::Code => self.next_word,
-            Section::Data => self.region_start.saturating_add(self.region_bytes),
+        if self.in_code {
+            self.next_word
+        } else {
+            self.region_start.saturating_add(self.region_bytes)
         }
     }
 
     /// Whether the code has room for so many bytes more.
     pub fn code_has_room(self, bytes: u128) -> bool
-        ensures { (before : List Item) → self ≡ place_at before → result ≡ fits_behind (code_offset before) bytes }
+        ensures { (before : List Item) → self ≡ place_at before → result ≡ nat_le bytes (section_room - code_offset before) }
     {
         fits_behind(self.code_offset(), bytes)
     }
 
     /// Whether the data have.
     pub fn data_has_room(self, bytes: u128) -> bool
-        ensures { (before : List Item) → self ≡ place_at before → result ≡ fits_behind (data_offset before) bytes }
+        ensures { (before : List Item) → self ≡ place_at before → result ≡ nat_le bytes (section_room - data_offset before) }
     {
         fits_behind(self.region_bytes, bytes)
-    }
-
-    /// Whether the code is the current section.
-    pub fn is_in_code(self) -> bool
-        ensures { result ≡ is_code self.section }
-    {
-        match self.section {
-            Section::Code => true,
-            Section::Data => false,
-        }
     }
 }

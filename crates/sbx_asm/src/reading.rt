@@ -2,10 +2,8 @@
 ghost use Rattle.std.specs.Prelude.{◌≡◌, IfOk, Ok, Err, drop, ◌*◌};
 ghost use Rattle.sbx_text.specs.Tokens.{tokens_of};
 ghost use Rattle.v8_syntax.specs.Statements.{statement_length};
-ghost use Rattle.sbx_directives.specs.Directives.{statement_of};
 ghost use Rattle.sbx_asm.specs.Items.{item_of, label_names};
 ghost use Rattle.sbx_asm.specs.Addresses.{code_length};
-ghost use Rattle.sbx_asm.specs.Told.{said_of, IsCounted};
 
 use sbx_directives::{Statement, label_count, read_statement};
 use sbx_text::{TextFault, Token};
@@ -37,27 +35,23 @@ pub struct Line<'a> {
 }
 
 impl<'a> Model for Line<'a> {
-    ghost use Rattle.std.specs.Prelude.{◌≡◌, ◌*◌, drop};
+    ghost use Rattle.std.specs.Prelude.{◌≡◌, ◌*◌, drop, Ok, Err, ⊤};
+    ghost use Rattle.v8_syntax.specs.Statements.{statement_length};
+    ghost use Rattle.sbx_directives.specs.declared.directive.Statement.TheVariants as statements;
+    ghost use Rattle.sbx_asm.specs.declared.reading.Told.TheVariants.{Nothing, Instruction, Other, Fault};
     ghost use Rattle.sbx_asm.specs.Items.{Item, label_names};
-    ghost use Rattle.sbx_asm.specs.Told.{said_of, IsCounted};
 
     ghost Value = { Item };
 
-    ghost view = { λ l. record { number = l.number; labels = label_names l.bytes.now l.label_count l.tokens.now; bytes = l.bytes.now; tokens = drop (2 * l.label_count) l.tokens.now; said = said_of l.told } };
+    ghost view = { λ l. record {
+      number = l.number;
+      labels = label_names l.bytes.now l.label_count l.tokens.now;
+      bytes = l.bytes.now;
+      tokens = drop (2 * l.label_count) l.tokens.now;
+      said = elim l.told [ Nothing ↦ Ok statements.Nothing | Instruction words ↦ Ok statements.Instruction | Other said ↦ Ok said.value | Fault fault ↦ Err fault ];
+    } };
 
-    ghost invariant = { λ l. IsCounted l.told l.bytes.now (drop (2 * l.label_count) l.tokens.now) };
-}
-
-/// What some tokens of a line say.
-fn told_by(alloc: Global, line: &[u8], tokens: &[Token]) -> Result<Told, AllocError>
-    ensures said { IfOk result (λ told. said_of told ≡ Ok (statement_of line.now tokens.now)) }
-    ensures counted { IfOk result (λ told. IsCounted told line.now tokens.now) }
-{
-    match read_statement(line, tokens) {
-        Statement::Nothing => Ok(Told::Nothing),
-        Statement::Instruction => Ok(Told::Instruction(length_of(line, tokens))),
-        statement => Ok(Told::Other(Box::new(alloc, statement)?)),
-    }
+    ghost invariant = { λ l. elim l.told [ Instruction words ↦ words ≡ statement_length l.bytes.now (drop (2 * l.label_count) l.tokens.now) | _ ↦ ⊤ ] };
 }
 
 /// The tokens behind so many labels.
@@ -82,7 +76,12 @@ impl<'a> Line<'a> {
         ensures { IfOk result (λ line. Ok tokens.now ≡ tokens_of bytes.now → line ≡ item_of (number, bytes.now)) }
     {
         let label_count = label_count(bytes, tokens);
-        let told = told_by(alloc, bytes, behind_labels(tokens, label_count))?;
+        let rest = behind_labels(tokens, label_count);
+        let told = match read_statement(bytes, rest) {
+            Statement::Nothing => Told::Nothing,
+            Statement::Instruction => Told::Instruction(length_of(bytes, rest)),
+            statement => Told::Other(Box::new(alloc, statement)?),
+        };
         Ok(Line {
             number,
             bytes,

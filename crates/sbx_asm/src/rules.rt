@@ -1,14 +1,13 @@
 //! The rules of each line, where the lines before it are known by their context.
-ghost use Rattle.std.specs.Prelude.{◌≡◌, ◌*◌, ◌++◌, [], ◌∷◌, ℕ, nat_le, List, Ok, Result, Option, if◌then◌else◌};
+ghost use Rattle.std.specs.Prelude.{◌≡◌, ◌*◌, ◌++◌, [], ◌∷◌, ℕ, nat_le, min, List, Ok, Option, if◌then◌else◌, ◌&&◌};
 ghost use Rattle.std.specs.List.{list_any};
-ghost use Rattle.std.specs.Result.{result_err};
 ghost use Rattle.sbx_directives.specs.declared.directive.Name.{Name};
 ghost use Rattle.sbx_directives.specs.declared.fault.DataFault.{DataFault};
 ghost use Rattle.v8_syntax.specs.Statements.{statement_length};
 ghost use Rattle.sbx_directives.specs.declared.directive.Statement.TheVariants as statements;
-ghost use Rattle.sbx_asm.specs.Items.{Item, count, starts_function, is_data, is_region};
+ghost use Rattle.sbx_asm.specs.Items.{Item, count, starts_function, ends_function, is_data, is_region, in_function, up_to, depths, has};
 ghost use Rattle.sbx_asm.specs.declared.fault.Cause.TheVariants as causes;
-ghost use Rattle.sbx_asm.specs.Rules.{Values, when, in_place, data_rules, value_rules, another_block, block_rules, ascending, takes_annotations, takes_ranges, has_fuel, directive_rules, line_rules, value_fault_of, syntax_fault_of};
+ghost use Rattle.sbx_asm.specs.Rules.{Values, when, in_place, data_rules, value_rules, another_block, block_rules, ascending, takes_annotations, takes_ranges, has_fuel, value_fault_of, syntax_fault_of, directive_rules, line_rules};
 ghost use Rattle.sbx_asm.specs.Kept.{noted, locations_of, context_at};
 
 use crate::context::{BLOCKS, CELLS, Context, FUNCTIONS, Locations, RANGES, REGIONS, TERMS};
@@ -21,20 +20,19 @@ use v8_syntax::SyntaxFault;
 
 /// Whether there are as many as may be.
 fn is_full(most: u16, count: u16) -> bool
-    ensures { (n : ℕ) → count ≡ at_most most n → result ≡ nat_le most n }
+    ensures { (n : ℕ) → count ≡ min most n → result ≡ nat_le most n }
 {
     count >= most
 }
 
 /// A malformed list of values, or one that doesn't fit; an unknown symbol.
 fn value_rules(notes: Notes, fault: Option<DataFault>) -> Notes
-    ensures { (r : Result (List ℕ) DataFault) → fault ≡ result_err r → result ≡ noted (value_rules r) notes }
+    ensures { result ≡ noted (value_rules fault) notes }
 {
     match fault {
-        None => notes,
         Some(DataFault::UnknownSymbol) => notes.with(Cause::Syntax(SyntaxFault::UnknownSymbol)),
         Some(DataFault::Malformed) => notes.with(Cause::Directive),
-        Some(DataFault::Memory(_)) => notes,
+        _ => notes,
     }
 }
 
@@ -54,10 +52,9 @@ impl Context {
     fn data_rules(self, notes: Notes, bytes: u128) -> Notes
         ensures { (values : Values) (before : List Item) → self ≡ context_at values before → result ≡ noted (data_rules before bytes) notes }
     {
-        let misplaced = self.place.is_in_code();
         let room = self.place.data_has_room(bytes);
         notes
-            .with_where(misplaced, Cause::Directive)
+            .with_where(self.place.in_code, Cause::Directive)
             .with_where(!room, Cause::Limit)
     }
 
@@ -99,7 +96,7 @@ impl Context {
 
     /// At most 6 params or results, of which there are so many.
     fn range_rules(self, notes: Notes, count: u16) -> Notes
-        ensures { (values : Values) (before : List Item) (n : ℕ) → self ≡ context_at values before → count ≡ at_most 6 n → result ≡ noted (in_place (takes_ranges values before) (when (nat_le 6 n) causes.Limit)) notes }
+        ensures { (values : Values) (before : List Item) (n : ℕ) → self ≡ context_at values before → count ≡ min 6 n → result ≡ noted (in_place (takes_ranges values before) (when (nat_le 6 n) causes.Limit)) notes }
     {
         if self.takes_ranges() {
             notes.with_where(is_full(RANGES, count), Cause::Limit)
@@ -124,7 +121,7 @@ impl Context {
 
     /// At most one `.depth` of a function, in its first block.
     fn depth_rules(self, notes: Notes) -> Notes
-        ensures { (values : Values) (before : List Item) → self ≡ context_at values before → result ≡ noted (if has_depth before then causes.Directive ∷ [] else in_place (takes_ranges values before) []) notes }
+        ensures { (values : Values) (before : List Item) → self ≡ context_at values before → result ≡ noted (if in_function before && list_any (has depths) (up_to ends_function before) then causes.Directive ∷ [] else in_place (takes_ranges values before) []) notes }
     {
         let again = self.function.is_open & self.function.has_depth;
         once(notes, again, self.takes_ranges())
@@ -139,12 +136,11 @@ impl Context {
 
     /// The rules of a directive, where it is known why its values have no bytes.
     fn directive_rules(self, notes: Notes, directive: Directive, fault: Option<DataFault>) -> Notes
-        ensures { (values : Values) (before : List Item) (i : Item) → self ≡ context_at values before → i.said ≡ Ok (statements.Directive directive) → fault ≡ value_fault_of values i
-            → result ≡ noted (directive_rules values before i directive) notes }
+        ensures { (values : Values) (before : List Item) (i : Item) → self ≡ context_at values before → fault ≡ value_fault_of values i → result ≡ noted (directive_rules values before i directive) notes }
     {
         match directive {
             Directive::Text => notes,
-            Directive::Data => notes.with_where(self.totals.has_region, Cause::Directive),
+            Directive::Data => notes.with_where(self.totals.regions > 0, Cause::Directive),
             Directive::Region { .. } => self.region_rules(notes),
             Directive::Services(_) => {
                 notes.with_where(self.totals.has_services, Cause::Directive)
@@ -186,10 +182,10 @@ impl Context {
 
     /// An instruction stands in the code, in a function, within the code's room; it is told why it has no words.
     fn instruction_rules(self, notes: Notes, bytes: u128, fault: Option<SyntaxFault>) -> Notes
-        ensures { (values : Values) (before : List Item) (i : Item) → self ≡ context_at values before → i.said ≡ Ok statements.Instruction → bytes ≡ 4 * statement_length i.bytes i.tokens → fault ≡ syntax_fault_of values before i
+        ensures { (values : Values) (before : List Item) (i : Item) → self ≡ context_at values before → bytes ≡ 4 * statement_length i.bytes i.tokens → fault ≡ syntax_fault_of values before i
             → result ≡ noted (line_rules values before i (Ok statements.Instruction)) notes }
     {
-        let placed = self.place.is_in_code() & self.function.is_open;
+        let placed = self.place.in_code & self.function.is_open;
         let room = self.place.code_has_room(bytes);
         let notes = notes
             .with_where(!placed, Cause::Directive)

@@ -1,11 +1,9 @@
 //! Where each label stands.
 ghost use Rattle.std.specs.Prelude.{◌≡◌, IfOk, List, MatchOption, None, [], ◌∷◌, ◌++◌, map};
-ghost use Rattle.std.specs.List.{fold};
 ghost use Rattle.sbx_directives.specs.Directives.{text_of};
-ghost use Rattle.sbx_asm.specs.Rules.{told, duplicates};
 ghost use Rattle.sbx_asm.specs.Items.{Item, label_names};
-ghost use Rattle.sbx_asm.specs.Addresses.{Label, all_labels, labelled, labels_at, names_said, place_at, values_of};
-ghost use Rattle.sbx_asm.specs.Kept.{IsSurvey, worth};
+ghost use Rattle.sbx_asm.specs.Addresses.{Label, all_labels, labelled, labels_at, names_said, place_at};
+ghost use Rattle.sbx_asm.specs.Kept.{IsSurvey};
 
 use crate::fault::{AsmFault, Cause, told};
 use crate::place::Place;
@@ -121,8 +119,7 @@ impl<'a> Survey<'a> {
 
 /// The labels of all lines.
 pub fn survey_lines<'a>(alloc: Global, lines: &[Line<'a>]) -> Result<Survey<'a>, AllocError>
-    ensures values { IfOk result (λ survey. worth survey.table ≡ values_of lines.now) }
-    ensures fault { IfOk result (λ survey. survey.fault ≡ fold told None (duplicates [] (all_labels lines.now))) }
+    ensures { IfOk result (λ survey. IsSurvey (all_labels lines.now) survey) }
 {
     let mut survey = Survey::new(alloc);
     let mut place = Place::start();

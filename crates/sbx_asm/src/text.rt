@@ -1,10 +1,9 @@
 //! The tokens of a source, each line of it read once.
-ghost use Rattle.std.specs.Prelude.{◌≡◌, ◌≢◌, ◌≤◌, ◌∷◌, ◌++◌, [], ℕ, IfOk, List, drop, length};
-ghost use Rattle.want.specs.Wants.{refused};
-ghost use Rattle.sbx_text.specs.declared.fault.TextFault.TheVariants.{Memory};
+ghost use Rattle.std.specs.Prelude.{◌≡◌, ◌∷◌, ◌++◌, [], IfOk, List, Result, length};
+ghost use Rattle.std.specs.Result.{result_map_both, result_unwrap_or};
+ghost use Rattle.sbx_text.specs.declared.Token.{Token};
 ghost use Rattle.sbx_text.specs.Tokens.{tokens_of};
-ghost use Rattle.sbx_asm.specs.Items.{lines_of, item_of, items_of};
-ghost use Rattle.sbx_asm.specs.Reads.{Adds, Keeps, count_of, own};
+ghost use Rattle.sbx_asm.specs.Items.{item_of, items_of};
 
 use crate::lines::first_line;
 use crate::reading::Line;
@@ -12,18 +11,11 @@ use sbx_text::{TextFault, Token, push_tokens};
 use std::alloc::{AllocError, Global};
 use std::marker::Model;
 
-/// How many tokens a line has, or why it has none.
-#[derive(Clone, Copy)]
-pub enum Found {
-    Tokens(usize),
-    Fault(TextFault),
-}
-
-/// The tokens of some lines one after the other, and what was found in each line.
+/// The tokens of some lines one after the other, and how many each line has, or why it has none.
 #[derive(Drop)]
 pub struct Kept {
     pub tokens: Vec<Token>,
-    pub found: Vec<Found>,
+    pub found: Vec<Result<usize, TextFault>>,
 }
 
 /// A source with the tokens of its lines. Contracts see the source.
@@ -34,40 +26,31 @@ pub struct Text<'a> {
 }
 
 impl<'a> Model for Text<'a> {
-    ghost use Rattle.std.specs.Prelude.{ℕ, List};
+    ghost use Rattle.std.specs.Prelude.{◌≡◌, ℕ, List, [], length, map};
+    ghost use Rattle.std.specs.List.{flat_map};
+    ghost use Rattle.std.specs.Result.{result_map_both, result_unwrap_or};
+    ghost use Rattle.sbx_text.specs.Tokens.{tokens_of};
     ghost use Rattle.sbx_asm.specs.Items.{lines_of};
-    ghost use Rattle.sbx_asm.specs.Reads.{Keeps};
 
     ghost Value = { List ℕ };
 
     ghost view = { λ t. t.source.now };
 
-    ghost invariant = { λ t. Keeps (lines_of t.source.now) t.kept.found.items t.kept.tokens.items };
+    ghost invariant = { λ t. (t.kept.tokens.items ≡ flat_map (λ line. result_unwrap_or (tokens_of line) []) (lines_of t.source.now))
+        × (t.kept.found.items ≡ map (λ line. result_map_both length (λ fault. fault) (tokens_of line)) (lines_of t.source.now)) };
 }
 
-/// A fault of a line; want of memory is none.
-fn of_line(fault: TextFault) -> Result<TextFault, AllocError>
-    ensures { IfOk result (λ kept. (kept ≡ fault) × (kept ≢ Memory refused)) }
-{
-    match fault {
-        TextFault::Memory(want) => Err(AllocError::from(want)),
-        TextFault::NotAscii => Ok(TextFault::NotAscii),
-        TextFault::BadCharacter => Ok(TextFault::BadCharacter),
-        TextFault::NumberTooLarge => Ok(TextFault::NumberTooLarge),
-        TextFault::LineTooLong => Ok(TextFault::LineTooLong),
-    }
-}
-
-/// Adds the tokens of a line to others.
-fn read_tokens(line: &[u8], tokens: &mut Vec<Token>) -> Result<Found, AllocError>
-    ensures { IfOk result (λ found. Adds found (tokens_of line.now) tokens.old.items tokens.new.items) }
+/// Adds the tokens of a line to others, and counts them.
+fn read_tokens(line: &[u8], tokens: &mut Vec<Token>) -> Result<Result<usize, TextFault>, AllocError>
+    ensures { IfOk result (λ found. (found ≡ result_map_both length (λ fault. fault) (tokens_of line.now)) × (tokens.new.items ≡ tokens.old.items ++ result_unwrap_or (tokens_of line.now) [])) }
 {
     let before = tokens.len();
     match push_tokens(line, tokens) {
-        Ok(()) => Ok(Found::Tokens(tokens.len().saturating_sub(before))),
+        Ok(()) => Ok(Ok(tokens.len().saturating_sub(before))),
+        Err(TextFault::Memory(want)) => Err(AllocError::from(want)),
         Err(fault) => {
             tokens.truncate(before);
-            Ok(Found::Fault(of_line(fault)?))
+            Ok(Err(fault))
         }
     }
 }
@@ -75,7 +58,8 @@ fn read_tokens(line: &[u8], tokens: &mut Vec<Token>) -> Result<Found, AllocError
 impl Kept {
     /// Reads one more line.
     fn add_line(&mut self, line: &[u8]) -> Result<(), AllocError>
-        ensures { IfOk result (λ _. (lines : List (List ℕ)) → Keeps lines self.old.found.items self.old.tokens.items → Keeps (lines ++ line.now ∷ []) self.new.found.items self.new.tokens.items) }
+        ensures { IfOk result (λ _. (self.new.found.items ≡ self.old.found.items ++ result_map_both length (λ fault. fault) (tokens_of line.now) ∷ [])
+            × (self.new.tokens.items ≡ self.old.tokens.items ++ result_unwrap_or (tokens_of line.now) [])) }
     {
         let found = read_tokens(line, &mut self.tokens)?;
         self.found.push(found)?;
@@ -83,31 +67,23 @@ impl Kept {
     }
 }
 
-/// The line of that number that has the first of some tokens.
-fn line_with<'a>(
+/// The line of that number, whose tokens stand in front of others, and the others.
+fn line_of<'a>(
     alloc: Global,
     number: usize,
     bytes: &'a [u8],
-    found: Found,
+    found: Result<usize, TextFault>,
     tokens: &'a [Token],
-) -> Result<Line<'a>, AllocError>
-    requires { count_of found ≤ length tokens.now }
-    ensures { IfOk result (λ line. own found tokens.now ≡ tokens_of bytes.now → line ≡ item_of (number, bytes.now)) }
+) -> Result<(Line<'a>, &'a [Token]), AllocError>
+    ensures { IfOk result (λ read. (others : List Token) → found ≡ result_map_both length (λ fault. fault) (tokens_of bytes.now) → tokens.now ≡ result_unwrap_or (tokens_of bytes.now) [] ++ others
+        → (read.0 ≡ item_of (number, bytes.now)) × (read.1.now ≡ others)) }
 {
     match found {
-        Found::Tokens(count) => Line::with_tokens(alloc, number, bytes, tokens.split_at(count).0),
-        Found::Fault(fault) => Ok(Line::with_fault(number, bytes, fault)),
-    }
-}
-
-/// The tokens behind those of a line.
-fn behind(found: Found, tokens: &[Token]) -> &[Token]
-    requires { count_of found ≤ length tokens.now }
-    ensures { result.now ≡ drop (count_of found) tokens.now }
-{
-    match found {
-        Found::Tokens(count) => tokens.split_at(count).1,
-        Found::Fault(_) => tokens,
+        Ok(count) => {
+            let (own, others) = tokens.split_at(count.min(tokens.len()));
+            Ok((Line::with_tokens(alloc, number, bytes, own)?, others))
+        }
+        Err(fault) => Ok((Line::with_fault(number, bytes, fault), tokens)),
     }
 }
 
@@ -139,10 +115,10 @@ impl<'a> Text<'a> {
         let mut tokens = self.kept.tokens.as_slice();
         for index in 0..found.len() {
             let (bytes, after) = first_line(rest);
-            let line = line_with(alloc, index + 1, bytes, found[index], tokens)?;
+            let (line, others) = line_of(alloc, index + 1, bytes, found[index], tokens)?;
             lines.push(line)?;
             rest = after;
-            tokens = behind(found[index], tokens);
+            tokens = others;
         }
         Ok(lines)
     }

@@ -1,4 +1,4 @@
-use Rattle.std.proofs.Common.{◌≡◌, ◌++◌, drop, pos}
+use Rattle.std.proofs.Common.{◌≡◌, ◌++◌, drop, pos, get_or}
 use Rattle.std.specs.List.{flat_map}
 use Rattle.sbx_asm.specs.Items.{fuels, cells, terms}
 use Rattle.sbx_asm.proofs.Firsts.{first_of}

@@ -1,4 +1,5 @@
-use Rattle.std.proofs.Common.{◌≡◌, drop}
+use Rattle.std.proofs.Common.{◌≡◌, drop, get_or}
+use Rattle.sbx_asm.proofs.Views.{version_with}
 use Rattle.std.specs.List.{flat_map, list_any}
 use Rattle.sbx_asm.specs.Items.{services, stacks, depths, has, is_region}
 use Rattle.sbx_asm.proofs.Firsts.{first_of, later}

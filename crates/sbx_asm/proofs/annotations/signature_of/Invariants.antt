@@ -1,4 +1,4 @@
-use Rattle.std.proofs.Common.{◌≡◌, ◌++◌, drop}
+use Rattle.std.proofs.Common.{◌≡◌, ◌++◌, drop, get_or}
 use Rattle.std.specs.List.{flat_map}
 use Rattle.sbx_asm.specs.Items.{params, results, depths}
 use Rattle.sbx_asm.proofs.Firsts.{first_of}

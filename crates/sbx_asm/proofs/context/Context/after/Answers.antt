@@ -8,7 +8,7 @@ returns c = λ values before h acting.
     let annotated = c.takes_annotations-is_annotated.ensures values before h in
     λ j. record {
       place = c.after.ensures before (ap (λ (k : Context). k.place) h) j;
-      totals = c.after-2.ensures before (ap (λ (k : Context). k.totals) h) begins j;
-      function = c.after-3.ensures before (ap (λ (k : Context). k.function) h) j;
+      totals = c.after-2.ensures values before (ap (λ (k : Context). k.totals) h) begins j;
+      function = c.after-3.ensures values before (ap (λ (k : Context). k.function) h) j;
       block = c.after-4.ensures values before (ap (λ (k : Context). k.block) h) acting begins annotated j;
     }

@@ -1,11 +1,11 @@
-use Rattle.std.proofs.Common.{◌≡◌, ◌+◌, ap, sym, ◌∙◌}
+use Rattle.std.proofs.Common.{◌≡◌, ◌+◌, false, ap, sym, ◌∙◌}
 use Rattle.std.specs.Prelude.{min}
-use Rattle.sbx_asm.specs.declared.place.Section.TheVariants.{Data}
 use Rattle.sbx_asm.specs.declared.place.Place.{Place}
+use Rattle.sbx_asm.specs.Addresses.{in_code}
 use Rattle.sbx_asm.proofs.Rooms.{in_data}
 use Rattle.sbx_asm.proofs.place.Place.address.Goals as goal
 
-pub returns-in-Data : goal.returns-in-Data
-returns-in-Data c = λ before here.
-    let chosen : section_after before ≡ Data = sym (ap (λ (p : Place). p.section) here) ∙ c.in-Data.is in
+pub returns-else-self : goal.returns-else-self
+returns-else-self c = λ before here.
+    let chosen : in_code before ≡ false = sym (ap (λ (p : Place). p.in_code) here) ∙ c.if-self.false in
     c.saturating_add.ensures ∙ ap (λ (p : Place). min (p.region_start + p.region_bytes) 4294967295) here ∙ in_data before chosen

@@ -11,17 +11,15 @@ use Rattle.sbx_asm.proofs.survey.Survey.add.Goals as goal
 pub returns-in-Some : goal.returns-in-Some
 returns-in-Some c = λ labels so_far.
     let l : Label = labelled c.args.number c.args.address c.args.name.now in
-    let known : worth_in labels c.args.name.now ≡ Some c.in-Some.field-0 = sym (ap (λ (vs : Values). vs c.args.name.now) so_far.values) ∙ sym c.value.ensures ∙ c.in-Some.is in
-    record {
-      values = so_far.values ∙ worth_stays labels l c.in-Some.field-0 known;
-      told = c.told-self.ensures ∙ ap (λ (f : Option AsmFault). told f (at c.args.number DuplicateLabel)) so_far.told ∙ told_twice labels l c.in-Some.field-0 known;
-    }
+    let known : worth_in labels c.args.name.now ≡ Some c.in-Some.field-0 = sym (ap (λ (vs : Values). vs c.args.name.now) so_far.0) ∙ sym c.value.ensures ∙ c.in-Some.is in (
+      so_far.0 ∙ worth_stays labels l c.in-Some.field-0 known,
+      c.told-self.ensures ∙ ap (λ (f : Option AsmFault). told f (at c.args.number DuplicateLabel)) so_far.1 ∙ told_twice labels l c.in-Some.field-0 known,
+    )
 
 pub returns-in_ok-put-in-None : goal.returns-in_ok-put-in-None
 returns-in_ok-put-in-None c = λ labels so_far.
     let l : Label = labelled c.args.number c.args.address c.args.name.now in
-    let unknown : worth_in labels c.args.name.now ≡ None = sym (ap (λ (vs : Values). vs c.args.name.now) so_far.values) ∙ sym c.value.ensures ∙ c.in-None.is in
-    record {
-      values = c.in_ok-put-in-None.ensures ∙ ap (λ (vs : Values). update bytes_eq vs c.args.name.now (Some c.args.address)) so_far.values ∙ worth_taken labels l unknown;
-      told = so_far.told ∙ told_once labels l unknown;
-    }
+    let unknown : worth_in labels c.args.name.now ≡ None = sym (ap (λ (vs : Values). vs c.args.name.now) so_far.0) ∙ sym c.value.ensures ∙ c.in-None.is in (
+      c.in_ok-put-in-None.ensures ∙ ap (λ (vs : Values). update bytes_eq vs c.args.name.now (Some c.args.address)) so_far.0 ∙ worth_taken labels l unknown,
+      so_far.1 ∙ told_once labels l unknown,
+    )

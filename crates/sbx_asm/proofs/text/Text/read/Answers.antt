@@ -1,11 +1,16 @@
-use Rattle.std.proofs.Common.{List, subst, ℕ, arith}
-use Rattle.sbx_asm.specs.Items.{lines_of}
-use Rattle.sbx_asm.specs.Reads.{Keeps}
-use Rattle.sbx_asm.proofs.Keeping.{all_read}
+use Rattle.std.proofs.Common.{refl, map, arith}
+use Rattle.std.specs.List.{flat_map}
+use Rattle.sbx_asm.proofs.Keeping.{count_of, own, one_more, all_read}
 use Rattle.sbx_asm.proofs.text.Text.read.Goals as goal
 
+pub loop-rest-preserved : goal.loop-rest-preserved
+loop-rest-preserved c = record {
+  tokens = one_more (flat_map own) c.loop-rest.kept.tokens.items _ c.loop-rest.rest.now c.loop-rest.invariant.tokens c.first_line.result.0.now c.first_line.result.1.now _ _ c.first_line.ensures.lines refl c.in_ok-add_line.ensures.1;
+  found = one_more (map count_of) c.loop-rest.kept.found.items _ c.loop-rest.rest.now c.loop-rest.invariant.found c.first_line.result.0.now c.first_line.result.1.now _ _ c.first_line.ensures.lines refl c.in_ok-add_line.ensures.0;
+}
+
 pub invariant_of-result : goal.invariant_of-result
-invariant_of-result c =
-    let so_far = c.loop-rest.invariant in
-    subst (λ (lines : List (List ℕ)). Keeps lines c.loop-rest.kept.found.items c.loop-rest.kept.tokens.items)
-    (all_read so_far.0 (lines_of c.args.source.now) c.loop-rest.rest.now (omega arith) so_far.2) so_far.1
+invariant_of-result c = (
+  all_read (flat_map own) c.loop-rest.kept.tokens.items _ c.loop-rest.rest.now c.loop-rest.invariant.tokens refl (omega arith),
+  all_read (map count_of) c.loop-rest.kept.found.items _ c.loop-rest.rest.now c.loop-rest.invariant.found refl (omega arith),
+)

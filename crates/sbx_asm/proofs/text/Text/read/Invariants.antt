@@ -1,11 +1,15 @@
-use Rattle.std.proofs.Common.{◌≡◌, ℕ, List, ◌++◌, length}
+use Rattle.std.proofs.Common.{◌≡◌, ◌++◌, length, map}
+use Rattle.std.specs.List.{flat_map}
 use Rattle.sbx_asm.specs.Items.{lines_of}
-use Rattle.sbx_asm.specs.Reads.{Keeps}
+use Rattle.sbx_asm.proofs.Keeping.{count_of, own}
 use Rattle.sbx_asm.proofs.text.Text.read.Given as goal
 
--- the lines so far are kept, and with those of the rest they are all of them
+-- what is kept of the lines so far, with that of the rest, is that of all
 abbrev pub invariant-loop-rest : goal.invariant-loop-rest
-invariant-loop-rest l = (so_far : List (List ℕ)) × Keeps so_far l.kept.found.items l.kept.tokens.items × (so_far ++ lines_of l.rest ≡ lines_of l.source)
+invariant-loop-rest l = record {
+  tokens : l.kept.tokens.items ++ flat_map own (lines_of l.rest) ≡ flat_map own (lines_of l.source);
+  found : l.kept.found.items ++ map count_of (lines_of l.rest) ≡ map count_of (lines_of l.source);
+}
 
 abbrev pub decreases-loop-rest : goal.decreases-loop-rest
 decreases-loop-rest l = length l.rest
