@@ -5,8 +5,9 @@ use Rattle.sbx_image.specs.Parts.{Parts}
 use Rattle.sbx_asm.specs.declared.fault.AsmFault.{AsmFault}
 use Rattle.sbx_asm.specs.Rules.{told, Values, duplicates, faults_at, faults_of, least_of}
 use Rattle.sbx_asm.specs.Items.{Item, items_of, each}
-use Rattle.sbx_asm.specs.Addresses.{all_labels, values_of}
+use Rattle.sbx_asm.specs.Addresses.{values_of}
 use Rattle.sbx_asm.specs.Images.{image_of, judged, source_image, Gives}
+use Rattle.sbx_asm.proofs.Views.{all_labels}
 use Rattle.sbx_asm.proofs.Surveys.{fold_append}
 
 -- the fault that is told of the labels, and then of the lines, is the least of all

@@ -19,8 +19,8 @@ use Rattle.sbx_asm.specs.declared.fault.Cause.{Cause}
 use Rattle.sbx_asm.specs.declared.fault.Cause.TheVariants as causes
 use Rattle.sbx_asm.specs.Rules.{at, Values, duplicates, faults_of, least_of, when, data_rules, value_rules, line_rules, faults_at}
 use Rattle.sbx_asm.specs.Items.{Item, items_of, Said, each, up_to, count, is_region}
-use Rattle.sbx_asm.proofs.Views.{behind, up_to_room, fits_behind, last_start, data_address, item, address_in_section, another_region}
-use Rattle.sbx_asm.specs.Addresses.{data_length, padding_of, section_room, data_offset, start_behind, region_start, in_code, label_address, all_labels, values_of}
+use Rattle.sbx_asm.proofs.Views.{behind, up_to_room, fits_behind, last_start, data_address, item, address_in_section, another_region, all_labels}
+use Rattle.sbx_asm.specs.Addresses.{data_length, padding_of, section_room, data_offset, start_behind, region_start, in_code, label_address, values_of}
 use Rattle.sbx_asm.specs.Images.{filled, region_with, bytes_at, region_at, image_of, source_image}
 use Rattle.sbx_asm.specs.Laws.{DataLieWhereLabelsSay}
 use Rattle.sbx_asm.proofs.Rooms.{in_room, data_within, low}

@@ -18,10 +18,10 @@ use Rattle.sbx_directives.specs.Data.{data_of, bytes_of_width}
 use Rattle.sbx_asm.specs.declared.fault.AsmFault.{AsmFault}
 use Rattle.sbx_asm.specs.declared.fault.Cause.{Cause}
 use Rattle.sbx_asm.specs.declared.fault.Cause.TheVariants as causes
-use Rattle.sbx_asm.specs.Rules.{at, Values, when, ascending, duplicates, data_rules, another_block, block_rules, in_place, value_rules, acts, takes_annotations, takes_ranges, has_fuel, line_rules, faults_at, faults_of, least_of, value_fault_of}
+use Rattle.sbx_asm.specs.Rules.{at, Values, when, ascending, duplicates, data_rules, block_rules, in_place, value_rules, acts, takes_annotations, takes_ranges, has_fuel, line_rules, faults_at, faults_of, least_of, value_fault_of}
 use Rattle.sbx_asm.specs.Items.{Item, Said, each, up_to, count, starts_function, ends_function, is_data, is_region, has_bytes, is_block, ends_block, in_function, begins_block, block_count, services, stacks, params, results, depths, fuels, cells, terms, has, is_text}
-use Rattle.sbx_asm.specs.Addresses.{Label, code_length, data_length, region_start, section_room, start_behind, code_offset, data_offset, code_address, in_code, labelled, names_said, labels_at, all_labels, worth_in, values_of}
-use Rattle.sbx_asm.proofs.Views.{up_to_room, fits_behind, is_called, has_depth, renumbered, retold, saying, leaves_region, address_in_section, told_again, range_rules, statement_rules, words_meant, version_with, fault_meant}
+use Rattle.sbx_asm.specs.Addresses.{Label, code_length, data_length, region_start, section_room, start_behind, code_offset, data_offset, code_address, in_code, labelled, names_said, labels_at, worth_in, values_of}
+use Rattle.sbx_asm.proofs.Views.{up_to_room, fits_behind, is_called, has_depth, renumbered, retold, saying, leaves_region, address_in_section, told_again, range_rules, statement_rules, words_meant, version_with, fault_meant, all_labels, another_block}
 use Rattle.sbx_asm.specs.Images as images
 use Rattle.sbx_asm.specs.Images.{block_with, block_at, function_at, words_at, bytes_at, filled, region_with, region_at, image_of}
 use Rattle.sbx_asm.specs.Laws.{BlankLinesChangeNothing, NumbersShowInFaultsAlone}

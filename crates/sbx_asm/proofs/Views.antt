@@ -16,8 +16,8 @@ use Rattle.sbx_directives.specs.declared.fault.DataFault.{DataFault}
 use Rattle.sbx_asm.specs.declared.fault.AsmFault.{AsmFault}
 use Rattle.sbx_asm.specs.declared.fault.Cause.{Cause}
 use Rattle.sbx_asm.specs.declared.fault.Cause.TheVariants as causes
-use Rattle.sbx_asm.specs.Items.{Item, Said, up_to, count, is_text, is_data, is_region, ends_function, in_function, depths, has}
-use Rattle.sbx_asm.specs.Addresses.{Label, section_room, region_start, data_offset, code_address}
+use Rattle.sbx_asm.specs.Items.{Item, Said, up_to, count, is_text, is_data, is_region, ends_function, in_function, block_count, each, depths, has}
+use Rattle.sbx_asm.specs.Addresses.{Label, labels_at, section_room, region_start, data_offset, code_address}
 use Rattle.sbx_asm.specs.Rules.{Values, at, when, is_earlier}
 use Rattle.sbx_asm.specs.Images.{whole_cause}
 
@@ -49,6 +49,9 @@ fits_behind offset n = nat_le n (section_room - offset)
 abbrev pub last_start : ℕ
 last_start = DATA_START + 8 * section_room
 
+abbrev pub all_labels : List Item → List Label
+all_labels items = each labels_at [] items
+
 abbrev pub data_address : List Item → ℕ
 data_address before = region_start before + data_offset before
 
@@ -71,6 +74,9 @@ fault_meant values here i = elim i.said [ Ok statements.Instruction ↦ result_e
 
 abbrev pub statement_rules : Option SyntaxFault → List Cause
 statement_rules o = elim o [ None ↦ [] | Some f ↦ causes.Syntax f ∷ [] ]
+
+abbrev pub another_block : List Item → List Cause
+another_block before = when (nat_le 4096 (block_count before)) causes.Limit
 
 -- the open function has a `.depth` already
 abbrev pub has_depth : List Item → Bool

@@ -93,13 +93,10 @@ abbrev pub labels_at : List Item → Item → List Item → List Label
 labels_at before i after =
     map (labelled i.number (label_address before)) i.labels ++ map (labelled i.number (code_address before)) (names_said i.bytes i.said)
 
-abbrev pub all_labels : List Item → List Label
-all_labels items = each labels_at [] items
-
 -- a name is worth the address of the first label of that name
 abbrev pub worth_in : List Label → List ℕ → Option ℕ
 worth_in [] name = None
 worth_in (l ∷ ls) name = if bytes_eq l.name name then Some l.address else worth_in ls name
 
 abbrev pub values_of : List Item → List ℕ → Option ℕ
-values_of items = worth_in (all_labels items)
+values_of items = worth_in (each labels_at [] items)

@@ -20,7 +20,7 @@ pub use Rattle.sbx_asm.specs.declared.fault.AsmFault.{AsmFault}
 pub use Rattle.sbx_asm.specs.declared.fault.Cause.{Cause}
 use Rattle.sbx_asm.specs.declared.fault.Cause.TheVariants as causes
 use Rattle.sbx_asm.specs.Items.{Item, Cell, Term, Said, each, up_to, count, starts_function, ends_function, is_block, ends_block, is_text, is_data, is_region, has_bytes, in_function, begins_block, block_count, services, stacks, params, results, depths, fuels, cells, terms, has}
-use Rattle.sbx_asm.specs.Addresses.{Label, padding_of, section_room, code_offset, data_offset, code_address, in_code, all_labels, values_of}
+use Rattle.sbx_asm.specs.Addresses.{Label, padding_of, section_room, code_offset, data_offset, code_address, in_code, labels_at, values_of}
 
 -- ---- how it is shown
 
@@ -89,13 +89,9 @@ value_rules (Some data_faults.UnknownSymbol) = causes.Syntax UnknownSymbol ∷ [
 value_rules (Some data_faults.Malformed) = causes.Directive ∷ []
 value_rules _ = []
 
--- at most 4,096 blocks in all
-abbrev pub another_block : List Item → List Cause
-another_block before = when (nat_le 4096 (block_count before)) causes.Limit
-
--- a `.block` stands in a function
+-- a `.block` stands in a function; at most 4,096 blocks in all
 abbrev pub block_rules : List Item → List Cause
-block_rules before = in_place (in_function before) (another_block before)
+block_rules before = in_place (in_function before) (when (nat_le 4096 (block_count before)) causes.Limit)
 
 -- at most so many cells or terms of a block, the nearest first: their locations ascend
 abbrev pub ascending : ℕ → List ℕ → ℕ → List Cause
@@ -141,8 +137,8 @@ module _ (values : Values) where
   directive_rules before i (directives.Depth n) =
       if in_function before && list_any (has depths) (up_to ends_function before) then causes.Directive ∷ [] else in_place (takes_ranges before) []
   directive_rules before i (directives.Fuel z) = if has_fuel before then causes.Directive ∷ [] else in_place (takes_annotations before) []
-  -- at most 256 functions, and 6 params and results of each, 64 cells and 8 terms of a block
-  directive_rules before i (directives.Function name kind frame room budget) = when (nat_le 256 (count starts_function before)) causes.Limit ++ another_block before
+  -- at most 256 functions, each of which begins a block, and 6 params and results of each, 64 cells and 8 terms of a block
+  directive_rules before i (directives.Function name kind frame room budget) = when (nat_le 256 (count starts_function before)) causes.Limit ++ when (nat_le 4096 (block_count before)) causes.Limit
   directive_rules before i (directives.Param r) = in_place (takes_ranges before) (when (nat_le 6 (length (flat_map params (up_to ends_function before)))) causes.Limit)
   directive_rules before i (directives.Result r) = in_place (takes_ranges before) (when (nat_le 6 (length (flat_map results (up_to ends_function before)))) causes.Limit)
   directive_rules before i (directives.Block name) = block_rules before
@@ -177,4 +173,4 @@ module _ (values : Values) where
 
 -- the faults of all lines
 abbrev pub faults_of : List Item → List AsmFault
-faults_of items = duplicates [] (all_labels items) ++ each (faults_at (values_of items)) [] items
+faults_of items = duplicates [] (each labels_at [] items) ++ each (faults_at (values_of items)) [] items

@@ -5,9 +5,9 @@ ghost use Rattle.sbx_directives.specs.declared.directive.Name.{Name};
 ghost use Rattle.sbx_directives.specs.declared.fault.DataFault.{DataFault};
 ghost use Rattle.v8_syntax.specs.Statements.{statement_length};
 ghost use Rattle.sbx_directives.specs.declared.directive.Statement.TheVariants as statements;
-ghost use Rattle.sbx_asm.specs.Items.{Item, count, starts_function, ends_function, is_data, is_region, in_function, up_to, depths, has};
+ghost use Rattle.sbx_asm.specs.Items.{Item, count, starts_function, ends_function, is_data, is_region, in_function, block_count, up_to, depths, has};
 ghost use Rattle.sbx_asm.specs.declared.fault.Cause.TheVariants as causes;
-ghost use Rattle.sbx_asm.specs.Rules.{Values, when, in_place, data_rules, value_rules, another_block, block_rules, ascending, takes_annotations, takes_ranges, has_fuel, value_fault_of, syntax_fault_of, directive_rules, line_rules};
+ghost use Rattle.sbx_asm.specs.Rules.{Values, when, in_place, data_rules, value_rules, block_rules, ascending, takes_annotations, takes_ranges, has_fuel, value_fault_of, syntax_fault_of, directive_rules, line_rules};
 ghost use Rattle.sbx_asm.specs.Kept.{noted, locations_of, context_at};
 
 use crate::context::{BLOCKS, CELLS, Context, FUNCTIONS, Locations, RANGES, REGIONS, TERMS};
@@ -60,7 +60,7 @@ impl Context {
 
     /// At most 4,096 blocks in all.
     fn another_block(self, notes: Notes) -> Notes
-        ensures { (values : Values) (before : List Item) → self ≡ context_at values before → result ≡ noted (another_block before) notes }
+        ensures { (values : Values) (before : List Item) → self ≡ context_at values before → result ≡ noted (when (nat_le 4096 (block_count before)) causes.Limit) notes }
     {
         notes.with_where(is_full(BLOCKS, self.totals.blocks), Cause::Limit)
     }
@@ -78,7 +78,7 @@ impl Context {
 
     /// At most 256 functions.
     fn function_rules(self, notes: Notes) -> Notes
-        ensures { (values : Values) (before : List Item) → self ≡ context_at values before → result ≡ noted (when (nat_le 256 (count starts_function before)) causes.Limit ++ another_block before) notes }
+        ensures { (values : Values) (before : List Item) → self ≡ context_at values before → result ≡ noted (when (nat_le 256 (count starts_function before)) causes.Limit ++ when (nat_le 4096 (block_count before)) causes.Limit) notes }
     {
         let full = is_full(FUNCTIONS, self.totals.functions);
         self.another_block(notes.with_where(full, Cause::Limit))

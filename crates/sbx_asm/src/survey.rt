@@ -1,8 +1,8 @@
 //! Where each label stands.
 ghost use Rattle.std.specs.Prelude.{◌≡◌, IfOk, List, MatchOption, None, [], ◌∷◌, ◌++◌, map};
 ghost use Rattle.sbx_directives.specs.Directives.{text_of};
-ghost use Rattle.sbx_asm.specs.Items.{Item, label_names};
-ghost use Rattle.sbx_asm.specs.Addresses.{Label, all_labels, labelled, labels_at, names_said, place_at};
+ghost use Rattle.sbx_asm.specs.Items.{Item, each, label_names};
+ghost use Rattle.sbx_asm.specs.Addresses.{Label, labelled, labels_at, names_said, place_at};
 ghost use Rattle.sbx_asm.specs.Kept.{IsSurvey};
 
 use crate::fault::{AsmFault, Cause, told};
@@ -119,7 +119,7 @@ impl<'a> Survey<'a> {
 
 /// The labels of all lines.
 pub fn survey_lines<'a>(alloc: Global, lines: &[Line<'a>]) -> Result<Survey<'a>, AllocError>
-    ensures { IfOk result (λ survey. IsSurvey (all_labels lines.now) survey) }
+    ensures { IfOk result (λ survey. IsSurvey (each labels_at [] lines.now) survey) }
 {
     let mut survey = Survey::new(alloc);
     let mut place = Place::start();
