@@ -1,7 +1,7 @@
 -- The instructions of a statement are spelled as words below 2 ^ 32.
 use Rattle.std.proofs.Common.{ℕ, ◌+◌, ◌%◌, ◌^◌, ◌<◌, ◌≤◌, Bool, cond, not, eqb, ltb, leb, List, [], ◌∷◌, map, Option, None, Some, IfSome, Result, Ok, Err, IfOk, arith}
 use Rattle.std.specs.Prelude.{◌&&◌, ◌||◌, codes, take, drop}
-use Rattle.std.specs.Option.{option_map, option_or, unwrap_or}
+use Rattle.std.specs.Option.{option_map, option_map_or, option_or, unwrap_or}
 use Rattle.std.specs.Str.{bytes_eq}
 use Rattle.std.specs.List.{AllByRecursion}
 use Rattle.std.proofs.lemmas.Bool.{cond_both, ltb-true}
@@ -23,14 +23,14 @@ use Rattle.v8_syntax.specs.declared.word.Word.TheVariants as words
 use Rattle.v8_syntax.specs.declared.word.NameKind.{NameKind}
 use Rattle.v8_syntax.specs.declared.expression.Base.TheVariants as bases
 use Rattle.v8_syntax.specs.declared.expression.Expression.{Expression}
-use Rattle.v8_syntax.specs.Statements.{either, beside, groups, small_number, register_named, specials, word_at, word_of, words_of, bytes_between, ◌>>=◌, Reading, after_sign, after, number_first, register_first, end, plain, less, moved, named_expression, expression, word_in, operands_of, sethi, or, set_instructions, is_symbolic, set_operands, set, named, of_condition, first_of, named_meaning, name_first, source_meaning}
+use Rattle.v8_syntax.specs.Statements.{beside, groups, small_number, register_named, specials, word_at, word_of, words_of, bytes_between, ◌>>=◌, Reading, after_sign, after, number_first, register_first, end, plain, less, moved, named_expression, expression, word_in, operands_of, sethi, or, set_instructions, is_symbolic, set_operands, set, named, of_condition, first_of, named_meaning, name_first, source_meaning}
 use Rattle.sbx_asm.proofs.Wholes.{whatever}
 
 abbrev IsWord : ℕ → Type 0
 IsWord w = w < 2 ^ 32
 
 -- one reading, else another
-either_all : {A B : Type 0} (P : A → Type 0) (Q : B → Type 0) (o : Option A) (f : A → B) (other : B) → IfSome o P → ((x : A) → P x → Q (f x)) → Q other → Q (either o f other)
+either_all : {A B : Type 0} (P : A → Type 0) (Q : B → Type 0) (o : Option A) (f : A → B) (other : B) → IfSome o P → ((x : A) → P x → Q (f x)) → Q other → Q (option_map_or f o other)
 either_all P Q (Some x) f other h go or = go x h
 either_all P Q None f other h go or = or
 
@@ -215,7 +215,7 @@ module _ (values : List ℕ → Option ℕ) (line : List ℕ) where
         cond_both (bytes_eq name (codes "set")) (set values line ws) _ Means (λ _. set_means ws h)
         (λ _. step_all IsWord AreSpelled (first_of values here line UnknownMnemonic forms name ws) _ (first_word UnknownMnemonic forms name ws) (λ w k. meaning_spelled w k))
 
-    statement_means : (ws : List Word) → AreSmall ws → Means (either (name_first line ws) (λ x. named_meaning values here line x.0 x.1) (Err UnknownMnemonic))
+    statement_means : (ws : List Word) → AreSmall ws → Means (option_map_or (λ x. named_meaning values here line x.0 x.1) (name_first line ws) (Err UnknownMnemonic))
     statement_means (words.Name kind i j ∷ ws) h = named_means (bytes_between line i j) ws h.1
     statement_means _ h = tt
 

@@ -1,5 +1,5 @@
 -- A name and `:`, as the words of some tokens have them.
-use Rattle.std.proofs.Common.{◌≡◌, ℕ, suc, ◌+◌, Bool, true, false, cond, List, [], ◌∷◌, length, Option, Some, None, refl, sym, ap, ◌∙◌, arith, eqb}
+use Rattle.std.proofs.Common.{◌≡◌, ℕ, suc, ◌+◌, Bool, true, false, cond, List, ◌∷◌, length, Option, Some, None, refl, ap, arith, eqb}
 use Rattle.std.proofs.lemmas.List.{length-map}
 use Rattle.sbx_text.specs.declared.Token.{Token}
 use Rattle.v8_syntax.specs.declared.word.Word.{Word}

@@ -1,10 +1,9 @@
 // The names of directives and annotations.
-ghost use Rattle.std.specs.Prelude.{◌≡◌, ℕ, List, map};
-ghost use Rattle.v8_syntax.specs.Statements.{beside};
+ghost use Rattle.std.specs.Prelude.{◌≡◌};
 ghost use Rattle.sbx_directives.specs.Directives.{keyword_named};
 
 use crate::directive::Keyword;
-use v8_syntax::{is_same, sign_byte};
+use v8_syntax::{beside, sign_byte};
 
 static KEYWORDS: [(&str, Keyword); 18] = [
     (".text", Keyword::Text),
@@ -27,18 +26,6 @@ static KEYWORDS: [(&str, Keyword); 18] = [
     (".align", Keyword::Align),
 ];
 
-/// The keyword of the first of some names that is the one.
-fn first_named(keywords: &[(&str, Keyword)], name: &[u8]) -> Option<Keyword>
-    ensures { result ≡ beside name.now (map (λ x. (x.0.now, x.1)) keywords.now) }
-{
-    for (text, keyword) in keywords {
-        if is_same(name, text.as_bytes()) {
-            return Some(*keyword);
-        }
-    }
-    None
-}
-
 /// The keyword of a name. All begin with a dot, and most names do not.
 #[tactic(auto, unfolding(crate::specs::Directives::keyword_named, crate::specs::Directives::named_keywords))]
 pub fn keyword_named(name: &[u8]) -> Option<Keyword>
@@ -47,5 +34,5 @@ pub fn keyword_named(name: &[u8]) -> Option<Keyword>
     if sign_byte(name) != b'.' {
         return None;
     }
-    first_named(&KEYWORDS, name)
+    beside(name, &KEYWORDS)
 }

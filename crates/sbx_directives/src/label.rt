@@ -12,9 +12,7 @@ fn behind_label<'t>(line: &[u8], tokens: &'t [Token]) -> Option<&'t [Token]>
     ensures value { MatchOption result (labels_first (words_of line.now tokens.now) ≡ 0) (λ rest. labels_first (words_of line.now tokens.now) ≡ suc (labels_first (words_of line.now rest.now))) }
     ensures room { IfSome result (λ rest. 2 + length rest.now ≡ length tokens.now) }
 {
-    let Some((first, after)) = tokens.split_first() else {
-        return None;
-    };
+    let (first, after) = tokens.split_first()?;
     let rest = after_sign(b':', line, after)?;
     match word_of(line, first) {
         Word::Name(..) => Some(rest),

@@ -16,12 +16,8 @@ pub fn integer_in(low: i64, high: i64, operand: Operand) -> Option<i64>
     ensures greatest { IfSome result (λ z. z ≤ℤ high) }
 {
     match operand {
-        Operand::Number(number) => {
-            if i128::from(low) <= number && number <= i128::from(high) {
-                Some(number as i64)
-            } else {
-                None
-            }
+        Operand::Number(number) if i128::from(low) <= number && number <= i128::from(high) => {
+            Some(number as i64)
         }
         _ => None,
     }
@@ -34,12 +30,8 @@ pub fn natural_in(low: u64, high: u64, operand: Operand) -> Option<u64>
     ensures greatest { IfSome result (λ n. n ≤ high) }
 {
     match operand {
-        Operand::Number(number) => {
-            if i128::from(low) <= number && number <= i128::from(high) {
-                Some(number as u64)
-            } else {
-                None
-            }
+        Operand::Number(number) if i128::from(low) <= number && number <= i128::from(high) => {
+            Some(number as u64)
         }
         _ => None,
     }
@@ -71,11 +63,7 @@ pub fn range_of(line: &[u8], tokens: &[Token]) -> Option<Range>
     let lo = signed_word(low)?;
     let hi = signed_word(high)?;
     let alignment = natural_in(0, 3, alignment)? as u8;
-    if lo <= hi {
-        Some(Range { lo, hi, alignment })
-    } else {
-        None
-    }
+    (lo <= hi).then_some(Range { lo, hi, alignment })
 }
 
 /// Any number of 32 bits but 0, signed.
@@ -83,11 +71,7 @@ pub fn coefficient(operand: Operand) -> Option<i32>
     ensures { result ≡ coefficient operand }
 {
     let number = signed_word(operand)?;
-    if number < 0 || 0 < number {
-        Some(number)
-    } else {
-        None
-    }
+    (number != 0).then_some(number)
 }
 
 /// A name alone.
@@ -118,12 +102,8 @@ pub fn location(line: &[u8], operand: Operand) -> Option<u16>
 {
     match operand {
         Operand::Register(register) => {
-            let number = register.number();
-            if number == 0 {
-                None
-            } else {
-                Some(u16::from(number))
-            }
+            let register = u16::from(register.number());
+            (register != 0).then_some(register)
         }
         Operand::Counted(name, number) => slot(text_of(line, name), number),
         Operand::Difference(name, number) => {

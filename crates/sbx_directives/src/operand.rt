@@ -88,10 +88,7 @@ fn operand_of(line: &[u8], tokens: &[Token]) -> Operand
 fn is_comma(word: Word) -> bool
     ensures { result ≡ is_comma word }
 {
-    match word {
-        Word::Sign(sign) => sign == b',',
-        _ => false,
-    }
+    matches!(word, Word::Sign(b','))
 }
 
 /// How many tokens stand before the next comma, or the end.

@@ -1,10 +1,8 @@
 // What stands behind the labels of a line.
-ghost use Rattle.std.specs.Prelude.{◌≡◌, ◌≤◌, if◌then◌else◌, pos, negsuc, codes, false, true, [], ◌∷◌};
-ghost use Rattle.sbx_image.specs.Kind.TheVariants.{Leaf, Framed};
-ghost use Rattle.v8_syntax.specs.Statements.{beside};
+ghost use Rattle.std.specs.Prelude.{◌≡◌, ◌≤◌, if◌then◌else◌, [], ◌∷◌};
 ghost use Rattle.std.specs.List.{list_any, list_all};
 ghost use Rattle.sbx_directives.specs.declared.directive.Keyword.TheVariants as keywords;
-ghost use Rattle.sbx_directives.specs.Directives.{integer_in, behind, names, frames_of, right_of, is_service, named_services, services_of, is_expression, value_count, directive_of, called, told, statement_of};
+ghost use Rattle.sbx_directives.specs.Directives.{behind, names, frames_of, right_of, is_service, named_services, services_of, is_expression, value_count, directive_of, called, told, statement_of};
 
 use crate::directive::{Directive, Keyword, Name, Statement, Width, text_of};
 use crate::keyword::keyword_named;
@@ -12,7 +10,7 @@ use crate::number::{coefficient, integer_in, location, natural_in, plain_name, r
 use crate::operand::{Operand, next_operand, none, one, operands};
 use sbx_image::{Cell, Kind, Services, Term};
 use sbx_text::Token;
-use v8_syntax::{Word, bytes_between, is_same, word_of};
+use v8_syntax::{Word, beside, bytes_between, is_same, word_of};
 
 /// Whether an operand is the name that is wanted.
 fn names(wanted: &[u8], line: &[u8], operand: &Operand) -> bool
@@ -24,41 +22,19 @@ fn names(wanted: &[u8], line: &[u8], operand: &Operand) -> bool
     }
 }
 
-fn kind_named(name: &[u8]) -> Option<Kind>
-    ensures { result ≡ beside name.now ((codes "leaf", Leaf) ∷ (codes "framed", Framed) ∷ []) }
-{
-    if is_same(name, b"leaf") {
-        Some(Kind::Leaf)
-    } else if is_same(name, b"framed") {
-        Some(Kind::Framed)
-    } else {
-        None
-    }
-}
-
 fn frames_of(line: &[u8], operand: Operand) -> Option<Kind>
     ensures { result ≡ frames_of line.now operand }
 {
-    kind_named(text_of(line, plain_name(operand)?))
-}
-
-fn right_named(name: &[u8]) -> Option<bool>
-    ensures { result ≡ beside name.now ((codes "ro", false) ∷ (codes "rw", true) ∷ []) }
-{
-    if is_same(name, b"ro") {
-        Some(false)
-    } else if is_same(name, b"rw") {
-        Some(true)
-    } else {
-        None
-    }
+    let kinds = [("leaf", Kind::Leaf), ("framed", Kind::Framed)];
+    beside(text_of(line, plain_name(operand)?), &kinds)
 }
 
 /// Whether the program may write what `ro` or `rw` names.
 fn right_of(line: &[u8], operand: Operand) -> Option<bool>
     ensures { result ≡ right_of line.now operand }
 {
-    right_named(text_of(line, plain_name(operand)?))
+    let rights = [("ro", false), ("rw", true)];
+    beside(text_of(line, plain_name(operand)?), &rights)
 }
 
 fn is_service(line: &[u8], operand: Operand) -> bool
@@ -117,20 +93,16 @@ fn services_of(line: &[u8], tokens: &[Token]) -> Option<Services>
     if next_operand(line, tokens).is_none() {
         return None;
     }
-    if are_services(line, tokens) {
-        Some(Services(named_services(line, tokens)))
-    } else {
-        None
-    }
+    are_services(line, tokens).then_some(Services(named_services(line, tokens)))
 }
 
 fn is_expression(operand: Operand) -> bool
     ensures { result ≡ is_expression operand }
 {
-    match operand {
-        Operand::Register(_) | Operand::Counted(..) | Operand::Other => false,
-        _ => true,
-    }
+    !matches!(
+        operand,
+        Operand::Register(_) | Operand::Counted(..) | Operand::Other
+    )
 }
 
 /// How many expressions the operands are, if all are such, and there are some.
@@ -217,23 +189,13 @@ fn term_of(line: &[u8], tokens: &[Token]) -> Option<Directive>
     }))
 }
 
-fn fuel_of(operand: Operand) -> Option<i64>
-    ensures { result ≡ integer_in (negsuc 1099511627774) (pos 1099511627775) operand }
-{
-    integer_in(-0xff_ffff_ffff, 0xff_ffff_ffff, operand)
-}
-
 /// 2, 4 or 8
 #[tactic(auto, unfolding(crate::specs::Directives::directive_of))]
 fn alignment_of(line: &[u8], tokens: &[Token]) -> Option<Directive>
     ensures { result ≡ directive_of line.now keywords.Align (behind line.now tokens.now) }
 {
     let number = natural_in(2, 8, one(line, tokens)?)?;
-    if number == 2 || (number == 4 || number == 8) {
-        Some(Directive::Align(number as u32))
-    } else {
-        None
-    }
+    matches!(number, 2 | 4 | 8).then_some(Directive::Align(number as u32))
 }
 
 /// The directive of a keyword and the operands behind the first token.
@@ -256,7 +218,10 @@ fn directive_of(line: &[u8], keyword: Keyword, tokens: &[Token]) -> Option<Direc
         Keyword::Depth => Some(Directive::Depth(natural_in(0, 256, one(line, tokens)?)? as u16)),
         Keyword::Block => Some(Directive::Block(plain_name(one(line, tokens)?)?)),
         Keyword::Cell => cell_of(line, tokens),
-        Keyword::Fuel => Some(Directive::Fuel(fuel_of(one(line, tokens)?)?)),
+        Keyword::Fuel => {
+            let operand = one(line, tokens)?;
+            Some(Directive::Fuel(integer_in(-0xff_ffff_ffff, 0xff_ffff_ffff, operand)?))
+        }
         Keyword::Term => term_of(line, tokens),
         Keyword::Word => Some(Directive::Values(Width::Word, value_count(line, tokens)?)),
         Keyword::Half => Some(Directive::Values(Width::Half, value_count(line, tokens)?)),

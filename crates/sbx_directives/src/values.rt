@@ -2,9 +2,7 @@
 ghost use Rattle.std.specs.Prelude.{◌≡◌, ◌++◌, ℕ, List, Option, pos, negsuc, ◌+ℤ◌, ◌≤ℤ◌, length, take, OnOk, OnErr, true};
 ghost use Rattle.std.specs.List.{flat_map, list_all};
 ghost use Rattle.std.specs.Option.{option_map};
-ghost use Rattle.std.specs.Int.{w8, w16, w32, to_be_bytes};
 ghost use Rattle.sbx_directives.specs.Directives.{behind};
-ghost use Rattle.v8_syntax.specs.Statements.{of_bits};
 ghost use Rattle.sbx_directives.specs.Data.{bytes_of_width, fits, spelled, value_of, is_known, is_fit, bytes_of, listed, data_of, Gives};
 
 use crate::directive::{Width, text_of};
@@ -13,7 +11,7 @@ use crate::operand::{Operand, next_operand, operands};
 use crate::statement::value_count;
 use sbx_text::Token;
 use std::alloc::AllocError;
-use v8_syntax::Symbols;
+use v8_syntax::{Symbols, of_bits};
 
 /// How many bytes a value takes.
 pub fn byte_len(width: Width) -> usize
@@ -72,10 +70,7 @@ fn is_known<S: Symbols>(symbols: &S, line: &[u8], operand: Operand) -> bool
 fn is_fit<S: Symbols>(symbols: &S, line: &[u8], width: Width, operand: Operand) -> bool
     ensures { result ≡ is_fit (S.values symbols.now) line.now width operand }
 {
-    match value_of(symbols, line, operand) {
-        Some(value) => fits(width, value),
-        None => false,
-    }
+    value_of(symbols, line, operand).is_some_and(|value| fits(width, value))
 }
 
 fn are_known<S: Symbols>(symbols: &S, line: &[u8], tokens: &[Token]) -> bool
@@ -104,51 +99,15 @@ fn are_fit<S: Symbols>(symbols: &S, line: &[u8], width: Width, tokens: &[Token])
     true
 }
 
-fn byte_of(value: i128) -> u8
-    requires low { negsuc 127 ≤ℤ value }
-    requires high { value ≤ℤ pos 255 }
-    ensures { result ≡ of_bits 256 value }
-{
-    if value >= 0 {
-        value as u8
-    } else {
-        (value + 0x100) as u8
-    }
-}
-
-fn half_of(value: i128) -> u16
-    requires low { negsuc 32767 ≤ℤ value }
-    requires high { value ≤ℤ pos 65535 }
-    ensures { result ≡ of_bits 65536 value }
-{
-    if value >= 0 {
-        value as u16
-    } else {
-        (value + 0x1_0000) as u16
-    }
-}
-
-fn word_of(value: i128) -> u32
-    requires low { negsuc 2147483647 ≤ℤ value }
-    requires high { value ≤ℤ pos 4294967295 }
-    ensures { result ≡ of_bits 4294967296 value }
-{
-    if value >= 0 {
-        value as u32
-    } else {
-        (value + 0x1_0000_0000) as u32
-    }
-}
-
 fn push_spelled(width: Width, value: i128, out: &mut Vec<u8>) -> Result<(), AllocError>
     requires { fits width value ≡ true }
     ensures done { OnOk result (out.new.items ≡ out.old.items ++ spelled width value) }
     ensures kept { OnErr result (out.new.items ≡ out.old.items) }
 {
     match width {
-        Width::Byte => out.extend_from_slice(&byte_of(value).to_be_bytes()),
-        Width::Half => out.extend_from_slice(&half_of(value).to_be_bytes()),
-        Width::Word => out.extend_from_slice(&word_of(value).to_be_bytes()),
+        Width::Byte => out.extend_from_slice(&(of_bits(0x100, value) as u8).to_be_bytes()),
+        Width::Half => out.extend_from_slice(&(of_bits(0x1_0000, value) as u16).to_be_bytes()),
+        Width::Word => out.extend_from_slice(&(of_bits(0x1_0000_0000, value) as u32).to_be_bytes()),
     }
 }
 

@@ -1,7 +1,7 @@
 -- How many instructions a statement takes doesn't hang on what its names are worth.
 use Rattle.std.proofs.Common.{◌≡◌, ℕ, ◌^◌, ℤ, Bool, true, false, cond, List, [], ◌∷◌, length, refl, sym, ap, subst, ◌∙◌, Some, Option, None, Result, Ok, Err, pos}
 use Rattle.std.specs.Prelude.{MatchResult, ◌&&◌, ◌+ℤ◌, int_le, codes}
-use Rattle.std.specs.Option.{option_map, option_or}
+use Rattle.std.specs.Option.{option_map, option_and_then, option_map_or, option_or}
 use Rattle.std.specs.Str.{bytes_eq}
 use Rattle.std.proofs.lemmas.Bool.{cond_both}
 use Rattle.v8_formats.specs.declared.instr.Instr.{Instr}
@@ -17,7 +17,7 @@ use Rattle.v8_syntax.specs.declared.expression.Base.{Base}
 use Rattle.v8_syntax.specs.declared.expression.Base.TheVariants as bases
 use Rattle.v8_syntax.specs.declared.expression.Expression.{Expression}
 use Rattle.v8_forms.specs.Forms.{forms, least, greatest}
-use Rattle.v8_syntax.specs.Statements.{either, bytes_between, words_of, ◌>>=◌, end, after, plain, less, moved, number_first, register_first, named_expression, expression, word_in, in_range, of_bits, offset_of, set, set_operands, set_instructions, is_symbolic, first_of, named_meaning, count_of, name_first}
+use Rattle.v8_syntax.specs.Statements.{bytes_between, words_of, ◌>>=◌, end, after, plain, less, moved, number_first, register_first, named_expression, expression, word_in, in_range, of_bits, offset_of, set, set_operands, set_instructions, is_symbolic, first_of, named_meaning, count_of, name_first}
 use Rattle.v8_rereading.specs.Laws.{CountsInstructions, IsNoStatement}
 
 -- ---- the operands of `set`, without what their names are worth
@@ -49,14 +49,14 @@ or_mapped : {B C : Type 0} (f : B → C) (o p : Option B) (o' p' : Option C) →
 or_mapped f (Some b) p o' p' h e = ap (λ r. option_or r p') h
 or_mapped f None p o' p' h e = ap (λ r. option_or r p') h ∙ e
 
-either_over : {A B C : Type 0} (f : B → C) (o : Option A) (g : A → Option B) (g' : A → Option C) → ((a : A) → g' a ≡ option_map f (g a)) → either o g' None ≡ option_map f (either o g None)
-either_over f (Some a) g g' h = h a
-either_over f None g g' h = refl
+then_over : {A B C : Type 0} (f : B → C) (o : Option A) (g : A → Option B) (g' : A → Option C) → ((a : A) → g' a ≡ option_map f (g a)) → option_and_then g' o ≡ option_map f (option_and_then g o)
+then_over f (Some a) g g' h = h a
+then_over f None g g' h = refl
 
-either_both : {A A' B C : Type 0} (f : B → C) (k : A → A') (o : Option A) (o' : Option A') (g : A → Option B) (g' : A' → Option C)
-    → o' ≡ option_map k o → ((a : A) → g' (k a) ≡ option_map f (g a)) → either o' g' None ≡ option_map f (either o g None)
-either_both f k (Some a) o' g g' same h = ap (λ r. either r g' None) same ∙ h a
-either_both f k None o' g g' same h = ap (λ r. either r g' None) same
+then_both : {A A' B C : Type 0} (f : B → C) (k : A → A') (o : Option A) (o' : Option A') (g : A → Option B) (g' : A' → Option C)
+    → o' ≡ option_map k o → ((a : A) → g' (k a) ≡ option_map f (g a)) → option_and_then g' o' ≡ option_map f (option_and_then g o)
+then_both f k (Some a) o' g g' same h = ap (option_and_then g') same ∙ h a
+then_both f k None o' g g' same h = ap (option_and_then g') same
 
 moved_bare : (kind : NameKind) (v : Option ℕ) → moved kind None ≡ base_of (moved kind v)
 moved_bare names.Place v = refl
@@ -81,8 +81,8 @@ module _ (values : List ℕ → Option ℕ) (line : List ℕ) where
   set_bare : (ws : List Word) → set_operands (λ _. None) line ws ≡ option_map set_as (set_operands values line ws)
   unfolding set_operands
   set_bare ws =
-      either_both set_as read_as (expression values line ws) (expression (λ _. None) line ws) _ _ (expression_bare ws)
-      (λ x. either_over set_as (after 44 register_first x.1) _ _ (λ y. mapped set_as (end y.1) _ _ (λ z. refl)))
+      then_both set_as read_as (expression values line ws) (expression (λ _. None) line ws) _ _ (expression_bare ws)
+      (λ x. then_over set_as (after 44 register_first x.1) _ _ (λ y. mapped set_as (end y.1) _ _ (λ z. refl)))
 
 -- ---- `set`
 
@@ -128,7 +128,7 @@ base_counts (bases.Here (Some v)) negative n rd =
 base_counts (bases.Here None) negative n rd = λ k. absurd k
 
 abbrev set_of : Option Operands → Result (List Instr) SyntaxFault
-set_of o = either o (λ x. made_of x.0.0 x.0.1) (Err Shape)
+set_of o = option_map_or (λ x. made_of x.0.0 x.0.1) o (Err Shape)
 
 set_counts : (o : Option Operands) → Counts (set_of o) (count_of (set_of (option_map set_as o)))
 set_counts (Some x) = base_counts x.0.0.base x.0.0.negative x.0.0.number x.0.1
@@ -148,7 +148,7 @@ module _ (values : List ℕ → Option ℕ) (here : ℕ) (line : List ℕ) where
       subst (λ o. Counts (set values line ws) (count_of (set_of o))) (sym (set_bare values line ws)) (set_counts (set_operands values line ws))
   name_counts false name ws = one_counts (first_of values here line UnknownMnemonic forms name ws)
 
-  words_count : (ws : List Word) → Counts (either (name_first line ws) (λ x. named_meaning values here line x.0 x.1) (Err UnknownMnemonic)) (either (name_first line ws) (λ x. cond (bytes_eq x.0 (codes "set")) (count_of (set (λ _. None) line x.1)) 1) 1)
+  words_count : (ws : List Word) → Counts (option_map_or (λ x. named_meaning values here line x.0 x.1) (name_first line ws) (Err UnknownMnemonic)) (option_map_or (λ x. cond (bytes_eq x.0 (codes "set")) (count_of (set (λ _. None) line x.1)) 1) (name_first line ws) 1)
   unfolding named_meaning
   words_count (words.Name kind i j ∷ ws) = name_counts (bytes_eq (bytes_between line i j) (codes "set")) (bytes_between line i j) ws
   words_count _ = λ _. refl

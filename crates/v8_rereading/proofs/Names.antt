@@ -2,6 +2,7 @@
 use Rattle.std.proofs.Common.{◌≡◌, ℕ, zero, suc, ◌<◌, ◌≤◌, Bool, true, false, cond, not, List, [], ◌∷◌, ◌++◌, length, get_or, refl, ap, subst, ◌∙◌, arith, eqb, ltb, leb, Some, Option, None, Result, Ok, ◌⊎◌, inl, inr}
 use Rattle.std.specs.Prelude.{codes}
 use Rattle.std.specs.List.{find}
+use Rattle.std.specs.Option.{option_map_or}
 use Rattle.std.specs.Str.{bytes_eq}
 use Rattle.std.proofs.lemmas.Bool.{false≢true, eqb-true, leb-true, ltb-true, ltb-false}
 use Rattle.v8_word.specs.Word.{bits_of}
@@ -10,7 +11,7 @@ use Rattle.v8_syntax.specs.declared.fault.SyntaxFault.TheVariants.{Shape, Unknow
 use Rattle.v8_syntax.specs.declared.word.Word.{Word}
 use Rattle.v8_forms.specs.Forms.{Form, forms, natives, suffixes, synthetics}
 use Rattle.v8_forms.specs.Text.{condition_in, filled, is_word_of, native_of, suffix_text, values}
-use Rattle.v8_syntax.specs.Statements.{either, ◌>>=◌, operands_of, first_of, named, of_condition}
+use Rattle.v8_syntax.specs.Statements.{◌>>=◌, operands_of, first_of, named, of_condition}
 use Rattle.v8_forms.proofs.Tables.{all_of, first_of_both, second_of_both, found_passes, same}
 use Rattle.v8_rereading.proofs.Bytes.{is_name}
 use Rattle.v8_rereading.proofs.Parts.{shut, printable}
@@ -129,7 +130,7 @@ module _ (values_of : List ℕ → Option ℕ) (here : ℕ) (line : List ℕ) (w
   passed : (others : SyntaxFault → Result ℕ SyntaxFault) (x : ℕ) (k : Form) (fault : SyntaxFault) (o : Option ℕ) → ((other : SyntaxFault) → others other ≡ Ok x)
       → (operands_of values_of here line k.parts ws ≡ None) ⊎ (o ≡ None) → of_condition values_of here line others fault k ws o ≡ Ok x
   passed others x k fault None go h = go fault
-  passed others x k fault (Some c) go (inl e) = ap (λ r. either r (λ n. n.0 >>= λ m. Ok (filled k c m)) (others Shape)) e ∙ go Shape
+  passed others x k fault (Some c) go (inl e) = ap (λ r. option_map_or (λ n. n.0 >>= λ m. Ok (filled k c m)) r (others Shape)) e ∙ go Shape
   passed others x k fault (Some c) go (inr e) = absurd (cc)
 
   found_first : (f : Form) (w : ℕ) (name : List ℕ) → Found f w → operands_of values_of here line f.parts ws ≡ Some (Ok (values f.parts w), []) → name ≡ f.name ++ suffix_text f.conditional w
@@ -151,7 +152,7 @@ module _ (values_of : List ℕ → Option ℕ) (here : ℕ) (line : List ℕ) (w
           ap (λ x. of_condition values_of here line (λ other. first_of values_of here line other (rows ++ rest) name ws) fault x ws (named x name)) (same k f g)
           ∙ ap (λ n. of_condition values_of here line (λ other. first_of values_of here line other (rows ++ rest) name ws) fault f ws (named f n)) is
           ∙ ap (of_condition values_of here line (λ other. first_of values_of here line other (rows ++ rest) name ws) fault f ws) known.names
-          ∙ ap (λ r. either r (λ n. n.0 >>= λ m. Ok (filled f (condition_in f w) m)) (first_of values_of here line Shape (rows ++ rest) name ws)) fits
+          ∙ ap (λ r. option_map_or (λ n. n.0 >>= λ m. Ok (filled f (condition_in f w) m)) r (first_of values_of here line Shape (rows ++ rest) name ws)) fits
           ∙ ap (λ n. Ok n) known.spells
       by false g go =
           passed (λ other. first_of values_of here line other (rows ++ rest) name ws) w k fault (named k name)

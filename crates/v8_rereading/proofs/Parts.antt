@@ -2,7 +2,7 @@
 use Rattle.std.proofs.Common.{◌≡◌, ℕ, ◌+◌, ◌*◌, ◌/◌, ◌%◌, ◌^◌, ◌<◌, ◌≤◌, Bool, true, false, cond, List, [], ◌∷◌, ◌++◌, length, refl, sym, ap, subst, ◌∙◌, arith, ltb, leb, Some, Option, None, Ok, Result}
 use Rattle.std.specs.Prelude.{codes}
 use Rattle.std.specs.Fmt.{decimal}
-use Rattle.std.specs.Option.{option_map}
+use Rattle.std.specs.Option.{option_map, option_and_then}
 use Rattle.std.proofs.lemmas.Bool.{false≢true, leb-true}
 use Rattle.std.proofs.lemmas.List.{append_assoc, append-nil}
 use Rattle.v8_word.specs.Word.{bits_of}
@@ -20,7 +20,7 @@ use Rattle.v8_syntax.specs.declared.word.Word.TheVariants as words
 use Rattle.v8_syntax.specs.declared.word.NameKind.TheVariants as names
 use Rattle.v8_forms.specs.Forms.{plus, width}
 use Rattle.v8_forms.specs.Text.{annul_bit, annuls, behind_text, elsewhere_bits, far, lead_text, near, number_in, operand_in, operands_text, part_text, register_in, special_in, target_text, memory_text, value, values}
-use Rattle.v8_syntax.specs.Statements.{bytes_between, either, ◌>>=◌, added, after, behind, distance, expression, gives, operands_of, offset_of, reached, read, target}
+use Rattle.v8_syntax.specs.Statements.{bytes_between, ◌>>=◌, added, after, behind, distance, expression, gives, operands_of, offset_of, reached, read, target}
 use Rattle.v8_rereading.proofs.Bytes.{Stops}
 use Rattle.v8_rereading.proofs.Hearing.{Heard, ended, spaced, regrouped3}
 use Rattle.v8_rereading.proofs.Pieces.{operand_words, added_words, offset_words, comma, annulling, numbered, registered, state_register, operand_heard, address_heard, memory_heard, target_heard}
@@ -101,7 +101,7 @@ abbrev Read : Type 0
 Read = Option (Result ℕ SyntaxFault × List Word)
 
 abbrev closed_by : Read → Read
-closed_by a = either a (λ x. after 93 (gives x.0) x.1) None
+closed_by a = option_and_then (λ x. after 93 (gives x.0) x.1) a
 
 module _ (values_of : List ℕ → Option ℕ) (here : ℕ) (line : List ℕ) (w : ℕ) (ws : List Word) where
   memory_read : read values_of here line parts.Memory (part_words parts.Memory w ++ ws) ≡ Some (Ok (value parts.Memory w), ws)
@@ -164,7 +164,7 @@ behind_heard (p ∷ ps) w h =
 
 module _ (values_of : List ℕ → Option ℕ) (here : ℕ) (line : List ℕ) where
   abbrev then_behind : List Part → Read → Read
-  then_behind ps r = either r (λ x. option_map (λ y. (added x.0 y.0, y.1)) (behind values_of here line ps x.1)) None
+  then_behind ps r = option_and_then (λ x. option_map (λ y. (added x.0 y.0, y.1)) (behind values_of here line ps x.1)) r
 
   behind_read : (ps : List Part) (w : ℕ) → all_plain ps ≡ true → behind values_of here line ps (behind_words ps w) ≡ Some (Ok (values ps w), [])
   behind_read [] w h = refl

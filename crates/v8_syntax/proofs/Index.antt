@@ -1,7 +1,8 @@
 -- A name is only that of forms whose names begin with the same letter, and the index has these.
 use Rattle.std.proofs.Common.{◌≡◌, ℕ, zero, suc, ◌+◌, ◌-◌, ◌<◌, ◌≤◌, Bool, true, false, cond, List, [], ◌∷◌, length, map, drop, get_or, Option, Some, None, Result, Ok, refl, sym, ap, subst, ◌∙◌, arith, eqb, ltb, leb}
-use Rattle.std.specs.Prelude.{All, ◌&&◌, nat_lt}
+use Rattle.std.specs.Prelude.{All, ◌&&◌}
 use Rattle.std.specs.List.{filter, list_all, position_from}
+use Rattle.std.specs.Option.{option_map_or}
 use Rattle.std.specs.Str.{bytes_eq}
 use Rattle.std.proofs.lemmas.Bool.{false≢true, eqb-true, le-leb, ltb-true, ltb-false, leb-true}
 use Rattle.std.proofs.lemmas.List.Sums.{AllPass-from_list_all}
@@ -13,7 +14,7 @@ use Rattle.v8_syntax.specs.declared.letters.TheConstants.{BY_LETTER}
 use Rattle.v8_syntax.specs.declared.fault.SyntaxFault.{SyntaxFault}
 use Rattle.v8_syntax.specs.declared.fault.SyntaxFault.TheVariants.{Shape}
 use Rattle.v8_syntax.specs.declared.word.Word.{Word}
-use Rattle.v8_syntax.specs.Statements.{bytes_between, either, ◌>>=◌, first_of, named, of_condition, operands_of}
+use Rattle.v8_syntax.specs.Statements.{bytes_between, ◌>>=◌, first_of, named, of_condition, operands_of}
 
 abbrev pub begins : ℕ → Form → Bool
 begins letter f = eqb (get_or f.name 0 0) letter
@@ -44,7 +45,7 @@ none = record { name = []; conditional = false; parts = []; word = 0 }
 module _ (values : List ℕ → Option ℕ) (here : ℕ) (line name : List ℕ) (ws : List Word) where
   alike : (others others' : SyntaxFault → Result ℕ SyntaxFault) → ((g : SyntaxFault) → others g ≡ others' g) → (fault : SyntaxFault) (f : Form) (o : Option ℕ)
       → of_condition values here line others fault f ws o ≡ of_condition values here line others' fault f ws o
-  alike others others' h fault f (Some c) = ap (either (operands_of values here line f.parts ws) (λ x. x.0 >>= λ n. Ok (filled f c n))) (h Shape)
+  alike others others' h fault f (Some c) = ap (option_map_or (λ x. x.0 >>= λ n. Ok (filled f c n)) (operands_of values here line f.parts ws)) (h Shape)
   alike others others' h fault f None = h fault
 
   filtered : (fault : SyntaxFault) (fs : List Form) → first_of values here line fault (filter (begins (get_or name 0 0)) fs) name ws ≡ first_of values here line fault fs name ws

@@ -1,43 +1,23 @@
 -- What a statement means: its tokens as words, the words behind its name as its operands, and all as one or two instructions, or the fault (appendices A and B).
 use Rattle.std.specs.Prelude.{ℕ, ◌+◌, ◌-◌, ◌*◌, ◌/◌, ◌%◌, ◌^◌, ◌==◌, Bool, true, false, not, ◌&&◌, ◌||◌, nat_lt, nat_le, if◌then◌else◌, ℤ, pos, negsuc, ◌+ℤ◌, neg_ℤ, int_le, List, [], ◌∷◌, length, take, drop, map, slice_index, slice_range, Option, Some, None, Result, Ok, Err, codes}
-use Rattle.std.specs.Option.{option_map, option_or, unwrap_or}
+use Rattle.std.specs.Option.{option_map, option_and_then, option_map_or, option_or, unwrap_or}
 use Rattle.std.specs.List.{find, position_from}
 use Rattle.std.specs.Char.{is_ascii_digit}
 use Rattle.std.specs.Str.{bytes_eq}
-use Rattle.sbx_text.specs.declared.Token.{Token}
-use Rattle.sbx_text.specs.declared.Kind.{Kind}
-use Rattle.sbx_text.specs.declared.Kind.TheVariants as kinds
-use Rattle.v8_formats.specs.declared.instr.Operand.{Operand}
-use Rattle.v8_formats.specs.declared.instr.Operand.TheVariants as operands
-use Rattle.v8_formats.specs.declared.instr.Instr.{Instr}
-use Rattle.v8_formats.specs.declared.instr.Instr.TheVariants.{Sethi, Or}
+use Rattle.sbx_text.specs.declared.{Token.Token, Kind.Kind}
+use Rattle.v8_formats.specs.declared.instr.{Operand.Operand, Instr.Instr}
 use Rattle.v8_formats.specs.Spelling.{spell_operand}
 use Rattle.v8_formats.specs.Table.{meaning}
-use Rattle.v8_forms.specs.declared.part.Part.{Part}
-use Rattle.v8_forms.specs.declared.part.Part.TheVariants as parts
-use Rattle.v8_forms.specs.declared.part.Range.{Range}
-use Rattle.v8_forms.specs.declared.part.Range.TheVariants as ranges
-use Rattle.v8_forms.specs.declared.part.Special.{Special}
-use Rattle.v8_forms.specs.declared.part.Special.TheVariants.{Y, Psr, Wim, Tbr}
+use Rattle.v8_forms.specs.declared.part.{Part.Part, Range.Range, Special.Special}
 use Rattle.v8_forms.specs.Forms.{Form, suffixes, forms, scale, least, greatest, width, plus}
 use Rattle.v8_forms.specs.Text.{code_of, sum_bits, elsewhere_bits, annul_bit, filled}
 use Rattle.v8_syntax.specs.declared.fault.SyntaxFault.{SyntaxFault}
-use Rattle.v8_syntax.specs.declared.fault.SyntaxFault.TheVariants.{UnknownMnemonic, Shape, Immediate, UnknownSymbol, Target}
-use Rattle.v8_syntax.specs.declared.word.Word.{Word}
-use Rattle.v8_syntax.specs.declared.word.Word.TheVariants as words
-use Rattle.v8_syntax.specs.declared.word.NameKind.{NameKind}
-use Rattle.v8_syntax.specs.declared.word.NameKind.TheVariants as names
-use Rattle.v8_syntax.specs.declared.expression.Base.{Base}
-use Rattle.v8_syntax.specs.declared.expression.Base.TheVariants as bases
-use Rattle.v8_syntax.specs.declared.expression.Expression.{Expression}
+use Rattle.v8_syntax.specs.declared.word.{Word.Word, NameKind.NameKind}
+use Rattle.v8_syntax.specs.declared.expression.{Base.Base, Expression.Expression}
 
 -- the bytes of a line from one place up to another, and none where the line has no such bytes
 abbrev pub bytes_between : List ℕ → ℕ → ℕ → List ℕ
 bytes_between line start stop = if nat_le start stop && nat_le stop (length line) then slice_range line start stop else []
-
-abbrev pub either : {A B : Type 0} → Option A → (A → B) → B → B
-either (Some x) f other = f x
-either None f other = other
 
 -- what stands beside a name in a table
 abbrev pub beside : {A : Type 0} → List ℕ → List (List ℕ × A) → Option A
@@ -59,27 +39,27 @@ small_number _ = None
 abbrev pub register_named : List ℕ → Option ℕ
 register_named name =
     option_or (beside name ((codes "sp", 14) ∷ (codes "fp", 30) ∷ []))
-    (either (beside (take 1 name) groups) (λ group. either (small_number (drop 1 name)) (λ n. if nat_lt n group.1 then Some (group.0 + n) else None) None) None)
+    (option_and_then (λ group. option_and_then (λ n. if nat_lt n group.1 then Some (group.0 + n) else None) (small_number (drop 1 name))) (beside (take 1 name) groups))
 
 -- the state registers that have a name here
 abbrev pub specials : List (List ℕ × Special)
-specials = (codes "y", Y) ∷ (codes "psr", Psr) ∷ (codes "wim", Wim) ∷ (codes "tbr", Tbr) ∷ []
+specials = (codes "y", Special.Y) ∷ (codes "psr", Special.Psr) ∷ (codes "wim", Special.Wim) ∷ (codes "tbr", Special.Tbr) ∷ []
 
 -- ---- the word of each token
 
 -- what stands behind a `%`
 abbrev pub percent_word : List ℕ → Word
-percent_word name = unwrap_or (option_or (option_map words.Register (register_named name)) (option_map words.Special (beside name specials))) words.Unknown
+percent_word name = unwrap_or (option_or (option_map Word.Register (register_named name)) (option_map Word.Special (beside name specials))) Word.Unknown
 
 -- `a` annuls, `.` is the place, and another name is a symbol
 abbrev pub name_kind : List ℕ → NameKind
-name_kind name = unwrap_or (beside name ((codes "a", names.Annul) ∷ (codes ".", names.Place) ∷ [])) names.Plain
+name_kind name = unwrap_or (beside name ((codes "a", NameKind.Annul) ∷ (codes ".", NameKind.Place) ∷ [])) NameKind.Plain
 
 abbrev pub word_at : List ℕ → ℕ → ℕ → Kind → Word
-word_at line start stop kinds.Name = words.Name (name_kind (bytes_between line start stop)) start stop
-word_at line start stop kinds.Percent = percent_word (drop 1 (bytes_between line start stop))
-word_at line start stop (kinds.Number n) = words.Number n
-word_at line start stop kinds.Sign = words.Sign (slice_index (bytes_between line start stop) 0)
+word_at line start stop Kind.Name = Word.Name (name_kind (bytes_between line start stop)) start stop
+word_at line start stop Kind.Percent = percent_word (drop 1 (bytes_between line start stop))
+word_at line start stop (Kind.Number n) = Word.Number n
+word_at line start stop Kind.Sign = Word.Sign (slice_index (bytes_between line start stop) 0)
 
 unfoldable pub word_of : List ℕ → Token → Word
 word_of line t = word_at line t.start t.stop t.kind
@@ -100,7 +80,7 @@ Reading A = List Word → Option (A × List Word)
 
 infixl 30 ◌and_then◌
 abbrev pub ◌and_then◌ : {A B : Type 0} → Reading A → (A → Reading B) → Reading B
-p and_then f = λ ws. either (p ws) (λ x. f x.0 x.1) None
+p and_then f = λ ws. option_and_then (λ x. f x.0 x.1) (p ws)
 
 infixl 30 ◌giving◌
 abbrev pub ◌giving◌ : {A B : Type 0} → Reading A → (A → B) → Reading B
@@ -119,32 +99,32 @@ end [] = Some (tt, [])
 end _ = None
 
 abbrev pub after_sign : ℕ → List Word → Option (List Word)
-after_sign b (words.Sign c ∷ ws) = if c == b then Some ws else None
+after_sign b (Word.Sign c ∷ ws) = if c == b then Some ws else None
 after_sign b _ = None
 
 -- a reading behind a sign
 abbrev pub after : {A : Type 0} → ℕ → Reading A → Reading A
-after b p = λ ws. either (after_sign b ws) p None
+after b p = λ ws. option_and_then p (after_sign b ws)
 
 abbrev pub number_first : Reading ℕ
-number_first (words.Number n ∷ ws) = Some (n, ws)
+number_first (Word.Number n ∷ ws) = Some (n, ws)
 number_first _ = None
 
 abbrev pub register_first : Reading ℕ
-register_first (words.Register r ∷ ws) = Some (r, ws)
+register_first (Word.Register r ∷ ws) = Some (r, ws)
 register_first _ = None
 
 abbrev pub special_first : Reading Special
-special_first (words.Special s ∷ ws) = Some (s, ws)
+special_first (Word.Special s ∷ ws) = Some (s, ws)
 special_first _ = None
 
 abbrev pub annul_first : Reading Bool
-annul_first (words.Name names.Annul i j ∷ ws) = Some (true, ws)
+annul_first (Word.Name NameKind.Annul i j ∷ ws) = Some (true, ws)
 annul_first _ = None
 
 -- a name of the line
 abbrev pub name_first : List ℕ → Reading (List ℕ)
-name_first line (words.Name kind i j ∷ ws) = Some (bytes_between line i j, ws)
+name_first line (Word.Name kind i j ∷ ws) = Some (bytes_between line i j, ws)
 name_first line _ = None
 
 -- ---- expressions: a number, `-` number, a symbol, a symbol with `+` or `-` number
@@ -160,11 +140,11 @@ negative base = after 45 number_first giving less base
 
 -- `.` before a sign is the place of the instruction; else it is a symbol, as other names are
 abbrev pub moved : NameKind → Option ℕ → Base
-moved names.Place value = bases.Here value
-moved _ value = bases.Symbol value
+moved NameKind.Place value = Base.Here value
+moved _ value = Base.Symbol value
 
 abbrev pub named_expression : NameKind → Option ℕ → Reading Expression
-named_expression kind value = after 43 number_first giving plain (moved kind value) or_else negative (moved kind value) or_else gives (plain (bases.Symbol value) 0)
+named_expression kind value = after 43 number_first giving plain (moved kind value) or_else negative (moved kind value) or_else gives (plain (Base.Symbol value) 0)
 
 -- ---- their values: whole numbers, without wrapping
 
@@ -172,10 +152,10 @@ abbrev pub offset_of : Expression → ℤ
 offset_of e = if e.negative then neg_ℤ (pos e.number) else pos e.number
 
 abbrev pub based : Base → ℤ → Result ℤ SyntaxFault
-based bases.Number z = Ok z
-based (bases.Symbol (Some v)) z = Ok (pos v +ℤ z)
-based (bases.Here (Some v)) z = Ok (pos v +ℤ z)
-based _ z = Err UnknownSymbol
+based Base.Number z = Ok z
+based (Base.Symbol (Some v)) z = Ok (pos v +ℤ z)
+based (Base.Here (Some v)) z = Ok (pos v +ℤ z)
+based _ z = Err SyntaxFault.UnknownSymbol
 
 -- a number as bits that tell so many numbers apart: a negative one plus so many
 abbrev pub of_bits : ℕ → ℤ → ℕ
@@ -187,16 +167,16 @@ abbrev pub in_range : ℤ → ℤ → SyntaxFault → ℤ → Result ℕ SyntaxF
 in_range low high fault z = if int_le low z && int_le z high then Ok (of_bits (2 ^ 32) z) else Err fault
 
 unfoldable pub word_in : Range → Expression → Result ℕ SyntaxFault
-word_in range e = based e.base (offset_of e) >>= in_range (least range) (greatest range) Immediate
+word_in range e = based e.base (offset_of e) >>= in_range (least range) (greatest range) SyntaxFault.Immediate
 
 -- how many bytes from the instruction, as a word: `.+N` itself, or from here to an address below 2 ^ 32
 abbrev pub distance : ℕ → Base → ℤ → Result ℕ SyntaxFault
-distance here (bases.Here v) z = in_range (negsuc 2147483647) (pos 2147483647) Target z
-distance here base z = based base z >>= in_range (pos 0) (pos 4294967295) Target >>= λ target. Ok ((target + 2 ^ 32 - here) % 2 ^ 32)
+distance here (Base.Here v) z = in_range (negsuc 2147483647) (pos 2147483647) SyntaxFault.Target z
+distance here base z = based base z >>= in_range (pos 0) (pos 4294967295) SyntaxFault.Target >>= λ target. Ok ((target + 2 ^ 32 - here) % 2 ^ 32)
 
 -- a multiple of 4 less than so many bytes before, or after, the instruction, in words
 abbrev pub reached : ℕ → ℕ → Result ℕ SyntaxFault
-reached reach w = if w % 4 == 0 && (nat_lt w reach || nat_le (2 ^ 32 - reach) w) then Ok (w / 4) else Err Target
+reached reach w = if w % 4 == 0 && (nat_lt w reach || nat_le (2 ^ 32 - reach) w) then Ok (w / 4) else Err SyntaxFault.Target
 
 -- ---- what operands fill
 
@@ -206,7 +186,7 @@ added x y = x >>= λ a. y >>= λ b. Ok (plus a b)
 
 -- a number as the second operand
 abbrev pub immediate : Range → Expression → Result Operand SyntaxFault
-immediate range e = word_in range e >>= λ n. Ok (operands.Immediate n)
+immediate range e = word_in range e >>= λ n. Ok (Operand.Immediate n)
 
 abbrev pub sum_of : ℕ → Result Operand SyntaxFault → Result ℕ SyntaxFault
 sum_of rs1 o = o >>= λ operand2. Ok (sum_bits rs1 operand2)
@@ -214,55 +194,6 @@ sum_of rs1 o = o >>= λ operand2. Ok (sum_bits rs1 operand2)
 -- a register behind `+`, else %g0
 abbrev pub added_register : Reading ℕ
 added_register = after 43 register_first or_else gives 0
-
--- what the symbols are worth, and the line
-module _ (values : List ℕ → Option ℕ) (line : List ℕ) where
-  unfoldable pub expression : Reading Expression
-  expression (words.Number n ∷ ws) = Some (plain bases.Number n, ws)
-  expression (words.Name kind i j ∷ ws) = named_expression kind (values (bytes_between line i j)) ws
-  expression ws = negative bases.Number ws
-
-  unfoldable pub second : Range → Reading (Result Operand SyntaxFault)
-  second range = register_first giving (λ r. Ok (operands.Register r)) or_else expression giving immediate range
-
-  -- such a one behind `+`, a number behind `-`, else %g0
-  unfoldable pub added_second : Range → Reading (Result Operand SyntaxFault)
-  added_second range = after 43 (second range) or_else negative bases.Number giving immediate range or_else gives (Ok (operands.Register 0))
-
-  -- a register and such a one; an expression, and a register behind it
-  unfoldable pub address : Range → Reading (Result ℕ SyntaxFault)
-  address range =
-      (register_first and_then λ r. added_second range giving sum_of r)
-      or_else (expression and_then λ e. added_register giving λ r. sum_of r (immediate range e))
-
--- and where the statement stands
-module _ (values : List ℕ → Option ℕ) (here : ℕ) (line : List ℕ) where
-  -- the words to a target (appendix B, "Branch on Integer Condition Codes" and "Call and Link"), in a field of the bits that reach so far
-  unfoldable pub target : ℕ → Bool → Reading (Result ℕ SyntaxFault)
-  target reach annuls = expression values line giving λ e. distance here e.base (offset_of e) >>= reached reach >>= λ d. Ok (annul_bit annuls + d % (reach / 2))
-
-  unfoldable pub read : Part → Reading (Result ℕ SyntaxFault)
-  read (parts.Register f) = register_first giving λ r. Ok (r * scale f)
-  read parts.State = special_first giving λ s. Ok (code_of s * 2 ^ 19)
-  read (parts.Second range) = second values line range giving λ o. o >>= λ operand2. Ok (spell_operand operand2)
-  read (parts.Address range) = address values line range
-  read parts.Memory = after 91 (address values line ranges.Signed) and_then λ x. after 93 (gives x)
-  read parts.Elsewhere =
-      after 91 register_first and_then λ rs1. added_register and_then λ rs2.
-      after 93 (expression values line) giving λ e. word_in ranges.Space e >>= λ asi. Ok (elsewhere_bits rs1 rs2 (asi % 2 ^ 8))
-  read (parts.Number range) = expression values line giving λ e. word_in range e >>= λ n. Ok (n % 2 ^ width range)
-  read parts.Call = target (2 ^ 31) false
-  read parts.Branch = (after 44 annul_first or_else gives false) and_then target (2 ^ 23)
-
-  -- operands with commas between them, to the end
-
-  abbrev pub behind : List Part → Reading (Result ℕ SyntaxFault)
-  behind [] = end giving λ _. Ok 0
-  behind (p ∷ ps) = after 44 (read p) and_then λ x. behind ps giving added x
-
-  abbrev pub operands_of : List Part → Reading (Result ℕ SyntaxFault)
-  operands_of [] = end giving λ _. Ok 0
-  operands_of (p ∷ ps) = read p and_then λ x. behind ps giving added x
 
 -- ---- names
 
@@ -275,10 +206,10 @@ named f name =
 -- ---- `set`
 
 abbrev pub sethi : ℕ → ℕ → Instr
-sethi w rd = Sethi (record { rd = rd; imm22 = w / 2 ^ 10 })
+sethi w rd = Instr.Sethi (record { rd = rd; imm22 = w / 2 ^ 10 })
 
 abbrev pub or : ℕ → ℕ → ℕ → Instr
-or rs1 n rd = Or (record { rd = rd; rs1 = rs1; operand2 = operands.Immediate n })
+or rs1 n rd = Instr.Or (record { rd = rd; rs1 = rs1; operand2 = Operand.Immediate n })
 
 -- a symbol always in two; another word in one where it is 13 bits, signed, or its low ten bits are 0
 abbrev pub set_instructions : Bool → ℕ → ℕ → List Instr
@@ -288,25 +219,70 @@ set_instructions symbolic w rd =
     else sethi w rd ∷ or rd (w % 2 ^ 10) rd ∷ [])
 
 abbrev pub is_symbolic : Base → Bool
-is_symbolic bases.Number = false
+is_symbolic Base.Number = false
 is_symbolic _ = true
+
+-- ---- what the words mean
 
 -- what the symbols are worth, and the line
 module _ (values : List ℕ → Option ℕ) (line : List ℕ) where
-  -- `value,register`
+  unfoldable pub expression : Reading Expression
+  expression (Word.Number n ∷ ws) = Some (plain Base.Number n, ws)
+  expression (Word.Name kind i j ∷ ws) = named_expression kind (values (bytes_between line i j)) ws
+  expression ws = negative Base.Number ws
+
+  unfoldable pub second : Range → Reading (Result Operand SyntaxFault)
+  second range = register_first giving (λ r. Ok (Operand.Register r)) or_else expression giving immediate range
+
+  -- such a one behind `+`, a number behind `-`, else %g0
+  unfoldable pub added_second : Range → Reading (Result Operand SyntaxFault)
+  added_second range = after 43 (second range) or_else negative Base.Number giving immediate range or_else gives (Ok (Operand.Register 0))
+
+  -- a register and such a one; an expression, and a register behind it
+  unfoldable pub address : Range → Reading (Result ℕ SyntaxFault)
+  address range =
+      (register_first and_then λ r. added_second range giving sum_of r)
+      or_else (expression and_then λ e. added_register giving λ r. sum_of r (immediate range e))
+
+  -- `set`: `value,register`
   unfoldable pub set_operands : Reading (Expression × ℕ)
-  set_operands = expression values line and_then λ e. after 44 register_first and_then λ rd. end giving λ _. (e, rd)
+  set_operands = expression and_then λ e. after 44 register_first and_then λ rd. end giving λ _. (e, rd)
 
   unfoldable pub set : List Word → Result (List Instr) SyntaxFault
-  set ws = either (set_operands ws) (λ x. word_in ranges.Whole x.0.0 >>= λ w. Ok (set_instructions (is_symbolic x.0.0.base) w x.0.1)) (Err Shape)
-
--- ---- statements
+  set ws = option_map_or (λ x. word_in Range.Whole x.0.0 >>= λ w. Ok (set_instructions (is_symbolic x.0.0.base) w x.0.1)) (set_operands ws) (Err SyntaxFault.Shape)
 
 -- and where the statement stands
 module _ (values : List ℕ → Option ℕ) (here : ℕ) (line : List ℕ) where
+  -- the words to a target (appendix B, "Branch on Integer Condition Codes" and "Call and Link"), in a field of the bits that reach so far
+  unfoldable pub target : ℕ → Bool → Reading (Result ℕ SyntaxFault)
+  target reach annuls = expression values line giving λ e. distance here e.base (offset_of e) >>= reached reach >>= λ d. Ok (annul_bit annuls + d % (reach / 2))
+
+  unfoldable pub read : Part → Reading (Result ℕ SyntaxFault)
+  read (Part.Register f) = register_first giving λ r. Ok (r * scale f)
+  read Part.State = special_first giving λ s. Ok (code_of s * 2 ^ 19)
+  read (Part.Second range) = second values line range giving λ o. o >>= λ operand2. Ok (spell_operand operand2)
+  read (Part.Address range) = address values line range
+  read Part.Memory = after 91 (address values line Range.Signed) and_then λ x. after 93 (gives x)
+  read Part.Elsewhere =
+      after 91 register_first and_then λ rs1. added_register and_then λ rs2.
+      after 93 (expression values line) giving λ e. word_in Range.Space e >>= λ asi. Ok (elsewhere_bits rs1 rs2 (asi % 2 ^ 8))
+  read (Part.Number range) = expression values line giving λ e. word_in range e >>= λ n. Ok (n % 2 ^ width range)
+  read Part.Call = target (2 ^ 31) false
+  read Part.Branch = (after 44 annul_first or_else gives false) and_then target (2 ^ 23)
+
+  -- operands with commas between them, to the end
+
+  abbrev pub behind : List Part → Reading (Result ℕ SyntaxFault)
+  behind [] = end giving λ _. Ok 0
+  behind (p ∷ ps) = after 44 (read p) and_then λ x. behind ps giving added x
+
+  abbrev pub operands_of : List Part → Reading (Result ℕ SyntaxFault)
+  operands_of [] = end giving λ _. Ok 0
+  operands_of (p ∷ ps) = read p and_then λ x. behind ps giving added x
+
   -- the word of the first of some forms that has the name and that the operands fit, else the fault
   abbrev pub of_condition : (SyntaxFault → Result ℕ SyntaxFault) → SyntaxFault → Form → List Word → Option ℕ → Result ℕ SyntaxFault
-  of_condition others fault f ws (Some condition) = either (operands_of values here line f.parts ws) (λ x. x.0 >>= λ n. Ok (filled f condition n)) (others Shape)
+  of_condition others fault f ws (Some condition) = option_map_or (λ x. x.0 >>= λ n. Ok (filled f condition n)) (operands_of f.parts ws) (others SyntaxFault.Shape)
   of_condition others fault f ws None = others fault
 
   abbrev pub first_of : SyntaxFault → List Form → List ℕ → List Word → Result ℕ SyntaxFault
@@ -316,19 +292,19 @@ module _ (values : List ℕ → Option ℕ) (here : ℕ) (line : List ℕ) where
   unfoldable pub named_meaning : List ℕ → List Word → Result (List Instr) SyntaxFault
   named_meaning name ws =
       if bytes_eq name (codes "set") then set values line ws
-      else (first_of UnknownMnemonic forms name ws >>= λ w. Ok (meaning w ∷ []))
+      else (first_of SyntaxFault.UnknownMnemonic forms name ws >>= λ w. Ok (meaning w ∷ []))
 
 -- the instructions of a statement, a name first, or its fault
 abbrev pub source_meaning : (List ℕ → Option ℕ) → ℕ → List ℕ → List Token → Result (List Instr) SyntaxFault
-source_meaning values here line tokens = either (name_first line (words_of line tokens)) (λ x. named_meaning values here line x.0 x.1) (Err UnknownMnemonic)
+source_meaning values here line tokens = option_map_or (λ x. named_meaning values here line x.0 x.1) (name_first line (words_of line tokens)) (Err SyntaxFault.UnknownMnemonic)
 
 -- ---- how many instructions a statement takes, whatever its symbols are worth
 
 -- `set` of a symbol is two; a statement with a fault counts as one
 abbrev pub count_of : Result (List Instr) SyntaxFault → ℕ
 count_of (Ok is) = length is
-count_of (Err UnknownSymbol) = 2
+count_of (Err SyntaxFault.UnknownSymbol) = 2
 count_of (Err fault) = 1
 
 abbrev pub statement_length : List ℕ → List Token → ℕ
-statement_length line tokens = either (name_first line (words_of line tokens)) (λ x. if bytes_eq x.0 (codes "set") then count_of (set (λ _. None) line x.1) else 1) 1
+statement_length line tokens = option_map_or (λ x. if bytes_eq x.0 (codes "set") then count_of (set (λ _. None) line x.1) else 1) (name_first line (words_of line tokens)) 1

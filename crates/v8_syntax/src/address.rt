@@ -1,6 +1,6 @@
 // Second operands and addresses, and the bits that they fill.
 ghost use Rattle.std.specs.Prelude.{◌≡◌, ℕ, ◌+◌, ◌*◌, ◌%◌, ◌^◌, ◌<◌, ◌≤◌, List, MatchOption, Some, None};
-ghost use Rattle.v8_syntax.specs.Statements.{words_of, added_register, added_second, address, after, immediate, read, second, sum_of};
+ghost use Rattle.v8_syntax.specs.Statements.{words_of, added_register, added_second, address, immediate, read, second, sum_of};
 ghost use Rattle.v8_forms.specs.declared.part.Part.TheVariants as parts;
 
 use crate::expression::{
@@ -62,17 +62,6 @@ pub fn read_second<'t, S: Symbols>(
     Some((immediate(range, value), rest))
 }
 
-fn second_behind_plus<'t, S: Symbols>(
-    range: Range,
-    symbols: &S,
-    line: &[u8],
-    tokens: &'t [Token],
-) -> Read<'t, Fitted>
-    ensures { MatchOption result (after 43 (second (S.values symbols.now) line.now range) (words_of line.now tokens.now) ≡ None) (λ x. after 43 (second (S.values symbols.now) line.now range) (words_of line.now tokens.now) ≡ Some (x.0, words_of line.now x.1.now)) }
-{
-    read_second(range, symbols, line, after_sign(b'+', line, tokens)?)
-}
-
 /// What is added to a register: a second operand behind `+`, a number behind `-`, else %g0.
 #[tactic(auto, unfolding(crate::specs::Statements::added_second))]
 fn added_second<'t, S: Symbols>(
@@ -83,7 +72,9 @@ fn added_second<'t, S: Symbols>(
 ) -> (Fitted, &'t [Token])
     ensures { added_second (S.values symbols.now) line.now range (words_of line.now tokens.now) ≡ Some (result.0, words_of line.now result.1.now) }
 {
-    if let Some((operand2, rest)) = second_behind_plus(range, symbols, line, tokens) {
+    if let Some(more) = after_sign(b'+', line, tokens)
+        && let Some((operand2, rest)) = read_second(range, symbols, line, more)
+    {
         return (operand2, rest);
     }
     match number_after(b'-', line, tokens) {

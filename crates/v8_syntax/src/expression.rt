@@ -1,10 +1,12 @@
 // Expressions, and the values of these in their ranges.
-ghost use Rattle.std.specs.Prelude.{◌≡◌, ℕ, ◌+◌, ◌-◌, ◌*◌, ◌/◌, ◌%◌, ◌^◌, ◌<◌, ◌≤◌, pos, negsuc, ℤ, ◌≤ℤ◌, int_le, List, true, MatchOption, Some, None};
-ghost use Rattle.v8_syntax.specs.Statements.{words_of, ◌>>=◌ as ◌then◌, after, after_sign, annul_first, based, distance, expression, in_range, less, moved, named_expression, number_first, offset_of, plain, reached, register_first, special_first, word_in, of_bits};
+ghost use Rattle.std.specs.Prelude.{◌≡◌, ℕ, ◌+◌, ◌-◌, ◌*◌, ◌/◌, ◌%◌, ◌^◌, ◌<◌, ◌≤◌, pos, negsuc, ℤ, ◌≤ℤ◌, int_le, List, MatchOption, Some, None};
+ghost use Rattle.v8_syntax.specs.Statements.{words_of, ◌>>=◌ as ◌then◌, after, after_sign, based, distance, expression, in_range, less, moved, named_expression, number_first, offset_of, plain, reached, register_first, special_first, word_in, of_bits};
 
 use crate::fault::SyntaxFault;
 use crate::symbols::Symbols;
-use crate::word::{NameKind, Word, after_first, bytes_between, front, register_named, sign_byte};
+use crate::word::{
+    NameKind, Word, after_first, bytes_between, bytes_of, front, register_named, sign_byte,
+};
 use sbx_text::{Kind, Token};
 use v8_forms::{Range, Special, greatest, least};
 use v8_word::Reg;
@@ -35,13 +37,7 @@ pub fn after_sign<'t>(sign: u8, line: &[u8], tokens: &'t [Token]) -> Option<&'t 
 {
     let (first, rest) = tokens.split_first()?;
     match first.kind {
-        Kind::Sign => {
-            if sign_byte(bytes_between(line, first.start, first.stop)) == sign {
-                Some(rest)
-            } else {
-                None
-            }
-        }
+        Kind::Sign if sign_byte(bytes_of(line, first)) == sign => Some(rest),
         _ => None,
     }
 }
@@ -65,12 +61,7 @@ pub fn register_first<'t>(line: &[u8], tokens: &'t [Token]) -> Read<'t, Reg>
 {
     let (first, rest) = tokens.split_first()?;
     match first.kind {
-        Kind::Percent => {
-            match register_named(after_first(bytes_between(line, first.start, first.stop))) {
-                Some(register) => Some((register, rest)),
-                None => None,
-            }
-        }
+        Kind::Percent => Some((register_named(after_first(bytes_of(line, first)))?, rest)),
         _ => None,
     }
 }
@@ -81,16 +72,6 @@ pub fn special_first<'t>(line: &[u8], tokens: &'t [Token]) -> Read<'t, Special>
 {
     match front(line, tokens) {
         Some((Word::Special(special), rest)) => Some((special, rest)),
-        _ => None,
-    }
-}
-
-/// What follows `a`, where it annuls.
-pub fn annul_first<'t>(line: &[u8], tokens: &'t [Token]) -> Option<&'t [Token]>
-    ensures { MatchOption result (annul_first (words_of line.now tokens.now) ≡ None) (λ rest. annul_first (words_of line.now tokens.now) ≡ Some (true, words_of line.now rest.now)) }
-{
-    match front(line, tokens) {
-        Some((Word::Name(NameKind::Annul, _, _), rest)) => Some(rest),
         _ => None,
     }
 }
@@ -196,15 +177,18 @@ fn based(base: Base, offset: i128) -> Result<i128, SyntaxFault>
     }
 }
 
-fn word_of_number(number: i128) -> u32
-    requires low { negsuc 4294967295 ≤ℤ number }
-    requires high { number ≤ℤ pos 4294967295 }
-    ensures { result ≡ of_bits (2 ^ 32) number }
+/// A number as bits that tell so many numbers apart: a negative one plus so many.
+pub fn of_bits(room: u64, number: i128) -> u64
+    requires some { 0 < room }
+    requires low { negsuc (room - 1) ≤ℤ number }
+    requires high { number ≤ℤ pos (room - 1) }
+    ensures value { result ≡ of_bits room number }
+    ensures bound { result < room }
 {
     if number >= 0 {
-        number as u32
+        number as u64
     } else {
-        (number + 0x1_0000_0000) as u32
+        (number + i128::from(room)) as u64
     }
 }
 
@@ -214,7 +198,7 @@ fn in_range(low: i128, high: i128, fault: SyntaxFault, number: i128) -> Result<u
     ensures { result ≡ in_range low high fault number }
 {
     if low <= number && number <= high {
-        Ok(word_of_number(number))
+        Ok(of_bits(0x1_0000_0000, number) as u32)
     } else {
         Err(fault)
     }

@@ -11,10 +11,11 @@ mod statement;
 mod symbols;
 mod word;
 
-pub use expression::after_sign;
+pub use expression::{after_sign, of_bits};
 pub use fault::SyntaxFault;
 pub use statement::{length_of, parse_instr};
 pub use symbols::Symbols;
 pub use word::{
-    NameKind, Word, after_first, bytes_between, front, is_same, register_named, sign_byte, word_of,
+    NameKind, Word, after_first, beside, bytes_between, front, is_same, register_named, sign_byte,
+    word_of,
 };

@@ -14,15 +14,11 @@ fn numbered(from: u32, suffixes: &[&str], name: &[u8]) -> Option<u32>
     ensures value { result ≡ position_from (λ suffix. bytes_eq suffix name.now) from (map (λ s. s.now) suffixes.now) }
     ensures bound { IfSome result (λ k. k < 16) }
 {
-    match suffixes.split_first() {
-        Some((suffix, others)) => {
-            if is_same(suffix.as_bytes(), name) {
-                Some(from)
-            } else {
-                numbered(from + 1, others, name)
-            }
-        }
-        None => None,
+    let (suffix, others) = suffixes.split_first()?;
+    if is_same(suffix.as_bytes(), name) {
+        Some(from)
+    } else {
+        numbered(from + 1, others, name)
     }
 }
 
@@ -31,14 +27,10 @@ pub fn named(row: &Row, name: &[u8]) -> Option<u32>
     ensures value { result ≡ named (form_of row.now) name.now }
     ensures bound { IfSome result (λ k. k < 16) }
 {
-    if row.conditional {
-        if is_same(row.name.as_bytes(), bytes_between(name, 0, 1)) {
-            numbered(0, suffixes(), after_first(name))
-        } else {
-            None
-        }
-    } else if is_same(row.name.as_bytes(), name) {
-        Some(0)
+    if !row.conditional {
+        is_same(row.name.as_bytes(), name).then_some(0)
+    } else if is_same(row.name.as_bytes(), bytes_between(name, 0, 1)) {
+        numbered(0, suffixes(), after_first(name))
     } else {
         None
     }

@@ -7,18 +7,21 @@ ghost use Rattle.v8_forms.specs.declared.part.Part.TheVariants as parts;
 
 use crate::address::{Filled, read_address, read_elsewhere, read_memory, read_second};
 use crate::expression::{
-    Read, after_sign, annul_first, displacement, read_expression, register_first, special_first,
-    word_in,
+    Read, after_sign, displacement, read_expression, register_first, special_first, word_in,
 };
 use crate::symbols::Symbols;
+use crate::word::{NameKind, Word, front};
 use sbx_text::Token;
 use v8_forms::{Part, annul_bit, code_of, low_bits, operand_bits, scale};
 
-/// What follows `,a`.
+/// What follows `,a`, which annuls.
 fn after_annul<'t>(line: &[u8], tokens: &'t [Token]) -> Option<&'t [Token]>
     ensures { MatchOption result (after 44 annul_first (words_of line.now tokens.now) ≡ None) (λ rest. after 44 annul_first (words_of line.now tokens.now) ≡ Some (true, words_of line.now rest.now)) }
 {
-    annul_first(line, after_sign(b',', line, tokens)?)
+    match front(line, after_sign(b',', line, tokens)?) {
+        Some((Word::Name(NameKind::Annul, _, _), rest)) => Some(rest),
+        _ => None,
+    }
 }
 
 #[tactic(auto, unfolding(crate::specs::Statements::target))]

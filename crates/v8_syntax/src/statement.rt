@@ -28,15 +28,6 @@ fn list_of_one<T: Copy + Default>(first: T) -> ArrayVec<T, 2>
     list
 }
 
-fn list_of_two<T: Copy + Default>(first: T, second: T) -> ArrayVec<T, 2>
-    ensures { result.items ≡ first ∷ second ∷ [] }
-{
-    let mut list = ArrayVec::new();
-    list.push(first);
-    list.push(second);
-    list
-}
-
 /// SETHI of a word's high bits.
 fn sethi(word: u32, rd: Reg) -> Instr
     ensures { result ≡ sethi word rd }
@@ -61,17 +52,14 @@ fn set_instructions(symbolic: bool, word: u32, rd: Reg) -> Instructions
     } else if !symbolic && word % 0x400 == 0 {
         list_of_one(sethi(word, rd))
     } else {
-        list_of_two(sethi(word, rd), or(rd, word % 0x400, rd))
+        ArrayVec::from([sethi(word, rd), or(rd, word % 0x400, rd)])
     }
 }
 
 fn is_symbolic(base: Base) -> bool
     ensures { result ≡ is_symbolic base }
 {
-    match base {
-        Base::Number => false,
-        Base::Symbol(_) | Base::Here(_) => true,
-    }
+    !matches!(base, Base::Number)
 }
 
 #[tactic(auto, unfolding(crate::specs::Statements::set_operands))]
@@ -205,13 +193,7 @@ pub fn length_of(line: &[u8], tokens: &[Token]) -> usize
     ensures { result ≡ statement_length line.now tokens.now }
 {
     match name_first(line, tokens) {
-        Some((name, rest)) => {
-            if is_same(name, b"set") {
-                set_length(line, rest)
-            } else {
-                1
-            }
-        }
-        None => 1,
+        Some((name, rest)) if is_same(name, b"set") => set_length(line, rest),
+        _ => 1,
     }
 }

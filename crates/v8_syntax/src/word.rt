@@ -1,7 +1,7 @@
 // What each token of a statement is.
-ghost use Rattle.std.specs.Prelude.{◌≡◌, ℕ, ◌+◌, ◌-◌, ◌*◌, ◌<◌, ◌≤◌, List, Option, IfSome, MatchOption, Some, None, [], ◌∷◌, slice_index, drop};
+ghost use Rattle.std.specs.Prelude.{◌≡◌, ℕ, ◌+◌, ◌-◌, ◌*◌, ◌<◌, ◌≤◌, List, Option, IfSome, MatchOption, Some, None, [], ◌∷◌, slice_index, drop, map};
 ghost use Rattle.std.specs.Str.{bytes_eq};
-ghost use Rattle.v8_syntax.specs.Statements.{name_first, beside, bytes_between, groups, small_number, register_named, specials, percent_word, name_kind, word_of, words_of};
+ghost use Rattle.v8_syntax.specs.Statements.{name_first, beside, bytes_between, groups, small_number, register_named, percent_word, name_kind, word_of, words_of};
 
 use sbx_text::{Kind, Token};
 use v8_forms::Special;
@@ -26,6 +26,14 @@ pub enum Word {
     Unknown,
 }
 
+/// The state registers that have a name.
+static SPECIALS: [(&str, Special); 4] = [
+    ("y", Special::Y),
+    ("psr", Special::Psr),
+    ("wim", Special::Wim),
+    ("tbr", Special::Tbr),
+];
+
 /// The bytes of a line from the byte `start` up to the byte `stop`, as a token has them; none where the line has no such bytes.
 pub fn bytes_between(line: &[u8], start: usize, stop: usize) -> &[u8]
     ensures { result.now ≡ bytes_between line.now start stop }
@@ -37,11 +45,30 @@ pub fn bytes_between(line: &[u8], start: usize, stop: usize) -> &[u8]
     }
 }
 
+/// The bytes of a token.
+pub fn bytes_of<'l>(line: &'l [u8], token: &Token) -> &'l [u8]
+    ensures { result.now ≡ bytes_between line.now token.now.start token.now.stop }
+{
+    bytes_between(line, token.start, token.stop)
+}
+
 /// Whether two names have the same bytes.
 pub fn is_same(left: &[u8], right: &[u8]) -> bool
     ensures { result ≡ bytes_eq left.now right.now }
 {
     left == right
+}
+
+/// What stands beside a name in a table.
+pub fn beside<T: Copy>(name: &[u8], rows: &[(&str, T)]) -> Option<T>
+    ensures { result ≡ beside name.now (map (λ x. (x.0.now, x.1)) rows.now) }
+{
+    for (text, item) in rows {
+        if is_same(name, text.as_bytes()) {
+            return Some(*item);
+        }
+    }
+    None
 }
 
 /// The first register of a group, and how many there are.
@@ -93,28 +120,12 @@ pub fn register_named(name: &[u8]) -> Option<Reg>
     }
 }
 
-fn special_named(name: &[u8]) -> Option<Special>
-    ensures { result ≡ beside name.now specials }
-{
-    if is_same(name, b"y") {
-        Some(Special::Y)
-    } else if is_same(name, b"psr") {
-        Some(Special::Psr)
-    } else if is_same(name, b"wim") {
-        Some(Special::Wim)
-    } else if is_same(name, b"tbr") {
-        Some(Special::Tbr)
-    } else {
-        None
-    }
-}
-
 fn percent_word(name: &[u8]) -> Word
     ensures { result ≡ percent_word name.now }
 {
     match register_named(name) {
         Some(register) => Word::Register(register),
-        None => match special_named(name) {
+        None => match beside(name, &SPECIALS) {
             Some(special) => Word::Special(special),
             None => Word::Unknown,
         },
@@ -137,20 +148,14 @@ fn name_kind(name: &[u8]) -> NameKind
 pub fn sign_byte(bytes: &[u8]) -> u8
     ensures { result ≡ slice_index bytes.now 0 }
 {
-    match bytes.first() {
-        Some(byte) => *byte,
-        None => 0,
-    }
+    bytes.first().copied().unwrap_or(0)
 }
 
 /// What follows the first of some items; none where there are none.
 pub fn after_first<T>(items: &[T]) -> &[T]
     ensures { result.now ≡ drop 1 items.now }
 {
-    match items.split_first() {
-        Some((_, rest)) => rest,
-        None => items,
-    }
+    if items.is_empty() { items } else { &items[1..] }
 }
 
 /// What a token is.
@@ -174,7 +179,7 @@ pub fn name_first<'l, 't>(line: &'l [u8], tokens: &'t [Token]) -> Option<(&'l [u
 {
     let (first, rest) = tokens.split_first()?;
     match first.kind {
-        Kind::Name => Some((bytes_between(line, first.start, first.stop), rest)),
+        Kind::Name => Some((bytes_of(line, first), rest)),
         _ => None,
     }
 }
@@ -183,8 +188,6 @@ pub fn name_first<'l, 't>(line: &'l [u8], tokens: &'t [Token]) -> Option<(&'l [u
 pub fn front<'t>(line: &[u8], tokens: &'t [Token]) -> Option<(Word, &'t [Token])>
     ensures { MatchOption result (words_of line.now tokens.now ≡ []) (λ x. words_of line.now tokens.now ≡ x.0 ∷ words_of line.now x.1.now) }
 {
-    match tokens.split_first() {
-        Some((first, rest)) => Some((word_of(line, first), rest)),
-        None => None,
-    }
+    let (first, rest) = tokens.split_first()?;
+    Some((word_of(line, first), rest))
 }
