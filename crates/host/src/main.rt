@@ -9,7 +9,7 @@
 mod policy;
 
 use bitflags::Flags;
-use policy::{Policy, admit};
+use policy::{Denial, Policy, admit};
 use sbx_batch::{Accepted, Batch, Finished, run_batch};
 use sbx_run::{Services, budget};
 use std::alloc::{AllocError, Global};
@@ -75,22 +75,44 @@ fn run(rt: &HostRuntime, images: &[Accepted]) -> io::Result<u8> {
     }
 }
 
+/// The image of the file at a path, where the policy admits it, or why not.
+fn judged(rt: &HostRuntime, path: &str) -> io::Result<Result<Accepted, Denial>> {
+    let bytes = fs::read(rt, path)?;
+    Ok(admit(rt.alloc(), POLICY, bytes.as_slice()))
+}
+
+/// Adds the image of the file at a path, and says whether the policy admits it. What it asks for is shown, and why it is denied.
+fn add(rt: &HostRuntime, path: &str, images: &mut Vec<Accepted>) -> io::Result<bool> {
+    match judged(rt, path)? {
+        Ok(accepted) => {
+            show(rt, &accepted)?;
+            images.push(accepted)?;
+            Ok(true)
+        }
+        Err(denial) => {
+            writeln!(rt.stderr(), "denied: {denial}")?;
+            Ok(false)
+        }
+    }
+}
+
+/// Adds the images of all paths, and says whether the policy admits each of them.
+fn add_all(rt: &HostRuntime, paths: &[String], images: &mut Vec<Accepted>) -> io::Result<bool> {
+    for path in paths {
+        if !add(rt, path.as_str(), images)? {
+            return Ok(false);
+        }
+    }
+    Ok(true)
+}
+
 /// Runs the images that the words name, where the policy admits each of them, and gives the status.
 fn host(rt: &HostRuntime) -> io::Result<u8> {
-    let paths: Vec<String> = env::args(rt)?.collect(rt.alloc())?;
+    let words: Vec<String> = env::args(rt)?.collect(rt.alloc())?;
+    let paths = words.as_slice().get(1..).unwrap_or(&[]);
     let mut images = Vec::new(rt.alloc());
-    for path in paths.as_slice().iter().skip(1) {
-        let bytes = fs::read(rt, path.as_str())?;
-        match admit(rt.alloc(), POLICY, bytes.as_slice()) {
-            Ok(accepted) => {
-                show(rt, &accepted)?;
-                images.push(accepted)?;
-            }
-            Err(denial) => {
-                writeln!(rt.stderr(), "denied: {denial}")?;
-                return Ok(2);
-            }
-        }
+    if !add_all(rt, paths, &mut images)? {
+        return Ok(2);
     }
     if images.is_empty() {
         writeln!(rt.stderr(), "host: its arguments are images' paths")?;

@@ -3,7 +3,9 @@ ghost use Rattle.std.specs.Prelude.{IfErr, IfOk};
 ghost use Rattle.host.specs.Policies.{Explains, IsAdmitted};
 
 use bitflags::Flags;
-use sbx_run::{Accepted, ImageFault, Refusal, Services, budget, parse, verify};
+use sbx_image::parse;
+use sbx_run::{Accepted, ImageFault, Refusal, Services, budget};
+use sbx_verify::verify;
 use std::alloc::Global;
 use std::fmt::{self, Display, Formatter, Write};
 

@@ -1,6 +1,6 @@
 //! Images of functions that call each other.
 
-use crate::pieces::{CODE, EXIT, bare, framed, leaf, whole};
+use crate::pieces::{CODE, EXIT, bare, framed, leaf, one, whole};
 use sbx_image::{Function, Parts};
 use std::alloc::{AllocError, Global};
 
@@ -25,11 +25,10 @@ const FRAME: u32 = 96;
 fn add_caller(words: &mut Vec<u32>, callers: u16, end: &[u32; 2]) -> Result<(), AllocError> {
     words.extend_from_slice(&OPENING)?;
     for call in 0..5 {
-        words.push(CALL + 16 * u32::from(callers) - (3 + 2 * call))?;
-        words.push(NOP)?;
+        let call = CALL + 16 * u32::from(callers) - (3 + 2 * call);
+        words.extend_from_slice(&[call, NOP])?;
     }
-    words.push(NOP)?;
-    words.extend_from_slice(end)
+    words.extend_from_slice(&[NOP, end[0], end[1]])
 }
 
 /// The words of so many callers and of the last function. The first caller ends the run.
@@ -45,7 +44,7 @@ fn words(alloc: Global, callers: u16) -> Result<Vec<u32>, AllocError> {
 
 /// A leaf function of one block.
 fn plain(alloc: Global, entry: u32, budget: u32) -> Result<Function, AllocError> {
-    let blocks = vec![in alloc; bare(alloc, entry, i64::from(budget))]?;
+    let blocks = one(alloc, bare(alloc, entry, i64::from(budget)))?;
     Ok(leaf(alloc, entry, u64::from(budget), blocks))
 }
 

@@ -23,9 +23,9 @@ use anyhow::{Result, anyhow};
 use loops::Loop;
 use sbx_image::Image;
 use shapes::Shape;
-use std::env;
 use std::time::Instant;
-use verdicts::timed_verdict;
+use std::{env, io};
+use verdicts::{Verdict, timed_verdict};
 use ways::{Told, Way};
 
 /// What is measured: a loop's turns, or a shape's verification.
@@ -92,18 +92,23 @@ fn with_argument(plan: Plan, argument: &str) -> Result<Plan> {
     }
 }
 
-/// What the program's arguments ask for.
-fn planned(rt: &HostRuntime) -> Result<Plan> {
+/// What arguments ask for, the first of which is the program's name.
+fn plan_of(arguments: &[String]) -> Result<Plan> {
     let mut plan = Plan {
         turns: 100_000,
         only: None,
         only_way: None,
     };
-    let arguments: Vec<String> = env::args(rt)?.collect(rt.alloc())?;
     for argument in arguments.iter().skip(1) {
         plan = with_argument(plan, argument.as_str())?;
     }
     Ok(plan)
+}
+
+/// What the program's arguments ask for.
+fn planned(rt: &HostRuntime) -> Result<Plan> {
+    let arguments: Vec<String> = env::args(rt)?.collect(rt.alloc())?;
+    plan_of(arguments.as_slice())
 }
 
 /// What a way tells of a loop's image, and its time in microseconds, loading included.
@@ -114,13 +119,24 @@ fn timed(rt: &HostRuntime, way: Way, image: &Image, turns: u64) -> Result<(Told,
     Ok((told, time.as_micros()))
 }
 
+/// Tells what a way told of a loop, and its time in microseconds.
+fn tell_loop(
+    rt: &HostRuntime,
+    loop_name: &str,
+    way_name: &str,
+    told: Told,
+    time: u128,
+) -> io::Result<()> {
+    println!(rt; "{loop_name} by {way_name}: {told}")?;
+    eprintln!(rt; "{loop_name} by {way_name}: {time} us")
+}
+
 /// Measures a loop's image in each way of the plan.
 fn measure_image(rt: &HostRuntime, plan: Plan, loop_name: &str, image: &Image) -> Result<()> {
     for (way_name, way) in WAYS {
         if plan.only_way.unwrap_or(way) == way {
             let (told, time) = timed(rt, way, image, plan.turns)?;
-            println!(rt; "{loop_name} by {way_name}: {told}")?;
-            eprintln!(rt; "{loop_name} by {way_name}: {time} us")?;
+            tell_loop(rt, loop_name, way_name, told, time)?;
         }
     }
     Ok(())
@@ -134,27 +150,42 @@ fn measure_loop(rt: &HostRuntime, plan: Plan, name: &str, measured: Loop) -> Res
     }
 }
 
-/// Verifies an image of the shape, prints the verdict, and gives the time in microseconds.
-fn verified(rt: &HostRuntime, name: &str, shape: Shape, count: u16) -> Result<u128> {
-    let Ok(image) = shape.image(rt.alloc(), count) else {
-        return Err(anyhow!("the shape is no image"));
-    };
-    let told = timed_verdict(rt, image)?;
+/// Prints the verdict on a shape's image.
+fn tell_verdict(rt: &HostRuntime, name: &str, told: &Verdict) -> io::Result<()> {
     let words = told.words;
     match told.refusal {
-        None => println!(rt; "{name} of {words} words: accepted")?,
-        Some(refusal) => println!(rt; "{name} of {words} words: {refusal}")?,
+        None => println!(rt; "{name} of {words} words: accepted"),
+        Some(refusal) => println!(rt; "{name} of {words} words: {refusal}"),
     }
+}
+
+/// Verifies a shape's image, prints the verdict, and gives the time in microseconds.
+fn verified_image(rt: &HostRuntime, name: &str, image: Image) -> Result<u128> {
+    let told = timed_verdict(rt, image)?;
+    tell_verdict(rt, name, &told)?;
     Ok(told.time)
+}
+
+/// The same of an image of the shape, of so many of its parts.
+fn verified(rt: &HostRuntime, name: &str, shape: Shape, count: u16) -> Result<u128> {
+    match shape.image(rt.alloc(), count) {
+        Ok(image) => verified_image(rt, name, image),
+        Err(_fault) => Err(anyhow!("the shape is no image")),
+    }
+}
+
+/// Tells how long the verification of a shape's image took, and of one of a quarter of it, in microseconds.
+fn tell_times(rt: &HostRuntime, name: &str, whole: u128, quarter: u128) -> io::Result<()> {
+    let tenths = whole.saturating_mul(10) / quarter.max(1);
+    let (times, tenth) = (tenths / 10, tenths % 10);
+    eprintln!(rt; "{name}: {whole} us, {times}.{tenth} times the {quarter} us of a quarter")
 }
 
 /// Verifies an image of the shape and one of a quarter of it, and tells how long each took.
 fn measure_shape(rt: &HostRuntime, name: &str, shape: Shape) -> Result<()> {
     let quarter = verified(rt, name, shape, shape.quarter())?;
     let whole = verified(rt, name, shape, 4 * shape.quarter())?;
-    let tenths = whole.saturating_mul(10) / quarter.max(1);
-    let (times, tenth) = (tenths / 10, tenths % 10);
-    eprintln!(rt; "{name}: {whole} us, {times}.{tenth} times the {quarter} us of a quarter")?;
+    tell_times(rt, name, whole, quarter)?;
     Ok(())
 }
 

@@ -9,6 +9,13 @@ pub const CODE: u32 = 0x4_0000;
 /// `mov 0,%o0; ta 0`
 pub const EXIT: [u32; 2] = [0x9010_2000, 0x91D0_2000];
 
+/// A list of one item.
+pub fn one<T: Drop>(alloc: Global, item: T) -> Result<Vec<T>, AllocError> {
+    let mut items = Vec::new(alloc);
+    items.push(item)?;
+    Ok(items)
+}
+
 /// A block that lists nothing but its fuel.
 pub fn bare(alloc: Global, address: u32, fuel: i64) -> Block {
     Block {

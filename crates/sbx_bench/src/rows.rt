@@ -1,7 +1,7 @@
 //! Images of one function, of rows of words.
 
-use crate::pieces::{CODE, EXIT, bare, framed, leaf, whole};
-use sbx_image::{Block, Cell, Items, Parts, Range, Term};
+use crate::pieces::{CODE, EXIT, bare, framed, leaf, one, whole};
+use sbx_image::{Block, Cell, Function, Items, Parts, Range, Term};
 use std::alloc::{AllocError, Global};
 
 /// `mov 5,%o1; ta 1; add %o0,%o1,%o2; sll %o2,2,%o3; xor %o3,%o1,%o4; and %o4,255,%o5; sethi 512,%g1; st %o5,[%g1]; ld [%g1],%o2;
@@ -43,28 +43,36 @@ const FRAME: u32 = 240;
 /// Turns that last for the greatest of these functions.
 const BUDGET: u32 = 1 << 30;
 
-/// A function of one block, of so many times 16 words.
-pub fn straight(alloc: Global, rows: u16) -> Result<Parts, AllocError> {
-    let mut words = Vec::new(alloc);
+/// Adds so many times 16 words, the last two of which end the run.
+fn add_straight(words: &mut Vec<u32>, rows: u16) -> Result<(), AllocError> {
     for _ in 1..rows {
         words.extend_from_slice(&ROW)?;
     }
     words.extend_from_slice(&ROW[..14])?;
-    words.extend_from_slice(&EXIT)?;
-    let blocks = vec![in alloc; bare(alloc, CODE, i64::from(BUDGET))]?;
-    let function = leaf(alloc, CODE, u64::from(BUDGET), blocks);
-    whole(alloc, words, vec![in alloc; function]?)
+    words.extend_from_slice(&EXIT)
 }
 
-/// Adds so many rows of 15 words, each of which ends with a branch past the last of them.
+/// An image's parts, of these words and this function alone.
+fn alone(alloc: Global, words: Vec<u32>, function: Function) -> Result<Parts, AllocError> {
+    whole(alloc, words, one(alloc, function)?)
+}
+
+/// A function of one block, of so many times 16 words.
+pub fn straight(alloc: Global, rows: u16) -> Result<Parts, AllocError> {
+    let mut words = Vec::new(alloc);
+    add_straight(&mut words, rows)?;
+    let blocks = one(alloc, bare(alloc, CODE, i64::from(BUDGET)))?;
+    alone(alloc, words, leaf(alloc, CODE, u64::from(BUDGET), blocks))
+}
+
+/// Adds so many rows of 15 words, each of which ends with a branch past the last of them, and then the words that end the run.
 fn add_rows(words: &mut Vec<u32>, rows: u16) -> Result<(), AllocError> {
     for done in 0..rows {
+        let branch = BRANCH + 15 * u32::from(rows - done) - 13;
         words.extend_from_slice(&ROW[..12])?;
-        words.push(COMPARE)?;
-        words.push(BRANCH + 15 * u32::from(rows - done) - 13)?;
-        words.push(SLOT)?;
+        words.extend_from_slice(&[COMPARE, branch, SLOT])?;
     }
-    Ok(())
+    words.extend_from_slice(&EXIT)
 }
 
 /// Whether a location from 8 to 75 can be a cell: not %sp, %o7, %fp and %i7.
@@ -157,7 +165,7 @@ fn row_blocks(
     rows: u16,
     is_annotated: bool,
 ) -> Result<Vec<Block>, AllocError> {
-    let mut blocks = vec![in alloc; bare(alloc, CODE, i64::from(BUDGET))]?;
+    let mut blocks = one(alloc, bare(alloc, CODE, i64::from(BUDGET)))?;
     for done in 0..=rows {
         let address = CODE + 4 * (u32::from(first) + 15 * u32::from(done));
         let fuel = 64 * (i64::from(rows) - i64::from(done) + 1);
@@ -171,10 +179,8 @@ pub fn branches(alloc: Global, count: u16) -> Result<Parts, AllocError> {
     let rows = count.saturating_sub(2);
     let mut words = vec![in alloc; ROW[0]]?;
     add_rows(&mut words, rows)?;
-    words.extend_from_slice(&EXIT)?;
     let blocks = row_blocks(alloc, 1, rows, false)?;
-    let function = leaf(alloc, CODE, u64::from(BUDGET), blocks);
-    whole(alloc, words, vec![in alloc; function]?)
+    alone(alloc, words, leaf(alloc, CODE, u64::from(BUDGET), blocks))
 }
 
 /// The same with a frame, and with 64 cells and 8 terms in each block but the first.
@@ -182,8 +188,7 @@ pub fn cells(alloc: Global, count: u16) -> Result<Parts, AllocError> {
     let rows = count.saturating_sub(2);
     let mut words = opening(alloc)?;
     add_rows(&mut words, rows)?;
-    words.extend_from_slice(&EXIT)?;
     let blocks = row_blocks(alloc, 65, rows, true)?;
     let function = framed(leaf(alloc, CODE, u64::from(BUDGET), blocks), FRAME, FRAME);
-    whole(alloc, words, vec![in alloc; function]?)
+    alone(alloc, words, function)
 }

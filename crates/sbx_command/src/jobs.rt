@@ -6,7 +6,7 @@ ghost use Rattle.std.specs.Str.Parse.{IsNumeral, digits_value};
 use crate::counts::Windows;
 
 /// One job of the sandbox. Each path that it needs stands in it.
-#[derive(Clone, Copy, Debug, PartialEq, Eq)]
+#[derive(Clone, Copy, PartialEq, Eq)]
 pub enum Job<'a> {
     /// Assembles the source file to an object file.
     Asm {

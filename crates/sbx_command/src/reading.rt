@@ -11,7 +11,7 @@ use want::Want;
 pub const MOST: usize = 16_777_216;
 
 /// Why the bytes of a reader aren't there.
-#[derive(Clone, Copy, Debug, PartialEq, Eq)]
+#[derive(Clone, Copy, PartialEq, Eq)]
 pub enum ReadFault {
     /// A read failed.
     Reader,

@@ -15,7 +15,7 @@ use std::io::{self, ErrorKind};
 use want::Want;
 
 /// Why a command stops before its job is done. Its text is its line on standard error.
-#[derive(Clone, Copy, Debug, PartialEq, Eq)]
+#[derive(Clone, Copy)]
 pub enum Stop {
     /// The source means no image.
     Source(AsmFault),
@@ -36,7 +36,7 @@ pub enum Stop {
 }
 
 /// How a command ended.
-#[derive(Clone, Copy, Debug, PartialEq, Eq)]
+#[derive(Clone, Copy)]
 pub struct Ended {
     /// The exit status.
     pub status: u8,
@@ -48,7 +48,7 @@ pub struct Ended {
 type Line = ArrayString<64>;
 
 /// The evidence that there was no room for a file or a stream. It is made of an error of the kind `OutOfMemory`, and of nothing else.
-#[derive(Clone, Copy, Debug, PartialEq, Eq)]
+#[derive(Clone, Copy)]
 pub struct Full(());
 
 impl Full {

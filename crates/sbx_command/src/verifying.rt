@@ -9,7 +9,8 @@ ghost use Rattle.sbx_command.specs.Verdicts.{BeginsVerdict, FrontLeft, IsAccepte
 use crate::images::image_in;
 use crate::stops::Stop;
 use sbx_put::put_through;
-use sbx_stream::{Accepted, Cause, verify};
+use sbx_stream::{Accepted, Cause};
+use sbx_verify::verify;
 use std::alloc::Global;
 use std::io::{Read, Write};
 

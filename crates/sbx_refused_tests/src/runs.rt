@@ -6,8 +6,8 @@ use sbx_batch::{Batch, run_batch};
 use sbx_image::{Image, write};
 use sbx_run::{
     Accepted, Cause, Ending, Finished, Raw, RunFault, run_accepted, run_raw, run_windows, trace,
-    verify,
 };
+use sbx_verify::verify;
 use std::alloc::{AllocError, Global};
 
 /// The image as an accepted one. Where memory is refused it comes back, and is verified again.

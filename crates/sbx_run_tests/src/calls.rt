@@ -3,7 +3,8 @@ ghost use Rattle.std.specs.Prelude.{◌≤◌};
 
 use sbx_batch::{Batch, run_batch};
 use sbx_image::{Image, ImageFault, parse};
-use sbx_run::{Accepted, Finished, Raw, Refusal, run_accepted, run_raw, verify};
+use sbx_run::{Accepted, Finished, Raw, Refusal, run_accepted, run_raw};
+use sbx_verify::verify;
 use std::alloc::Global;
 
 /// The image of these bytes.

@@ -3,7 +3,5 @@
 
 mod streams;
 
-pub use sbx_run::{
-    Accepted, Cause, Finished, Outcome, Refusal, RunFault, budget, run_accepted, trace, verify,
-};
+pub use sbx_run::{Accepted, Cause, Finished, Outcome, Refusal, RunFault, budget, trace};
 pub use streams::run_stream;

@@ -3,7 +3,7 @@ use crate::boards::runs_on_board;
 use crate::faults::LineFault;
 use crate::fields::bytes;
 use crate::flat::runs_flat;
-use crate::runs::run_in;
+use crate::runs::{Run, run_in};
 use crate::verdicts::{Verdict, is_spelled, verdict_on};
 use sbx_run::Accepted;
 use std::alloc::Global;
@@ -34,6 +34,25 @@ impl fmt::Display for Tally {
     }
 }
 
+/// The verdict on the image whose bytes a field has.
+fn verdict_in(alloc: Global, field: &str) -> Result<Verdict, LineFault> {
+    let bytes = bytes(alloc, field)?;
+    verdict_on(alloc, bytes.as_slice())
+}
+
+/// The image of a verdict, where it is accepted.
+fn accepted_of(verdict: Verdict) -> Option<Accepted> {
+    match verdict {
+        Verdict::Accepted(accepted) => Some(accepted),
+        Verdict::Refused(_) => None,
+    }
+}
+
+/// Whether the runs of an image on a board and on the flat machine are a line's.
+fn runs_so(alloc: Global, accepted: &Accepted, run: &Run) -> Result<bool, LineFault> {
+    Ok(runs_on_board(alloc, accepted, run)? && runs_flat(alloc, accepted.image(), run)?)
+}
+
 /// What the lines so far came to, and the image of the last verdict, where it is accepted.
 #[derive(Drop)]
 pub struct Comparison {
@@ -59,12 +78,9 @@ impl Comparison {
         let Some((field, wanted)) = text.split_once(' ') else {
             return Err(LineFault::NotRead);
         };
-        let bytes = bytes(alloc, field)?;
-        let verdict = verdict_on(alloc, bytes.as_slice())?;
+        let verdict = verdict_in(alloc, field)?;
         let agrees = is_spelled(alloc, &verdict, wanted)?;
-        if let Verdict::Accepted(accepted) = verdict {
-            self.accepted = Some(accepted);
-        }
+        self.accepted = accepted_of(verdict);
         Ok(agrees)
     }
 
@@ -74,7 +90,7 @@ impl Comparison {
             return Err(LineFault::NotRead);
         };
         let run = run_in(alloc, text)?;
-        Ok(runs_on_board(alloc, accepted, &run)? && runs_flat(alloc, accepted.image(), &run)?)
+        runs_so(alloc, accepted, &run)
     }
 
     /// Whether a line agrees.
@@ -82,12 +98,12 @@ impl Comparison {
         match line.split_once(' ') {
             Some(("image", text)) => {
                 let answer = self.image(alloc, text);
-                self.images.count(answer == Ok(true));
+                self.images.count(matches!(answer, Ok(true)));
                 answer
             }
             Some(("run", text)) => {
                 let answer = self.run(alloc, text);
-                self.runs.count(answer == Ok(true));
+                self.runs.count(matches!(answer, Ok(true)));
                 answer
             }
             _ => Err(LineFault::NotRead),

@@ -51,11 +51,23 @@ struct Done {
     err: Vec<u8>,
 }
 
+/// Does a job on the bytes of a file and of an input, and gives its status.
+fn status_of(
+    rt: &HostRuntime,
+    job: &Job<'_>,
+    mut file: &[u8],
+    mut input: &[u8],
+    out: &mut Vec<u8>,
+    err: &mut Vec<u8>,
+) -> u8 {
+    exit_status(rt.alloc(), job, &mut file, &mut input, out, err)
+}
+
 /// Does a job on the bytes of a file and of an input.
-fn performed(rt: &HostRuntime, job: &Job<'_>, mut file: &[u8], mut input: &[u8]) -> Done {
+fn performed(rt: &HostRuntime, job: &Job<'_>, file: &[u8], input: &[u8]) -> Done {
     let mut out = Vec::new(rt.alloc());
     let mut err = Vec::new(rt.alloc());
-    let status = exit_status(rt.alloc(), job, &mut file, &mut input, &mut out, &mut err);
+    let status = status_of(rt, job, file, input, &mut out, &mut err);
     Done { status, out, err }
 }
 
@@ -89,9 +101,14 @@ fn file_of(rt: &HostRuntime, name: &str, ending: &str) -> io::Result<Vec<u8>> {
     fs::read(rt, path.as_str())
 }
 
+/// Verifies an image.
+fn tell_verdict(rt: &HostRuntime, name: &str, image: &[u8]) -> io::Result<()> {
+    tell_done(rt, "verify", name, &performed(rt, &VERIFY, image, b""))
+}
+
 /// Verifies an image, and runs it on an input.
 fn tell_image(rt: &HostRuntime, name: &str, image: &[u8], input: &[u8]) -> io::Result<()> {
-    tell_done(rt, "verify", name, &performed(rt, &VERIFY, image, b""))?;
+    tell_verdict(rt, name, image)?;
     tell_done(rt, "run", name, &performed(rt, &RUN, image, input))
 }
 
@@ -121,14 +138,25 @@ fn assembled(rt: &HostRuntime, name: &str) -> io::Result<Done> {
     Ok(performed(rt, &ASM, source.as_slice(), b""))
 }
 
-/// Assembles a program, verifies it and runs it.
-fn tell_program(rt: &HostRuntime, name: &str, there: bool, is_kept: bool) -> io::Result<()> {
-    let done = assembled(rt, name)?;
-    tell_assembly(rt, name, &done)?;
+/// Tells what assembling a program gave, and verifies the image and runs it.
+fn tell_assembled(
+    rt: &HostRuntime,
+    name: &str,
+    there: bool,
+    is_kept: bool,
+    done: &Done,
+) -> io::Result<()> {
+    tell_assembly(rt, name, done)?;
     if is_kept {
         compare(rt, name, done.out.as_slice())?;
     }
     tell_on_input(rt, name, done.out.as_slice(), there)
+}
+
+/// Assembles a program, verifies it and runs it.
+fn tell_program(rt: &HostRuntime, name: &str, there: bool, is_kept: bool) -> io::Result<()> {
+    let done = assembled(rt, name)?;
+    tell_assembled(rt, name, there, is_kept, &done)
 }
 
 /// No source has the word that breaks the first rule, so an image has it.

@@ -4,7 +4,7 @@ use std::alloc::{AllocError, AllocFailed};
 use want::Want;
 
 /// Why a line isn't compared.
-#[derive(Clone, Copy, Debug, PartialEq, Eq)]
+#[derive(Clone, Copy)]
 pub enum LineFault {
     /// The line isn't of one of the two forms, or is about no image.
     NotRead,

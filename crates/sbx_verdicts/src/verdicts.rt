@@ -4,7 +4,8 @@ ghost use Rattle.sbx_verdicts.specs.Verdicts.{IsVerdict, spelling};
 
 use crate::faults::LineFault;
 use sbx_image::parse;
-use sbx_run::{Accepted, Refusal, verify};
+use sbx_run::{Accepted, Refusal};
+use sbx_verify::verify;
 use std::alloc::{AllocError, Global};
 
 /// The verifier's verdict on an image.

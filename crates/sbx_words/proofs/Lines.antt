@@ -20,7 +20,7 @@ use Rattle.sbx_command.specs.declared.jobs.Job.{Job}
 use Rattle.sbx_command.specs.declared.jobs.Job.TheVariants.{Asm, Verify, Run, List as Listing, Trace}
 use Rattle.sbx_words.specs.declared.Usage.{Usage}
 use Rattle.sbx_words.specs.declared.Usage.TheVariants.{Text as Told, Memory, NoRoom}
-use Rattle.sbx_words.specs.Lines.{HasLimit, HasPath, HasWindows, IsAlone, IsGiven, IsText, IsTrueOfWords, Means, MeansJob, sandbox_app}
+use Rattle.sbx_words.specs.Lines.{Adds, HasLimit, HasPath, HasWindows, IsAlone, IsGiven, IsText, IsTrueOfWords, Means, MeansJob, sandbox_app}
 
 -- ---- the command line is one of which `clap` says all
 
@@ -36,6 +36,11 @@ line_is_free = refl
 pub grown : (old below new : Command) (app : App) (shape : Shape) → AddsSubcommand old below new → app_of old ≡ app → IsAlone shape below
     → app_of new ≡ with_subcommand app shape
 grown old below new app shape adds is alone = adds.shape alone.1 ∙ ap₂ with_subcommand is (ap (λ (a : App). a.top) alone.0)
+
+pub grown_by : {E : Type 0} (old new : Command) (below : Result Command E) (app : App) (shape : Shape) → Adds old below new → app_of old ≡ app
+    → IfOk below (IsAlone shape) → app_of new ≡ with_subcommand app shape
+grown_by {E} old new below app shape (made, is, adds) was alone =
+    grown old made new app shape adds was (subst (λ (r : Result Command E). IfOk r (IsAlone shape)) is alone)
 
 -- ---- what `clap` answers by it
 

@@ -1,12 +1,12 @@
 //! What the words of a command line ask for.
 #![tactic(auto)]
 
-ghost use Rattle.std.specs.Prelude.{◌≡◌, ◌≢◌, ℕ, false, [], None, IfErr, IfOk, IsErr, codes, map};
+ghost use Rattle.std.specs.Prelude.{◌≡◌, ◌≢◌, ℕ, false, [], ◌∷◌, None, IfErr, IfOk, IsErr, codes, map};
 ghost use Rattle.clap.specs.Words.{app_of, fault_of, first_of, found_of, kind_of, rows_of, rule_of, subcommand_of, subcommand_rows_of};
 ghost use Rattle.sbx_command.specs.declared.jobs.Job.{Job};
 ghost use Rattle.sbx_command.specs.Jobs.{IsInRange};
 ghost use Rattle.want.specs.Wants.{refused};
-ghost use Rattle.sbx_words.specs.Lines.{AskFor, HasLimit, HasPath, HasWindows, IsAlone, IsText, IsTrueOfWords, Means, MeansJob, asm_shape, bare_shape, image_rule, limit_rule, list_shape, number_rule, path_rule, run_shape, sandbox_app, trace_shape, verify_shape, windows_rule};
+ghost use Rattle.sbx_words.specs.Lines.{Adds, AskFor, HasLimit, HasPath, HasWindows, IsAlone, IsText, IsTrueOfWords, Means, MeansJob, asm_shape, bare_shape, image_rule, number_rule, path_rule, run_shape, sandbox_app, shape_with, trace_shape};
 
 mod starved;
 
@@ -88,14 +88,6 @@ fn path<'a>(alloc: Global, name: &'a str, help: &'a str) -> Arg<'a>
         .action(ArgAction::Set)
 }
 
-/// The path of an image.
-fn image<'a>(alloc: Global) -> Arg<'a>
-    ensures rule { rule_of result ≡ image_rule }
-    ensures local { result.global ≡ false }
-{
-    path(alloc, "IMG", "The image file, as asm makes one")
-}
-
 /// A number that may be there.
 fn number<'a>(alloc: Global, name: &'a str, value: &'a str, help: &'a str) -> Arg<'a>
     ensures rule { rule_of result ≡ number_rule name.entry.now }
@@ -108,41 +100,14 @@ fn number<'a>(alloc: Global, name: &'a str, value: &'a str, help: &'a str) -> Ar
         .action(ArgAction::Set)
 }
 
-/// A count of windows that may be there.
-fn windows<'a>(alloc: Global) -> Arg<'a>
-    ensures rule { rule_of result ≡ windows_rule }
-    ensures local { result.global ≡ false }
-{
-    number(
-        alloc,
-        "windows",
-        "N",
-        "How many register windows the machine has, 4 to 32; 8 where it is left out",
-    )
-}
+/// What the path of an image is.
+const IMG: &str = "The image file, as asm makes one";
 
-/// A limit of turns that may be there.
-fn limit<'a>(alloc: Global) -> Arg<'a>
-    ensures rule { rule_of result ≡ limit_rule }
-    ensures local { result.global ≡ false }
-{
-    number(
-        alloc,
-        "limit",
-        "T",
-        "The most turns, 0 to 9999999999; 100000 where it is left out",
-    )
-}
+/// What the count of windows is.
+const WINDOWS: &str = "How many register windows the machine has, 4 to 32; 8 where it is left out";
 
-/// The command that assembles a source.
-fn asm<'a>(alloc: Global) -> Result<Command<'a>, AllocError>
-    ensures { IfOk result (IsAlone asm_shape) }
-{
-    Command::new(alloc, "asm")
-        .about(ASM)
-        .arg(path(alloc, "SRC", "The source file"))?
-        .arg(path(alloc, "OUT", "The image file that is made"))
-}
+/// What the limit of turns is.
+const LIMIT: &str = "The most turns, 0 to 9999999999; 100000 where it is left out";
 
 /// What `asm` does.
 const ASM: &str =
@@ -163,13 +128,23 @@ const LIST: &str = "Prints address, word and text of each word of an image's cod
 const TRACE: &str =
     "Runs an image, accepted or not, on standard input, which is read whole first, and prints a line a turn";
 
-/// The command that verifies an image.
-fn verify<'a>(alloc: Global) -> Result<Command<'a>, AllocError>
-    ensures { IfOk result (IsAlone verify_shape) }
+/// The command that assembles a source.
+fn asm<'a>(alloc: Global) -> Result<Command<'a>, AllocError>
+    ensures { IfOk result (IsAlone asm_shape) }
 {
-    Command::new(alloc, "verify")
-        .about(VERIFY)
-        .arg(image(alloc))
+    Command::new(alloc, "asm")
+        .about(ASM)
+        .arg(path(alloc, "SRC", "The source file"))?
+        .arg(path(alloc, "OUT", "The image file that is made"))
+}
+
+/// A command that has the path of an image, and nothing else.
+fn of_image<'a>(alloc: Global, name: &'a str, about: &'a str) -> Result<Command<'a>, AllocError>
+    ensures { IfOk result (IsAlone (shape_with name.entry.now (image_rule ∷ []))) }
+{
+    Command::new(alloc, name)
+        .about(about)
+        .arg(path(alloc, "IMG", IMG))
 }
 
 /// The command that runs an image.
@@ -178,15 +153,8 @@ fn run<'a>(alloc: Global) -> Result<Command<'a>, AllocError>
 {
     Command::new(alloc, "run")
         .about(RUN)
-        .arg(windows(alloc))?
-        .arg(image(alloc))
-}
-
-/// The command that lists an image.
-fn list<'a>(alloc: Global) -> Result<Command<'a>, AllocError>
-    ensures { IfOk result (IsAlone list_shape) }
-{
-    Command::new(alloc, "list").about(LIST).arg(image(alloc))
+        .arg(number(alloc, "windows", "N", WINDOWS))?
+        .arg(path(alloc, "IMG", IMG))
 }
 
 /// The command that traces an image.
@@ -195,9 +163,9 @@ fn trace<'a>(alloc: Global) -> Result<Command<'a>, AllocError>
 {
     Command::new(alloc, "trace")
         .about(TRACE)
-        .arg(windows(alloc))?
-        .arg(limit(alloc))?
-        .arg(image(alloc))
+        .arg(number(alloc, "windows", "N", WINDOWS))?
+        .arg(number(alloc, "limit", "T", LIMIT))?
+        .arg(path(alloc, "IMG", IMG))
 }
 
 /// The sandbox without its commands.
@@ -211,16 +179,25 @@ fn bare<'a>(alloc: Global) -> Result<Command<'a>, AllocError>
         .bin_name("sandbox")
 }
 
+/// A command with one more below it, if there was memory for that one.
+fn add<'a>(
+    command: Command<'a>,
+    below: Result<Command<'a>, AllocError>,
+) -> Result<Command<'a>, AllocError>
+    ensures { IfOk result (λ added. Adds command.entry below.entry added) }
+{
+    command.subcommand(below?)
+}
+
 /// The whole command line.
 fn sandbox<'a>(alloc: Global) -> Result<Command<'a>, AllocError>
     ensures { IfOk result (λ c. app_of c ≡ sandbox_app) }
 {
-    bare(alloc)?
-        .subcommand(asm(alloc)?)?
-        .subcommand(verify(alloc)?)?
-        .subcommand(run(alloc)?)?
-        .subcommand(list(alloc)?)?
-        .subcommand(trace(alloc)?)
+    let assembling = add(bare(alloc)?, asm(alloc))?;
+    let verifying = add(assembling, of_image(alloc, "verify", VERIFY))?;
+    let running = add(verifying, run(alloc))?;
+    let listing = add(running, of_image(alloc, "list", LIST))?;
+    add(listing, trace(alloc))
 }
 
 /// The path of this name.
@@ -259,58 +236,26 @@ fn trace_job<'a>(found: &ArgMatches<'a>) -> Result<Job<'a>, Lack>
     })
 }
 
-/// The job of `run`.
-fn run_job<'a>(found: &ArgMatches<'a>) -> Result<Job<'a>, Lack>
-    ensures job { IfOk result (MeansJob (codes "run") (rows_of (found_of found.now))) }
-    ensures none { IsErr result → (job : Job) → MeansJob (codes "run") (rows_of (found_of found.now)) job → ⊥ }
-{
-    Ok(Job::Run {
-        image: path_in("IMG", found)?,
-        windows: windows_in(found)?,
-    })
-}
-
-/// The job of `asm`.
-fn asm_job<'a>(found: &ArgMatches<'a>) -> Result<Job<'a>, Lack>
-    ensures job { IfOk result (MeansJob (codes "asm") (rows_of (found_of found.now))) }
-    ensures none { IsErr result → (job : Job) → MeansJob (codes "asm") (rows_of (found_of found.now)) job → ⊥ }
-{
-    Ok(Job::Asm {
-        source: path_in("SRC", found)?,
-        object: path_in("OUT", found)?,
-    })
-}
-
-/// The job of `verify`.
-fn verify_job<'a>(found: &ArgMatches<'a>) -> Result<Job<'a>, Lack>
-    ensures job { IfOk result (MeansJob (codes "verify") (rows_of (found_of found.now))) }
-    ensures none { IsErr result → (job : Job) → MeansJob (codes "verify") (rows_of (found_of found.now)) job → ⊥ }
-{
-    Ok(Job::Verify {
-        image: path_in("IMG", found)?,
-    })
-}
-
-/// The job of `list`.
-fn list_job<'a>(found: &ArgMatches<'a>) -> Result<Job<'a>, Lack>
-    ensures job { IfOk result (MeansJob (codes "list") (rows_of (found_of found.now))) }
-    ensures none { IsErr result → (job : Job) → MeansJob (codes "list") (rows_of (found_of found.now)) job → ⊥ }
-{
-    Ok(Job::List {
-        image: path_in("IMG", found)?,
-    })
-}
-
 /// The job of a command with what was found for it.
 fn job_of<'a>(name: &str, found: &ArgMatches<'a>) -> Result<Job<'a>, Lack>
     ensures job { IfOk result (MeansJob name.now (rows_of (found_of found.now))) }
     ensures none { IsErr result → (job : Job) → MeansJob name.now (rows_of (found_of found.now)) job → ⊥ }
 {
     match name {
-        "asm" => asm_job(found),
-        "verify" => verify_job(found),
-        "run" => run_job(found),
-        "list" => list_job(found),
+        "asm" => Ok(Job::Asm {
+            source: path_in("SRC", found)?,
+            object: path_in("OUT", found)?,
+        }),
+        "verify" => Ok(Job::Verify {
+            image: path_in("IMG", found)?,
+        }),
+        "run" => Ok(Job::Run {
+            image: path_in("IMG", found)?,
+            windows: windows_in(found)?,
+        }),
+        "list" => Ok(Job::List {
+            image: path_in("IMG", found)?,
+        }),
         "trace" => trace_job(found),
         _ => Err(Lack::Command),
     }

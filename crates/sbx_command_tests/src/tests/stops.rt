@@ -1,6 +1,6 @@
 //! The line of a stop over a writer that takes a byte a call, and fails at one.
 use super::Writer;
-use sbx_command::{Ended, Stop};
+use sbx_command::Stop;
 use sbx_rules::{Cause, Refusal};
 
 /// The longest stop: a refusal at the last word of the last function.
@@ -24,7 +24,7 @@ fn is_told(fails: usize) -> bool {
         Some(count) => LINE.get(..count).unwrap_or(LINE),
     };
     let told = front.len() == LINE.len();
-    ended == Ended { status: 2, told } && err.text() == front
+    ended.status == 2 && ended.told == told && err.text() == front
 }
 
 #[test]

@@ -2,11 +2,14 @@ use Rattle.std.proofs.Common.{[], ◌≡◌}
 use Rattle.std.proofs.lemmas.Result.{IfOk-weaker}
 use Rattle.clap.specs.Words.{App, app_of, with_subcommand}
 use Rattle.sbx_words.specs.Lines.{asm_shape, bare_shape, list_shape, run_shape, trace_shape, verify_shape}
-use Rattle.sbx_words.proofs.Lines.{grown}
+use Rattle.sbx_words.proofs.Lines.{grown_by}
 use Rattle.sbx_words.proofs.sandbox.Goals as goal
 
+abbrev bare_app : App
+bare_app = record { top = bare_shape; subs = [] }
+
 abbrev with_asm : App
-with_asm = with_subcommand (record { top = bare_shape; subs = [] }) asm_shape
+with_asm = with_subcommand bare_app asm_shape
 
 abbrev with_verify : App
 with_verify = with_subcommand with_asm verify_shape
@@ -19,18 +22,12 @@ with_list = with_subcommand with_run list_shape
 
 pub returns : goal.returns
 returns c =
-    let one : app_of c.in_ok-subcommand.field-0 ≡ with_asm
-    = grown c.in_ok-bare.field-0 c.in_ok-asm.field-0 c.in_ok-subcommand.field-0 (record { top = bare_shape; subs = [] }) asm_shape
-    c.in_ok-subcommand.ensures c.in_ok-bare.ensures.0 c.in_ok-asm.ensures in
-    let two : app_of c.in_ok-subcommand-2.field-0 ≡ with_verify
-    = grown c.in_ok-subcommand.field-0 c.in_ok-verify.field-0 c.in_ok-subcommand-2.field-0 with_asm verify_shape
-    c.in_ok-subcommand-2.ensures one c.in_ok-verify.ensures in
-    let three : app_of c.in_ok-subcommand-3.field-0 ≡ with_run
-    = grown c.in_ok-subcommand-2.field-0 c.in_ok-run.field-0 c.in_ok-subcommand-3.field-0 with_verify run_shape
-    c.in_ok-subcommand-3.ensures two c.in_ok-run.ensures in
-    let four : app_of c.in_ok-subcommand-4.field-0 ≡ with_list
-    = grown c.in_ok-subcommand-3.field-0 c.in_ok-list.field-0 c.in_ok-subcommand-4.field-0 with_run list_shape
-    c.in_ok-subcommand-4.ensures three c.in_ok-list.ensures in
-    IfOk-weaker c.subcommand-5.result _ _
-    (λ made adds. grown c.in_ok-subcommand-4.field-0 c.in_ok-trace.field-0 made with_list trace_shape adds four c.in_ok-trace.ensures)
-    c.subcommand-5.ensures
+    let one : app_of c.in_ok-assembling.assembling ≡ with_asm
+    = grown_by c.in_ok-bare.field-0 c.in_ok-assembling.assembling c.asm.result bare_app asm_shape c.in_ok-assembling.ensures c.in_ok-bare.ensures.0 c.asm.ensures in
+    let two : app_of c.in_ok-verifying.verifying ≡ with_verify
+    = grown_by c.in_ok-assembling.assembling c.in_ok-verifying.verifying c.of_image.result with_asm verify_shape c.in_ok-verifying.ensures one c.of_image.ensures in
+    let three : app_of c.in_ok-running.running ≡ with_run
+    = grown_by c.in_ok-verifying.verifying c.in_ok-running.running c.run.result with_verify run_shape c.in_ok-running.ensures two c.run.ensures in
+    let four : app_of c.in_ok-listing.listing ≡ with_list
+    = grown_by c.in_ok-running.running c.in_ok-listing.listing c.of_image-2.result with_run list_shape c.in_ok-listing.ensures three c.of_image-2.ensures in
+    IfOk-weaker c.add-5.result _ _ (λ made adds. grown_by c.in_ok-listing.listing made c.trace.result with_list trace_shape adds four c.trace.ensures) c.add-5.ensures

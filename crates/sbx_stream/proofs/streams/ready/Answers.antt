@@ -15,3 +15,12 @@ returns-in-Ok-clause-ready g c =
       contained = c.load.ensures.contained;
       served = c.load.ensures.failed ∙ c.in-Ok.ensures.failed ∙ c.new.ensures.failed;
     }
+
+pub new-requires-2 : goal.new-requires-2
+new-requires-2 g c = assumption
+
+pub load-requires : goal.load-requires
+load-requires g c = assumption
+
+pub returns-in-Err-clause-fault : goal.returns-in-Err-clause-fault
+returns-in-Err-clause-fault g c = assumption

@@ -62,3 +62,6 @@ returns-clause-part g c =
     let most : c.budget.result ≡ budget parts = c.budget.ensures ∙ ap budget same in
     let runs = subst (λ (k : ℕ). Streamed reader reader_now writer writer_now (RunsOn g.row.N board.state k c.in-Err.fault)) most c.in-Err.ensures.part in
     front g.row.N parts board ready limits c.image-image.ensures.safe reader reader_now writer writer_now c.in-Err.fault c.fault_of.result c.fault_of.ensures runs
+
+pub returns-in-Ok-clause-output : goal.returns-in-Ok-clause-output
+returns-in-Ok-clause-output g c = assumption
