@@ -1,7 +1,7 @@
 -- The instructions of a statement are spelled as words below 2 ^ 32.
 use Rattle.std.proofs.Common.{ℕ, ◌+◌, ◌%◌, ◌^◌, ◌<◌, ◌≤◌, Bool, cond, not, eqb, ltb, leb, List, [], ◌∷◌, map, Option, None, Some, IfSome, Result, Ok, Err, IfOk, arith}
 use Rattle.std.specs.Prelude.{◌&&◌, ◌||◌, codes, take, drop}
-use Rattle.std.specs.Option.{option_map, option_map_or, option_or, unwrap_or}
+use Rattle.std.specs.Option.{option_map, option_and_then, option_map_or, option_or, unwrap_or}
 use Rattle.std.specs.Str.{bytes_eq}
 use Rattle.std.specs.List.{AllByRecursion}
 use Rattle.std.proofs.lemmas.Bool.{cond_both, ltb-true}
@@ -33,6 +33,10 @@ IsWord w = w < 2 ^ 32
 either_all : {A B : Type 0} (P : A → Type 0) (Q : B → Type 0) (o : Option A) (f : A → B) (other : B) → IfSome o P → ((x : A) → P x → Q (f x)) → Q other → Q (option_map_or f o other)
 either_all P Q (Some x) f other h go or = go x h
 either_all P Q None f other h go or = or
+
+then_all : {A B : Type 0} (P : A → Type 0) (Q : B → Type 0) (o : Option A) (f : A → Option B) → IfSome o P → ((x : A) → P x → IfSome (f x) Q) → IfSome (option_and_then f o) Q
+then_all P Q (Some x) f h go = go x h
+then_all P Q None f h go = tt
 
 or_all : {A : Type 0} (P : A → Type 0) (o p : Option A) → IfSome o P → IfSome p P → IfSome (option_or o p) P
 or_all P (Some x) p h k = h
@@ -75,9 +79,9 @@ pointers = (codes "sp", 14) ∷ (codes "fp", 30) ∷ []
 named_small : (name : List ℕ) → Named (register_named name)
 named_small name =
     or_all IsRegister (beside name pointers) _ (beside_all IsRegister name pointers (omega arith, (omega arith, tt)))
-    (either_all IsGroup Named (beside (take 1 name) groups) _ None
+    (then_all IsGroup IsRegister (beside (take 1 name) groups) _
     (beside_all IsGroup (take 1 name) groups (omega arith, (omega arith, (omega arith, (omega arith, (omega arith, tt))))))
-    (λ group h. either_all (λ _. Unit {0}) Named (small_number (drop 1 name)) _ None (whatever _) (λ n _. grouped_small group n h) tt) tt)
+    (λ group h. then_all (λ _. Unit {0}) IsRegister (small_number (drop 1 name)) _ (whatever _) (λ n _. grouped_small group n h)))
 
 -- ---- words of a line
 
@@ -117,7 +121,7 @@ sign_small b (words.Sign c ∷ rest) h = cond_both (eqb c b) (Some rest) None (�
 sign_small b (w ∷ rest) h = tt
 
 after_all : {A : Type 0} (Q : A × List Word → Type 0) (b : ℕ) (p : Reading A) (ws : List Word) → AreSmall ws → ((rest : List Word) → AreSmall rest → IfSome (p rest) Q) → IfSome (after b p ws) Q
-after_all Q b p ws h go = either_all AreSmall (λ o. IfSome o Q) (after_sign b ws) p None (sign_small b ws h) go tt
+after_all Q b p ws h go = then_all AreSmall Q (after_sign b ws) p (sign_small b ws h) go
 
 number_small : (ws : List Word) → AreSmall ws → Left (number_first ws)
 number_small [] h = tt
@@ -151,9 +155,9 @@ module _ (values : List ℕ → Option ℕ) (line : List ℕ) where
   set_operands_small : (ws : List Word) → AreSmall ws → InRegister (set_operands values line ws)
   unfolding set_operands
   set_operands_small ws h =
-      either_all (λ x. AreSmall x.1) InRegister (expression values line ws) _ None (expression_small ws h)
-      (λ x k. either_all (λ y. IsRegister y.0) InRegister (after 44 register_first x.1) _ None (after_all (λ y. IsRegister y.0) 44 register_first x.1 k register_small)
-      (λ y r. map_all {B = (Expression × ℕ) × List Word} (λ _. Unit {0}) (λ z. IsRegister z.0.1) _ (end y.1) (whatever _) (λ _ _. r)) tt) tt
+      then_all {B = (Expression × ℕ) × List Word} (λ x. AreSmall x.1) (λ z. IsRegister z.0.1) (expression values line ws) _ (expression_small ws h)
+      (λ x k. then_all {B = (Expression × ℕ) × List Word} (λ y. IsRegister y.0) (λ z. IsRegister z.0.1) (after 44 register_first x.1) _ (after_all (λ y. IsRegister y.0) 44 register_first x.1 k register_small)
+      (λ y r. map_all {B = (Expression × ℕ) × List Word} (λ _. Unit {0}) (λ z. IsRegister z.0.1) _ (end y.1) (whatever _) (λ _ _. r)))
 
 -- ---- instructions
 
