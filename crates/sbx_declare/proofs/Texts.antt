@@ -32,3 +32,7 @@ pub pieces : (parts : Parts) (s : Services) (pages words bytes version : ℕ) (r
 pieces parts s pages words bytes version rs fs a b c d e p q r t v w u x y z k =
     let one : e ≡ (((a ++ services_line s.0) ++ sizes_lines pages words bytes) ++ regions_text version rs) ++ functions_text version fs = rw (k, z, y, x) refl in
     one ∙ rw (p, q, r, t, v, w, u) (simp append_assoc)
+
+-- five texts that are put one behind another
+pub five_put : (a b c d e g h l p r t : List ℕ) → b ≡ a ++ h → c ≡ b ++ l → d ≡ c ++ p → e ≡ d ++ r → g ≡ e ++ t → g ≡ a ++ ((((h ++ l) ++ p) ++ r) ++ t)
+five_put a b c d e g h l p r t first second third fourth fifth = fifth ∙ rw (fourth, third, second, first) (simp append_assoc)

@@ -141,13 +141,25 @@ pub record Stands (parts : Parts) (f b : ℕ) (function : Function) (block : Blo
   pub function_is : function_at parts f ≡ function
   pub block_is : block_at parts f b ≡ block
 
+is_function : (parts : Parts) (functions : List Function) (f : ℕ) (function : Function) → functions ≡ parts.functions → f < length parts.functions → function ≡ get_or functions f function
+    → function_at parts f ≡ function
+is_function parts functions f function same in_functions is =
+    let e : slice_get functions f ≡ Some function = slice_get-get_or functions f function (subst (λ xs. f < length xs) (sym same) in_functions) ∙ ap Some (sym is) in
+    ap (λ xs. or_function (slice_get xs f)) (sym same) ∙ ap or_function e
+
+-- a block of the function is one of those that are read
+pub among : (parts : Parts) (functions : List Function) (f b : ℕ) (function : Function) (blocks : List Block) → functions ≡ parts.functions
+    → f < length parts.functions → function ≡ get_or functions f function → blocks ≡ function.blocks → b < length (function_at parts f).blocks → b < length blocks
+among parts functions f b function blocks same in_functions is same_blocks in_blocks =
+    let g = is_function parts functions f function same in_functions is in
+    subst (λ xs. b < length xs) (sym same_blocks) (subst (λ k. b < length k.blocks) g in_blocks)
+
 pub stands : (parts : Parts) (functions : List Function) (f b : ℕ) (function : Function) (blocks : List Block) (block : Block) → functions ≡ parts.functions
     → f < length parts.functions → function ≡ get_or functions f function → blocks ≡ function.blocks → b < length (function_at parts f).blocks → block ≡ get_or blocks b block
     → Stands parts f b function block
 stands parts functions f b function blocks block same in_functions is same_blocks in_blocks is_block =
-    let e : slice_get functions f ≡ Some function = slice_get-get_or functions f function (subst (λ xs. f < length xs) (sym same) in_functions) ∙ ap Some (sym is) in
-    let g : function_at parts f ≡ function = ap (λ xs. or_function (slice_get xs f)) (sym same) ∙ ap or_function e in
-    let within : b < length blocks = subst (λ xs. b < length xs) (sym same_blocks) (subst (λ k. b < length k.blocks) g in_blocks) in
+    let g : function_at parts f ≡ function = is_function parts functions f function same in_functions is in
+    let within : b < length blocks = among parts functions f b function blocks same in_functions is same_blocks in_blocks in
     let h : slice_get blocks b ≡ Some block = slice_get-get_or blocks b block within ∙ ap Some (sym is_block) in
     record {
       function_is = g;

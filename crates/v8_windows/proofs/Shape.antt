@@ -1,8 +1,9 @@
 -- A register file keeps its shape.
-use Rattle.std.proofs.Common.{◌≡◌, ◌≢◌, ℕ, ◌^◌, ◌<◌, Bool, true, false, List, [], length, get_or, refl, sym, ◌∙◌, subst, arith}
+use Rattle.std.proofs.Common.{◌≡◌, ◌≢◌, ℕ, ◌^◌, ◌<◌, ◌≤◌, Bool, true, false, List, [], length, get_or, refl, sym, ◌∙◌, subst, arith}
 use Rattle.std.specs.Prelude.{slice_index, slice_set, ◌==◌}
 use Rattle.std.proofs.lemmas.Bool.Decides.{nat_tests}
 use Rattle.std.proofs.lemmas.List.{get_or-set_same, get_or-set_other, length-set}
+use Rattle.v8_windows.specs.Halves.{AreRegisters}
 use Rattle.v8_windows.specs.Windows.{AreGlobals, AreRows}
 
 -- words stay words
@@ -18,6 +19,17 @@ fit_written xs k x i fit there small = by_place (i == k) refl
         let other : i ≢ k = grind (arith, nat_tests) in
         let is : slice_index (slice_set xs k x) i ≡ slice_index xs i = get_or-set_other xs k i x 0 other in
         rw is (fit i)
+
+-- registers stay registers, where any but the first is written
+pub registers_written : (registers : List ℕ) (r x : ℕ) → AreRegisters registers → 1 ≤ r → r < 32 → x < 2 ^ 32 → AreRegisters (slice_set registers r x)
+registers_written registers r x h some bound small =
+    let there : r < length registers = omega (arith, h.count) in
+    let other : 0 ≢ r = omega arith in
+    record {
+      count = length-set registers r x ∙ h.count;
+      zero = get_or-set_other registers r 0 x 0 other ∙ h.zero;
+      fit = λ i. fit_written registers r x i h.fit there small;
+    }
 
 pub globals_written : (globals : List ℕ) (r x : ℕ) → AreGlobals globals → r < 8 → x < 2 ^ 32 → AreGlobals (slice_set globals r x)
 globals_written globals r x h low small =

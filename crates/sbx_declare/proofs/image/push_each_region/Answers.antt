@@ -1,3 +1,4 @@
+use Rattle.std.proofs.lemmas.Grind.{common_steps}
 use Rattle.std.proofs.Common.{arith, string_bytes}
 use Rattle.sbx_image.proofs.Placing.{pages_behind}
 use Rattle.sbx_declare.proofs.Texts.{region_more}
@@ -16,3 +17,6 @@ loop-region-preserved c = (
   omega (arith, c.behind-start.ensures, c.loop-region.invariant.1),
   omega (arith, c.behind-start.ensures, c.loop-region.invariant.2, pages_behind c.args.regions.now c.loop-region.region-index c.region-item.result c.loop-region-test.true c.region-item.is),
 )
+
+pub returns : goal.returns
+returns c = grind (arith, common_steps)

@@ -1,4 +1,5 @@
-use Rattle.std.proofs.Common.{◌++◌, ap, ◌∙◌, string_bytes, List, ℕ}
+use Rattle.std.proofs.lemmas.Grind.{common_steps}
+use Rattle.std.proofs.Common.{◌++◌, ap, ◌∙◌, string_bytes, List, ℕ, arith}
 use Rattle.sbx_declare.proofs.Texts.{pieces}
 use Rattle.sbx_declare.proofs.image.push_image.Goals as goal
 
@@ -9,3 +10,6 @@ returns c =
     c.services.ensures c.stack_pages.ensures.count c.word_count.ensures.count c.byte_count.ensures.count c.version-version.ensures.value c.regions.ensures.value c.functions.ensures.value
     (c.in_ok-push_str.ensures.bytes ∙ ap (λ (ys : List ℕ). string_bytes c.args.out.now ++ ys) c.services_line.ensures)
     c.in_ok-push_sizes.ensures c.in_ok-push_regions.ensures c.in_ok-push_functions.ensures
+
+pub push_regions-requires : goal.push_regions-requires
+push_regions-requires c = grind (arith, common_steps)

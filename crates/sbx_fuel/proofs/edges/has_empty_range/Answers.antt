@@ -1,3 +1,4 @@
+use Rattle.std.proofs.lemmas.Grind.{common_steps}
 use Rattle.std.proofs.Common.{◌≡◌, ◌∙◌, ap, sym, arith, true}
 use Rattle.sbx_rules.specs.Known.{known, range_at}
 use Rattle.sbx_fuel.specs.Least.{is_empty_range}
@@ -12,3 +13,9 @@ returns-then-is_empty_range-clause-empty c = λ _ some.
 
 pub returns-clause-full : goal.returns-clause-full
 returns-clause-full c = λ _. none_empty (known c.args.now.now) c.requires (λ k low high. c.loop-location.invariant k low (omega arith))
+
+pub loop-location-preserved : goal.loop-location-preserved
+loop-location-preserved c = grind (arith, common_steps)
+
+pub returns-then-is_empty_range-clause-full : goal.returns-then-is_empty_range-clause-full
+returns-then-is_empty_range-clause-full c = grind (arith, common_steps)

@@ -50,3 +50,6 @@ is_natural_sum-requires-clause-number c = grind (arith, common_steps)
 
 pub is_natural_sum-requires-clause-least : goal.is_natural_sum-requires-clause-least
 is_natural_sum-requires-clause-least c = grind (arith, common_steps)
+
+pub all_negated-opposites-requires-clause-small : goal.all_negated-opposites-requires-clause-small
+all_negated-opposites-requires-clause-small c = grind (arith, common_steps)

@@ -5,7 +5,7 @@ use Rattle.sbx_rules.specs.Known.{Known, known}
 use Rattle.sbx_rules.specs.Fuel.{IsPaid}
 use Rattle.sbx_rules.specs.Ways.{fuel_at, state_at}
 use Rattle.sbx_fuel.specs.Blocks.{first_of, fuel_of}
-use Rattle.sbx_fuel.proofs.KeptBlocks.{fuel_is, of_block, of_image, paid_by_none, stands, stands_kept}
+use Rattle.sbx_fuel.proofs.KeptBlocks.{among, fuel_is, of_block, of_image, paid_by_none, stands, stands_kept}
 use Rattle.sbx_fuel.proofs.edges.lasts.Goals as goal
 
 pub lasts_for-requires-clause-kept : goal.lasts_for-requires-clause-kept
@@ -43,3 +43,27 @@ returns-else-has_empty_range-clause-unpaid c = λ e h.
 
 pub lasts_for-requires-clause-some : goal.lasts_for-requires-clause-some
 lasts_for-requires-clause-some c = grind (arith, common_steps)
+
+pub has_empty_range-requires : goal.has_empty_range-requires
+has_empty_range-requires c = assumption
+
+pub bounds-functions-f : goal.bounds-functions-f
+bounds-functions-f c = grind (arith, common_steps)
+
+pub offset_bounds-functions-f : goal.offset_bounds-functions-f
+offset_bounds-functions-f c = grind (arith, common_steps)
+
+pub returns-then-has_empty_range-clause-unpaid : goal.returns-then-has_empty_range-clause-unpaid
+returns-then-has_empty_range-clause-unpaid c = grind (arith, common_steps)
+
+pub bounds-as_slice-b : goal.bounds-as_slice-b
+bounds-as_slice-b c = among c.args.image.now c.functions.result.now c.args.f c.args.b c.index-functions-f.result c.as_slice.result.now c.functions.ensures.value c.requires.function c.index-functions-f.is c.as_slice.ensures c.requires.block
+
+pub offset_bounds-as_slice-b : goal.offset_bounds-as_slice-b
+offset_bounds-as_slice-b c = grind (arith, common_steps, among c.args.image.now c.functions.result.now c.args.f c.args.b c.index-functions-f.result c.as_slice.result.now c.functions.ensures.value c.requires.function c.index-functions-f.is c.as_slice.ensures c.requires.block)
+
+pub bounds-as_slice-target : goal.bounds-as_slice-target
+bounds-as_slice-target c = among c.args.image.now c.functions.result.now c.args.f c.args.target c.index-functions-f.result c.as_slice-2.result.now c.functions.ensures.value c.requires.function c.index-functions-f.is c.as_slice-2.ensures c.requires.target
+
+pub offset_bounds-as_slice-target : goal.offset_bounds-as_slice-target
+offset_bounds-as_slice-target c = grind (arith, common_steps, among c.args.image.now c.functions.result.now c.args.f c.args.target c.index-functions-f.result c.as_slice-2.result.now c.functions.ensures.value c.requires.function c.index-functions-f.is c.as_slice-2.ensures c.requires.target)

@@ -71,3 +71,6 @@ taken_by-requires-clause-small c = grind (arith, common_steps)
 
 pub least_at_start-requires-clause-small : goal.least_at_start-requires-clause-small
 least_at_start-requires-clause-small c = grind (arith, common_steps)
+
+pub less_forms-requires-clause-small_next : goal.less_forms-requires-clause-small_next
+less_forms-requires-clause-small_next c = grind (arith, common_steps)

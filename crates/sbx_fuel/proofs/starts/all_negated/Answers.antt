@@ -20,3 +20,6 @@ returns-clause-small c =
 
 pub loop-term-preserved : goal.loop-term-preserved
 loop-term-preserved c = grind (arith, common_steps)
+
+pub returns-clause-value : goal.returns-clause-value
+returns-clause-value c = grind (arith, common_steps)

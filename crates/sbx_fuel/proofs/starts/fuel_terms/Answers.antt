@@ -49,3 +49,15 @@ returns-clause-value g c = grind (arith, common_steps)
 
 pub push-requires : goal.push-requires
 push-requires g c = grind (arith, common_steps)
+
+pub new-terms-requires : goal.new-terms-requires
+new-terms-requires g c = assumption
+
+pub offset_bounds-term-items-term-index : goal.offset_bounds-term-items-term-index
+offset_bounds-term-items-term-index g c = grind (arith, common_steps)
+
+pub loop-term-init : goal.loop-term-init
+loop-term-init g c = grind (arith, common_steps)
+
+pub returns-clause-few : goal.returns-clause-few
+returns-clause-few g c = grind (arith, common_steps)

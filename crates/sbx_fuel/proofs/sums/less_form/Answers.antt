@@ -42,3 +42,9 @@ add_times-requires-clause-small_form c = grind (arith, common_steps)
 
 pub add_times-requires-clause-small_times : goal.add_times-requires-clause-small_times
 add_times-requires-clause-small_times c = grind (arith, common_steps)
+
+pub add_times-requires-clause-small : goal.add_times-requires-clause-small
+add_times-requires-clause-small c = assumption
+
+pub add_times-requires-clause-room : goal.add_times-requires-clause-room
+add_times-requires-clause-room c = grind (arith, common_steps)

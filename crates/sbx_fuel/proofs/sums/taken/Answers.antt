@@ -10,3 +10,6 @@ product-requires-clause-small c = grind (arith, common_steps)
 
 pub product-requires-clause-small_times : goal.product-requires-clause-small_times
 product-requires-clause-small_times c = grind (arith, common_steps)
+
+pub returns-in-None-clause-value : goal.returns-in-None-clause-value
+returns-in-None-clause-value c = grind (arith, common_steps)

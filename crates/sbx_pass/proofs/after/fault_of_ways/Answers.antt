@@ -41,3 +41,6 @@ returns c =
     let four = both P 15 18 19 c.or-2.result c.then_some-4.result c.or-3.result (omega arith) (omega arith) c.or-3.ensures three entry in
     let depth = by_test P TooDeep c.lacks_depth.result (lacks_depth parts f b i) c.then_some-5.result c.then_some-5.ensures c.lacks_depth.ensures (λ h. h) (λ h. h) in
     both P 15 19 21 c.or-3.result c.then_some-5.result c.or-4.result (omega arith) (omega arith) c.or-4.ensures four (from_19 P (λ want h. h) c.then_some-5.result depth)
+
+pub breaks_results_on-requires : goal.breaks_results_on-requires
+breaks_results_on-requires c = assumption

@@ -4,9 +4,9 @@ use Rattle.sbx_image.specs.Order.{words_in}
 use Rattle.sbx_rules.specs.Places.{callee_at, callee_before, op_at, op_before}
 use Rattle.sbx_rules.specs.Rules.{Holds, has_bad_shape}
 use Rattle.sbx_rules.specs.Ways.{state_at, weight_of_place, weight_to}
-use Rattle.sbx_pass.specs.Firsts.{AreKept, Tells}
+use Rattle.sbx_pass.specs.Firsts.{AreKept, IsLeastOf, Tells}
 use Rattle.sbx_known.proofs.Counts.{at_spot, few_words, from_spot, next_one, no_weight, weight_step}
-use Rattle.sbx_pass.proofs.Blocks.{none_more, none_yet, shapes_kept}
+use Rattle.sbx_pass.proofs.Blocks.{first_of_block, none_more, none_yet, shapes_kept}
 use Rattle.sbx_pass.proofs.block.first_fault_in_block.Goals as goal
 
 pub loop-number-init : goal.loop-number-init
@@ -83,3 +83,17 @@ loop-number-preserved c =
       called = calls ∙ ap (callee_before parts f b) (next_one i);
       called_is = spot.callee_is;
     }
+
+pub returns-in-Some : goal.returns-in-Some
+returns-in-Some c =
+    let parts = c.args.image.now in
+    let f = c.args.function in
+    let b = c.args.block in
+    let i = c.loop-number.number in
+    let r = c.spot_at-spot.result in
+    let at = c.spot_at-spot.ensures.place in
+    let told = from_spot (λ f b i. Tells (Holds parts f b i) 1 21 c.fault_at.result) f b i r.function r.block r.number at.0 at.1 at.2 c.fault_at.ensures.told in
+    let least : IsLeastOf (Holds parts f b i) 1 21 c.in-Some.cause = subst (Tells (Holds parts f b i) 1 21) c.in-Some.is told in
+    let within = c.loop-number-test.true in
+    let count = c.words_in-count.ensures in
+    first_of_block parts f b i c.in-Some.cause (omega (arith, within, count)) c.loop-number.invariant.none least

@@ -1,4 +1,5 @@
-use Rattle.std.proofs.Common.{◌≡◌, suc, Bool, true, false, refl, sym, ap, ◌∙◌, subst}
+use Rattle.std.proofs.lemmas.Grind.{common_steps}
+use Rattle.std.proofs.Common.{◌≡◌, suc, Bool, true, false, refl, sym, ap, ◌∙◌, subst, arith}
 use Rattle.v8_meaning.specs.declared.operation.Operation.{Operation}
 use Rattle.sbx_rules.specs.Known.{known}
 use Rattle.sbx_rules.specs.Rules.{Holds}
@@ -48,3 +49,6 @@ returns-in-None-clause-next c none less = by_test (is_branch c.args.spot.now.bef
         let i = c.args.spot.now.number in
         next_known parts f b i (known c.fault_once_run.new.here)
         (c.fault_once_run.ensures.next none is ∙ ap (after_word parts f b i) (ap known (c.courses_of-courses.ensures.same is) ∙ c.requires.known))
+
+pub returns-in-Some-clause-told : goal.returns-in-Some-clause-told
+returns-in-Some-clause-told c = grind (arith, common_steps)

@@ -1,5 +1,6 @@
+use Rattle.std.proofs.lemmas.Grind.{common_steps}
 use Rattle.sbx_parts.specs.Rules.{function_keeps}
-use Rattle.std.proofs.Common.{rules}
+use Rattle.std.proofs.Common.{rules, arith}
 use Rattle.sbx_parts.proofs.checking.FunctionChecked.check.Goals as goal
 
 pub returns-in_err-check_each : goal.returns-in_err-check_each
@@ -17,3 +18,7 @@ returns-in_err-next c = search rules
 pub returns : goal.returns
 unfolding function_keeps
 returns c = search rules
+
+pub overflow_add-result : goal.overflow_add-result
+unfolding function_keeps
+overflow_add-result c = grind (arith, common_steps)

@@ -10,3 +10,6 @@ returns-clause-cpu g c = grind (arith, common_steps)
 
 pub returns-clause-bus : goal.returns-clause-bus
 returns-clause-bus g c = grind (arith, common_steps)
+
+pub returns-clause-mmu : goal.returns-clause-mmu
+returns-clause-mmu g c = grind (arith, common_steps)

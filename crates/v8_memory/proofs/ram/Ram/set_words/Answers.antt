@@ -1,3 +1,4 @@
+use Rattle.std.proofs.lemmas.Grind.{common_steps}
 use Rattle.std.proofs.Common.{arith, ap, sym, ◌∙◌, length}
 use Rattle.v8_memory.proofs.Places.{no_words, word_more}
 use Rattle.v8_memory.proofs.ram.Ram.set_words.Goals as goal
@@ -12,3 +13,6 @@ loop-k-preserved c =
       placed = word_more c.args.at c.args.words.now l.k c.word_or_zero.result _ _ _ l.invariant.placed (omega arith) (omega arith) (omega arith) c.word_or_zero.ensures c.place_word.ensures.value;
       size = c.place_word.ensures.size;
     }
+
+pub returns-clause-placed : goal.returns-clause-placed
+returns-clause-placed c = grind (arith, common_steps)

@@ -1,0 +1,9 @@
+use Rattle.std.proofs.Common.{arith}
+use Rattle.std.proofs.lemmas.Grind.{common_steps}
+use Rattle.sbx_lines.proofs.traps.trap_name.Goals as goal
+
+pub returns-in_default : goal.returns-in_default
+returns-in_default c = grind (arith, common_steps)
+
+pub returns-in-128-to-255 : goal.returns-in-128-to-255
+returns-in-128-to-255 c = grind (arith, common_steps)
