@@ -10,3 +10,11 @@ returns-then-not-version c = search rules
 pub returns-in_err-bits : goal.returns-in_err-bits
 unfolding services_at
 returns-in_err-bits c = grind (arith, common_steps)
+
+pub returns-in-Some : goal.returns-in-Some
+unfolding services_at
+returns-in-Some c = search rules
+
+pub returns-in-None : goal.returns-in-None
+unfolding services_at
+returns-in-None c = search rules
