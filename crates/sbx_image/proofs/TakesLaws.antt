@@ -25,7 +25,7 @@ use Rattle.sbx_parts.specs.declared.parts.Block.{Block}
 use Rattle.sbx_parts.specs.declared.parts.Function.{Function}
 use Rattle.sbx_parts.specs.declared.parts.Parts.{Parts}
 use Rattle.sbx_parts.specs.declared.services.Services.{Services}
-use Rattle.sbx_parts.specs.Rules.{◌>>=◌, between, each, Place, code_start, admits, is_fuel, is_coefficient, is_known, is_version, is_depth, is_data_length, in_order, range_keeps, location_keeps, cell_keeps, term_keeps, block_keeps, function_keeps, parts_keep}
+use Rattle.sbx_parts.specs.Rules.{◌>>=◌, between, each, Place, code_start, admits, is_fuel, is_coefficient, is_known, is_version, is_depth, is_data, is_data_length, in_order, region_keeps, range_keeps, location_keeps, cell_keeps, term_keeps, block_keeps, function_keeps, parts_keep}
 use Rattle.sbx_image.specs.Reading.{number_at, number_in, items_at, range_at, location_at, cell_at, term_at, block_head_at, block_at, kind_at, counts_at, bounds_at, function_head_at, function_at, services_at, data_length_at, data_count_at, header_at, shape_at, shapes_at, shape_of, parts_at, reading}
 use Rattle.sbx_image.specs.Spelling.{IsBytes, signed, kind_code, range_text, region_text, cell_text, term_text, block_text, function_head_text, function_text, shape_text, data_count_text, shapes_text, header_text, spelling}
 use Rattle.sbx_parts.specs.declared.parts.Region.{Region}
@@ -251,8 +251,23 @@ function_head_takes version end place bytes x fits e =
     subst (λ (y : FunctionHead × List ℕ). Takes bytes (head_text version y.0) y.1 × HeadKeeps version end place y.0) (ok_is made x blocks.2)
     (whole, record { params = t0.1; results = t0.2; entry = admitted.0; frame = t2.1; stack_room = t2.2; budget = t2.3; depth = t3.1; blocks = t4.1 })
 
+-- the head that a function's lists give
+abbrev head_of : Function → FunctionHead
+head_of f = record { kind = f.kind; params = length f.params; results = length f.results; entry = f.entry; frame = f.frame; stack_room = f.stack_room; budget = f.budget; depth = f.depth; blocks = length f.blocks }
+
+head_counted : (h : FunctionHead) (params results blocks : ℕ) → params ≡ h.params → results ≡ h.results → blocks ≡ h.blocks
+    → h ≡ record { kind = h.kind; params = params; results = results; entry = h.entry; frame = h.frame; stack_room = h.stack_room; budget = h.budget; depth = h.depth; blocks = blocks }
+head_counted h params results blocks p r b = rw (p, r, b) refl
+
+function_keeps_by : (version end : ℕ) (place : Place) (f : Function) (next : Next) → HeadKeeps version end place (head_of f)
+    → each (λ _ r. range_keeps r) tt f.params ≡ Ok tt → each (λ _ r. range_keeps r) tt f.results ≡ Ok tt → each (block_keeps end) (Exactly f.entry) f.blocks ≡ Ok next
+    → function_keeps version end place f ≡ Ok (next, place.1 + length f.blocks)
+unfolding function_keeps
+function_keeps_by version end place f next k params results blocks =
+    rw (k.params, k.results, k.entry, k.frame, k.stack_room, k.budget, k.depth, k.blocks, params, results, blocks) refl
+
 function_takes : (version end : ℕ) (place : Place) (bytes : List ℕ) (x : Function × (Place × List ℕ)) → IsBytes bytes → function_at version end (place, bytes) ≡ Ok x → Takes bytes (function_text version x.0) x.1.1 × (function_keeps version end place x.0 ≡ Ok x.1.0)
-unfolding function_at function_head_text function_text function_keeps
+unfolding function_at function_head_text function_text
 function_takes version end place bytes x fits e =
     let head = bind_ok _ _ _ e in
     let params = bind_ok _ _ _ head.2 in
@@ -264,12 +279,12 @@ function_takes version end place bytes x fits e =
     let b = items_take (block_at end) (λ y. y.1) (λ y. y.0) (block_keeps end) block_text (λ y z f k. block_takes end y.0 y.1 z f k) head.0.0.blocks (Exactly head.0.0.entry, results.0.1) blocks.0 r.0.rest_fits blocks.1 in
     let lists = Takes-then _ _ _ _ _ (Takes-then _ _ _ _ _ (Takes-then _ _ _ _ _ h.0 p.0) r.0) b.0 in
     let counted : FunctionHead = record { kind = head.0.0.kind; params = length params.0.0; results = length results.0.0; entry = head.0.0.entry; frame = head.0.0.frame; stack_room = head.0.0.stack_room; budget = head.0.0.budget; depth = head.0.0.depth; blocks = length blocks.0.0 } in
-    let same : head.0.0 ≡ counted = rw (p.1, r.1, b.1) refl in
+    let same : head.0.0 ≡ counted = head_counted head.0.0 _ _ _ p.1 r.1 b.1 in
     let whole = subst (λ (g : FunctionHead). Takes bytes (head_text version g ++ flat_map range_text params.0.0 ++ flat_map range_text results.0.0 ++ flat_map block_text blocks.0.0) blocks.0.1.1) same lists in
     let k : HeadKeeps version end place counted = subst (HeadKeeps version end place) same h.1 in
     let made : Function × (Place × List ℕ) = (record { kind = head.0.0.kind; params = params.0.0; results = results.0.0; entry = head.0.0.entry; frame = head.0.0.frame; stack_room = head.0.0.stack_room; budget = head.0.0.budget; depth = head.0.0.depth; blocks = blocks.0.0 }, ((blocks.0.1.0, place.1 + head.0.0.blocks), blocks.0.1.1)) in
     subst (λ (y : Function × (Place × List ℕ)). Takes bytes (function_text version y.0) y.1.1 × (function_keeps version end place y.0 ≡ Ok y.1.0)) (ok_is made x blocks.2)
-    (whole, rw (k.params, k.results, k.entry, k.frame, k.stack_room, k.budget, k.depth, k.blocks, p.2, r.2, b.2) (ap (λ (n : ℕ). Ok (blocks.0.1.0, place.1 + n)) b.1))
+    (whole, function_keeps_by version end place made.0 blocks.0.1.0 k p.2 r.2 b.2 ∙ ap (λ (n : ℕ). Ok (blocks.0.1.0, place.1 + n)) b.1)
 
 -- ---- the whole
 
@@ -369,8 +384,20 @@ shapes_take false n bytes x fits e =
     subst (λ (y : List Shape × List ℕ). Takes bytes (flat_map shape_code y.0) y.1 × LengthsRead false n y.0) (ok_is (shapes.0.0, shapes.0.1.1) x shapes.2)
     (t.0, (t.1, shapes.0.1.0, t.2))
 
+header_counted : (h : Header) (words data_count functions : ℕ) → words ≡ h.words → data_count ≡ h.data_count → functions ≡ h.functions
+    → h ≡ record { version = h.version; services = h.services; words = words; data_count = data_count; stack_pages = h.stack_pages; functions = functions }
+header_counted h words data_count functions w d f = rw (w, d, f) refl
+
+parts_keep_by : (p : Parts) (pages : ℕ) (next : Place) → is_version p.version ≡ true → is_known p.services.0 ≡ true → between 1 65536 (length p.words) ≡ true → is_data p.version p.regions ≡ true
+    → between 1 16 p.stack_pages ≡ true → between 1 256 (length p.functions) ≡ true → each region_keeps 0 p.regions ≡ Ok pages
+    → each (function_keeps p.version (code_start + 4 * length p.words)) (Exactly code_start, 0) p.functions ≡ Ok next
+    → parts_keep p ≡ Ok tt
+unfolding parts_keep
+parts_keep_by p pages next version services words regions stack_pages functions lengths in_turn =
+    rw (version, services, words, regions, stack_pages, functions, lengths, in_turn) refl
+
 parts_take : (bytes : List ℕ) (x : Parts × List ℕ) → IsBytes bytes → parts_at bytes ≡ Ok x → Takes bytes (spelling x.0) x.1 × (parts_keep x.0 ≡ Ok tt)
-unfolding parts_at shapes_at data_count_text shapes_text header_text spelling parts_keep
+unfolding parts_at shapes_at data_count_text shapes_text header_text spelling
 parts_take bytes x fits e =
     let header = bind_ok _ _ _ e in
     let shapes = bind_ok _ _ _ header.2 in
@@ -388,7 +415,7 @@ parts_take bytes x fits e =
     let lists = Takes-then _ _ _ _ _ (Takes-then _ _ _ _ _ (Takes-then _ _ _ _ _ (Takes-then _ _ _ _ _ h.0 s.0) w.0) d.0) f.0 in
     let r = regions_read one header.0.0.data_count shapes.0.0 regions.0.0 s.1 d.1 h.1.data_count in
     let counted : Header = record { version = header.0.0.version; services = header.0.0.services; words = length words.0.0; data_count = if one then byte_count regions.0.0 else length regions.0.0; stack_pages = header.0.0.stack_pages; functions = length functions.0.0 } in
-    let same : header.0.0 ≡ counted = rw (w.1, ← r.count, f.1) refl in
+    let same : header.0.0 ≡ counted = header_counted header.0.0 _ _ _ w.1 (sym r.count) f.1 in
     let whole = subst (λ (g : Header). Takes bytes (counts_text g ++ shapes_code one shapes.0.0 ++ flat_map (to_be_bytes w32) words.0.0 ++ flat_map region_text regions.0.0 ++ flat_map (function_text version) functions.0.0) functions.0.1.1) same lists in
     let k : HeaderKeeps counted = subst HeaderKeeps same h.1 in
     let in_turn : each (function_keeps version (code_start + 4 * length words.0.0)) (Exactly code_start, 0) functions.0.0 ≡ Ok functions.0.1.0 = subst (λ (n : ℕ). each (function_keeps version (code_start + 4 * n)) (Exactly code_start, 0) functions.0.0 ≡ Ok functions.0.1.0) (sym w.1) f.2 in
@@ -397,7 +424,7 @@ parts_take bytes x fits e =
     ++ (if one then [] else flat_map shape_text regions.0.0) ++ flat_map (to_be_bytes w32) words.0.0 ++ flat_map region_text regions.0.0 ++ flat_map (function_text version) functions.0.0) functions.0.1.1) (data_of one regions.0.0) lengths in
     let made : Parts × List ℕ = (record { version = header.0.0.version; services = header.0.0.services; words = words.0.0; regions = regions.0.0; stack_pages = header.0.0.stack_pages; functions = functions.0.0 }, functions.0.1.1) in
     subst (λ (y : Parts × List ℕ). Takes bytes (spelling y.0) y.1 × (parts_keep y.0 ≡ Ok tt)) (ok_is made x functions.2)
-    (named, rw (k.version, k.services, k.words, r.kept, k.stack_pages, k.functions, r.lengths, in_turn) refl)
+    (named, parts_keep_by made.0 r.pages functions.0.1.0 k.version k.services k.words r.kept k.stack_pages k.functions r.lengths in_turn)
 
 pub reading_takes : (bytes : List ℕ) (p : Parts) → IsBytes bytes → reading bytes ≡ Ok p → (bytes ≡ spelling p) × (parts_keep p ≡ Ok tt)
 unfolding reading

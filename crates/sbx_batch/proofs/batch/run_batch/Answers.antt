@@ -1,4 +1,5 @@
-use Rattle.std.proofs.Common.{List, ◌+◌, drop, subst, sym}
+use Rattle.std.proofs.lemmas.Grind.{common_steps}
+use Rattle.std.proofs.Common.{List, ◌+◌, drop, subst, sym, arith}
 use Rattle.v8_board.specs.Start.{IsNew}
 use Rattle.sbx_raw.specs.Ports.{Held}
 use Rattle.sbx_run.specs.declared.runner.Finished.{Finished}
@@ -41,3 +42,9 @@ returns-clause-answers g c =
       new = new;
       runs = all_done g.row.N made c.loop-each.board.state c.args.batch.now c.loop-each.answers.items c.loop-each.each-index c.loop-each-test.false completes;
     }
+
+pub run_next-requires : goal.run_next-requires
+run_next-requires g c = grind (arith, common_steps)
+
+pub new-requires-2 : goal.new-requires-2
+new-requires-2 g c = grind (arith, common_steps)

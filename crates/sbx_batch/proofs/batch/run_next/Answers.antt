@@ -29,3 +29,6 @@ returns-in-Err-clause-fault g c = assumption
 
 pub port-requires : goal.port-requires
 port-requires g c = assumption
+
+pub returns-in-Ok-extend_from_slice-clause-state : goal.returns-in-Ok-extend_from_slice-clause-state
+returns-in-Ok-extend_from_slice-clause-state g c = assumption

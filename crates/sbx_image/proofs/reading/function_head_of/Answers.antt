@@ -17,3 +17,6 @@ returns-then-not-admits-clause-reads c = grind (arith, common_steps)
 pub returns-in_err-counts-clause-reads : goal.returns-in_err-counts-clause-reads
 unfolding function_head_at
 returns-in_err-counts-clause-reads c = grind (arith, common_steps)
+
+pub returns-then-not-admits-clause-bound : goal.returns-then-not-admits-clause-bound
+returns-then-not-admits-clause-bound c = assumption

@@ -1,3 +1,5 @@
+use Rattle.std.proofs.Common.{arith}
+use Rattle.std.proofs.lemmas.Grind.{common_steps}
 use Rattle.std.proofs.lemmas.Result.{err_from_is_err_and}
 use Rattle.sbx_image.specs.Reading.{regions_at}
 use Rattle.sbx_image.proofs.Lengths.{goes_on, ends, is_done}
@@ -16,3 +18,6 @@ loop-shape-preserved c =
 
 pub returns : goal.returns
 returns c = is_done c.loop-shape.regions.items c.args.shapes.now c.loop-shape.shape-index c.loop-shape.rest.now (regions_at c.args.shapes.now c.args.bytes.now) c.loop-shape-test.false c.loop-shape.invariant
+
+pub offset_bounds-shapes-shape-index : goal.offset_bounds-shapes-shape-index
+offset_bounds-shapes-shape-index c = grind (arith, common_steps)

@@ -18,3 +18,7 @@ returns-clause-reads c = grind (arith, common_steps)
 pub returns-then-header-eq1-clause-bound : goal.returns-then-header-eq1-clause-bound
 unfolding shapes_at
 returns-then-header-eq1-clause-bound c = grind (arith, common_steps)
+
+pub returns-then-header-eq1-clause-reads : goal.returns-then-header-eq1-clause-reads
+unfolding shapes_at
+returns-then-header-eq1-clause-reads c = grind (arith, common_steps)

@@ -1,3 +1,4 @@
+use Rattle.std.proofs.lemmas.Grind.{common_steps}
 use Rattle.std.proofs.Common.{◌≡◌, ◌++◌, arith}
 use Rattle.std.specs.Int.{w8, w16, w32, w64, to_be_bytes}
 use Rattle.sbx_image.specs.Spelling.{depth_text, function_head_text}
@@ -20,3 +21,11 @@ returns c =
 pub overflow_cast-len-3 : goal.overflow_cast-len-3
 unfolding function_head_text
 overflow_cast-len-3 c = omega arith
+
+pub overflow_cast-len-2 : goal.overflow_cast-len-2
+unfolding function_head_text
+overflow_cast-len-2 c = grind (arith, common_steps)
+
+pub overflow_cast-len : goal.overflow_cast-len
+unfolding function_head_text
+overflow_cast-len c = grind (arith, common_steps)

@@ -7,3 +7,6 @@ returns c = grind (arith, common_steps)
 
 pub loop-function-preserved : goal.loop-function-preserved
 loop-function-preserved c = grind (arith, common_steps)
+
+pub put_function-requires : goal.put_function-requires
+put_function-requires c = grind (arith, common_steps)

@@ -1,3 +1,5 @@
+use Rattle.std.proofs.Common.{arith}
+use Rattle.std.proofs.lemmas.Grind.{common_steps}
 use Rattle.std.proofs.lemmas.Result.{err_from_is_err_and}
 use Rattle.sbx_watch.proofs.Told.{not_begun, watch_told}
 use Rattle.sbx_watch.proofs.watch.watch_on.Goals as goal
@@ -12,3 +14,9 @@ returns g c =
     watch_told g.row.N c.args.windows c.args.image.now c.args.input.now c.args.limit c.in_ok-board.board.state c.watch_board.new.board.state c.functions.result.now
     (g.W.Write.contents c.args.out.now) (g.W.Write.contents c.watch_board.new.out) c.watch_board.result
     c.requires.same c.functions.ensures.value c.in_ok-board.ensures.begun c.watch_board.ensures.whole c.watch_board.ensures.part c.watch_board.ensures.fault
+
+pub watch_board-requires : goal.watch_board-requires
+watch_board-requires g c = grind (arith, common_steps)
+
+pub begun-requires : goal.begun-requires
+begun-requires g c = grind (arith, common_steps)

@@ -1,4 +1,5 @@
-use Rattle.std.proofs.Common.{string_bytes}
+use Rattle.std.proofs.lemmas.Grind.{common_steps}
+use Rattle.std.proofs.Common.{string_bytes, arith}
 use Rattle.sbx_watch.proofs.Told.{nothing_begun, turn_begun, watched_turn}
 use Rattle.sbx_watch.proofs.watch.watch_turn.Goals as goal
 
@@ -27,3 +28,12 @@ step-requires g c = assumption
 
 pub make_turn-requires : goal.make_turn-requires
 make_turn-requires g c = assumption
+
+pub returns-in-Err-clause-fault : goal.returns-in-Err-clause-fault
+returns-in-Err-clause-fault g c = grind (arith, common_steps)
+
+pub returns-in-Err-make_turn-clause-fault : goal.returns-in-Err-make_turn-clause-fault
+returns-in-Err-make_turn-clause-fault g c = grind (arith, common_steps)
+
+pub returns-in-Err-put_all-clause-fault : goal.returns-in-Err-put_all-clause-fault
+returns-in-Err-put_all-clause-fault g c = grind (arith, common_steps)

@@ -4,3 +4,6 @@ use Rattle.v8_forms.proofs.printing.push_target.Goals as goal
 
 pub returns-clause-bytes : goal.returns-clause-bytes
 returns-clause-bytes c = grind (arith, common_steps)
+
+pub returns-clause-grows : goal.returns-clause-grows
+returns-clause-grows c = grind (arith, common_steps)

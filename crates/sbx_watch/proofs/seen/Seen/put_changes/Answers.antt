@@ -5,3 +5,6 @@ put_registers-requires g c = assumption
 
 pub port-requires : goal.port-requires
 port-requires g c = assumption
+
+pub shown_of-self-requires : goal.shown_of-self-requires
+shown_of-self-requires g c = assumption
