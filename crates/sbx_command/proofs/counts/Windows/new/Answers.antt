@@ -1,0 +1,5 @@
+use Rattle.std.proofs.Common.{rules}
+use Rattle.sbx_command.proofs.counts.Windows.new.Goals as goal
+
+pub returns-else-count-gt32 : goal.returns-else-count-gt32
+returns-else-count-gt32 c = search rules
