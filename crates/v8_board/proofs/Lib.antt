@@ -1,6 +1,7 @@
 pub mod Placed
 pub mod Regions
 pub mod Running
+pub mod Sizes
 pub mod MarkSums
 pub mod Joined
 pub mod Contained

@@ -44,3 +44,6 @@ returns-clause-value c = least_all (ends_known (known c.args.start.now)) c.args.
 
 pub plus-least-requires-clause-one : goal.plus-least-requires-clause-one
 plus-least-requires-clause-one c = grind (arith, common_steps)
+
+pub plus-least-requires-clause-few : goal.plus-least-requires-clause-few
+plus-least-requires-clause-few c = grind (arith, common_steps)

@@ -7,3 +7,6 @@ overflow_add-result c = grind (arith, common_steps)
 
 pub returns-then-eq-2 : goal.returns-then-eq-2
 returns-then-eq-2 c = grind (arith, common_steps)
+
+pub returns-else-eq-2 : goal.returns-else-eq-2
+returns-else-eq-2 c = grind (arith, common_steps)

@@ -21,3 +21,6 @@ returns-clause-cleared g c =
 
 pub offset_bounds-entries-location : goal.offset_bounds-entries-location
 offset_bounds-entries-location g c = grind (arith, common_steps)
+
+pub returns-clause-size : goal.returns-clause-size
+returns-clause-size g c = assumption

@@ -1,3 +1,4 @@
+use Rattle.std.proofs.lemmas.Grind.{common_steps}
 use Rattle.std.proofs.Common.{◌≡◌, length, ◌∙◌, arith, length-set, rules}
 use Rattle.sbx_domain.proofs.Moves.{after_restore, all_filled, nothing_filled, one_more_filled, restored_next, restored_past}
 use Rattle.sbx_domain.proofs.moving.restore_entries.Goals as goal
@@ -22,3 +23,15 @@ returns-clause-moved g c =
     let A = g.row.T.Denot in
     let xs = c.args.entries.now in
     λ k. all_filled A c.loop-location.location (after_restore A xs) xs c.loop-location.entries (omega (arith, c.loop-location-test.false)) (λ j past. restored_past A xs j (omega (arith, past, c.requires))) c.loop-location.invariant.1 k
+
+pub returns-clause-size : goal.returns-clause-size
+returns-clause-size g c = assumption
+
+pub restored_entry-entry-requires-clause-within : goal.restored_entry-entry-requires-clause-within
+restored_entry-entry-requires-clause-within g c = grind (arith, common_steps)
+
+pub bounds-entries-location : goal.bounds-entries-location
+bounds-entries-location g c = grind (arith, common_steps)
+
+pub restored_entry-entry-requires-clause-size : goal.restored_entry-entry-requires-clause-size
+restored_entry-entry-requires-clause-size g c = grind (arith, common_steps)

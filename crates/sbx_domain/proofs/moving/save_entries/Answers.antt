@@ -24,3 +24,12 @@ returns-clause-moved g c =
 
 pub offset_bounds-entries-left : goal.offset_bounds-entries-left
 offset_bounds-entries-left g c = grind (arith, common_steps)
+
+pub returns-clause-size : goal.returns-clause-size
+returns-clause-size g c = assumption
+
+pub bounds-entries-left : goal.bounds-entries-left
+bounds-entries-left g c = grind (arith, common_steps)
+
+pub saved_entry-entry-requires : goal.saved_entry-entry-requires
+saved_entry-entry-requires g c = grind (arith, common_steps)

@@ -13,3 +13,6 @@ returns-then-lo-number-clause-value c = grind (arith, common_steps)
 
 pub returns-else-lo-number-clause-value : goal.returns-else-lo-number-clause-value
 returns-else-lo-number-clause-value c = grind (arith, common_steps)
+
+pub overflow_add-result : goal.overflow_add-result
+overflow_add-result c = grind (arith, common_steps)

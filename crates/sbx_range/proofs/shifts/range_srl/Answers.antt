@@ -14,3 +14,18 @@ overflow_sub-power c = grind (arith, common_steps)
 pub returns-then-k-eq0 : goal.returns-then-k-eq0
 unfolding range_srl
 returns-then-k-eq0 c = grind (arith, common_steps)
+
+pub halved_range-requires : goal.halved_range-requires
+halved_range-requires c = assumption
+
+pub overflow_sub-k : goal.overflow_sub-k
+unfolding range_srl
+overflow_sub-k c = grind (arith, common_steps)
+
+pub overflow_cast-k : goal.overflow_cast-k
+unfolding range_srl
+overflow_cast-k c = grind (arith, common_steps)
+
+pub power-requires : goal.power-requires
+unfolding range_srl
+power-requires c = grind (arith, common_steps)

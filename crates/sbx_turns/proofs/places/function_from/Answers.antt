@@ -1,4 +1,5 @@
-use Rattle.std.proofs.Common.{◌+◌, ap}
+use Rattle.std.proofs.lemmas.Grind.{common_steps}
+use Rattle.std.proofs.Common.{◌+◌, ap, arith}
 use Rattle.sbx_turns.proofs.Found.{one_more}
 use Rattle.sbx_turns.proofs.places.function_from.Goals as goal
 
@@ -8,3 +9,6 @@ loop-function-preserved c = (
   one_more c.loop-function.number c.loop-function.function-index c.args.address c.loop-function.place c.nearer-place.result _ c.args.functions.now c.function-item.result
       c.loop-function-test.true c.function-item.is c.nearer-place.ensures c.loop-function.invariant.1,
 )
+
+pub returns : goal.returns
+returns c = grind (arith, common_steps)

@@ -1,4 +1,5 @@
-use Rattle.std.proofs.Common.{◌∙◌, lit<}
+use Rattle.std.proofs.lemmas.Grind.{common_steps}
+use Rattle.std.proofs.Common.{◌∙◌, lit<, arith}
 use Rattle.v8_board.proofs.MarkSums.{one_mark_more, no_marks}
 use Rattle.v8_board.proofs.page_use.marks.Goals as goal
 
@@ -12,3 +13,15 @@ loop-i-preserved g c =
       sum = c.with_bit-all.ensures.value ∙ one_mark_more _ _ _ l.i l.all c.bit.result l.invariant.sum c.bit.ensures.value;
       bound = c.with_bit-all.ensures.bound;
     }
+
+pub with_bit-all-requires-clause-bound : goal.with_bit-all-requires-clause-bound
+with_bit-all-requires-clause-bound g c = assumption
+
+pub with_bit-all-requires-clause-small : goal.with_bit-all-requires-clause-small
+with_bit-all-requires-clause-small g c = assumption
+
+pub with_bit-all-requires-clause-few : goal.with_bit-all-requires-clause-few
+with_bit-all-requires-clause-few g c = assumption
+
+pub returns : goal.returns
+returns g c = grind (arith, common_steps)

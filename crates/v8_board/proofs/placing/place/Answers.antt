@@ -36,3 +36,48 @@ returns-clause-port g c = grind (arith, common_steps)
 
 pub place_data-requires : goal.place_data-requires
 place_data-requires g c = grind (arith, common_steps)
+
+pub set_words-requires-4-clause-whole : goal.set_words-requires-4-clause-whole
+set_words-requires-4-clause-whole g c = assumption
+
+pub returns-clause-stopped : goal.returns-clause-stopped
+returns-clause-stopped g c = assumption
+
+pub returns-clause-ended : goal.returns-clause-ended
+returns-clause-ended g c = assumption
+
+pub handler_page-requires-clause-many : goal.handler_page-requires-clause-many
+handler_page-requires-clause-many g c = assumption
+
+pub handler_page-requires-clause-few : goal.handler_page-requires-clause-few
+handler_page-requires-clause-few g c = assumption
+
+pub set_words-requires-3-clause-whole : goal.set_words-requires-3-clause-whole
+set_words-requires-3-clause-whole g c = assumption
+
+pub slice_bounds-set_words-end-2 : goal.slice_bounds-set_words-end-2
+slice_bounds-set_words-end-2 g c = grind (arith, common_steps)
+
+pub pages_of-pages-requires-clause-few : goal.pages_of-pages-requires-clause-few
+pages_of-pages-requires-clause-few g c = grind (arith, common_steps)
+
+pub slice_bounds-rights-end : goal.slice_bounds-rights-end
+slice_bounds-rights-end g c = grind (arith, common_steps)
+
+pub rights_of-count-requires : goal.rights_of-count-requires
+rights_of-count-requires g c = grind (arith, common_steps)
+
+pub slice_bounds-set_words-end-3 : goal.slice_bounds-set_words-end-3
+slice_bounds-set_words-end-3 g c = grind (arith, common_steps)
+
+pub pages_of-pages-requires-clause-rights : goal.pages_of-pages-requires-clause-rights
+pages_of-pages-requires-clause-rights g c = grind (arith, common_steps)
+
+pub set_words-requires-3-clause-fits : goal.set_words-requires-3-clause-fits
+set_words-requires-3-clause-fits g c = grind (arith, common_steps)
+
+pub set_words-requires-2-clause-fits : goal.set_words-requires-2-clause-fits
+set_words-requires-2-clause-fits g c = grind (arith, common_steps)
+
+pub slice_bounds-pages_of-end : goal.slice_bounds-pages_of-end
+slice_bounds-pages_of-end g c = grind (arith, common_steps)

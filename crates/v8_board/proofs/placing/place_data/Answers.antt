@@ -33,3 +33,27 @@ loop-region-preserved g c =
 
 pub returns-clause-data : goal.returns-clause-data
 returns-clause-data g c = grind (arith, common_steps)
+
+pub returns-clause-port : goal.returns-clause-port
+returns-clause-port g c = assumption
+
+pub returns-clause-ended : goal.returns-clause-ended
+returns-clause-ended g c = assumption
+
+pub returns-clause-stopped : goal.returns-clause-stopped
+returns-clause-stopped g c = assumption
+
+pub overflow_add-pages-in-loop-region : goal.overflow_add-pages-in-loop-region
+overflow_add-pages-in-loop-region g c = grind (arith, common_steps)
+
+pub page_count-more-requires-clause-count : goal.page_count-more-requires-clause-count
+page_count-more-requires-clause-count g c = grind (arith, common_steps)
+
+pub overflow_mul-pages : goal.overflow_mul-pages
+overflow_mul-pages g c = grind (arith, common_steps)
+
+pub overflow_mul-more : goal.overflow_mul-more
+overflow_mul-more g c = grind (arith, common_steps)
+
+pub overflow_add-pages : goal.overflow_add-pages
+overflow_add-pages g c = grind (arith, common_steps)

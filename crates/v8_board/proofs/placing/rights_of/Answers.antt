@@ -39,3 +39,18 @@ loop-region-preserved c =
 
 pub returns-clause-rights : goal.returns-clause-rights
 returns-clause-rights c = grind (arith, common_steps)
+
+pub overflow_add-pages : goal.overflow_add-pages
+overflow_add-pages c = grind (arith, common_steps)
+
+pub overflow_add-pages-in-loop-region : goal.overflow_add-pages-in-loop-region
+overflow_add-pages-in-loop-region c = grind (arith, common_steps)
+
+pub slice_bounds-fill-count : goal.slice_bounds-fill-count
+slice_bounds-fill-count c = grind (arith, common_steps)
+
+pub slice_bounds-fill-start : goal.slice_bounds-fill-start
+slice_bounds-fill-start c = grind (arith, common_steps)
+
+pub returns-clause-count : goal.returns-clause-count
+returns-clause-count c = grind (arith, common_steps)

@@ -11,3 +11,6 @@ returns-then-after-before-clause-ram g c =
 pub returns-else-after-before-clause-ram : goal.returns-else-after-before-clause-ram
 returns-else-after-before-clause-ram g c =
     sym (marked_ram_same _ _ _ _ c.requires.there c.requires.bytes (sym c.marked-after.ensures ∙ c.if-after-before.false))
+
+pub returns-then-after-before-clause-device : goal.returns-then-after-before-clause-device
+returns-then-after-before-clause-device g c = assumption

@@ -10,3 +10,6 @@ returns-clause-undo g c = record {
 
 pub returns-clause-ram : goal.returns-clause-ram
 returns-clause-ram g c = search rules
+
+pub returns-clause-device : goal.returns-clause-device
+returns-clause-device g c = assumption

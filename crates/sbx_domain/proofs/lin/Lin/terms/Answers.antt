@@ -1,4 +1,5 @@
-use Rattle.std.proofs.Common.{◌≡◌, ◌≤◌, ◌^◌, length, map, take, sym, subst, rules, List}
+use Rattle.std.proofs.lemmas.Grind.{common_steps}
+use Rattle.std.proofs.Common.{◌≡◌, ◌≤◌, ◌^◌, length, map, take, sym, subst, rules, List, arith}
 use Rattle.sbx_form.specs.declared.terms.FormTerm.{FormTerm}
 use Rattle.sbx_form.specs.Forms.{AreWithin}
 use Rattle.sbx_domain.specs.Forms.{Form}
@@ -17,3 +18,9 @@ returns-clause-small g c =
     let f : Form = record { constant = c.self.inside.constant; terms = map widened (take c.self.inside.count c.self.inside.terms) } in
     let v : c.unpacked.result.items ≡ f.terms = search rules in
     subst (λ (ts : List FormTerm). AreWithin (2 ^ 32) ts) (sym v) (kept_says f c.self.invariant.3).terms
+
+pub returns-clause-value : goal.returns-clause-value
+returns-clause-value g c = grind (arith, common_steps)
+
+pub unpacked-requires : goal.unpacked-requires
+unpacked-requires g c = grind (arith, common_steps)

@@ -7,3 +7,6 @@ invariant_of-other c = grind (arith, common_steps)
 
 pub returns : goal.returns
 returns c = grind (arith, common_steps)
+
+pub copy_from_slice-requires : goal.copy_from_slice-requires
+copy_from_slice-requires c = grind (arith, common_steps)

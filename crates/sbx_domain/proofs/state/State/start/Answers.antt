@@ -1,3 +1,4 @@
+use Rattle.std.proofs.lemmas.Grind.{common_steps}
 use Rattle.std.proofs.Common.{◌≡◌, ◌-◌, length, drop, arith, ap, ◌∙◌}
 use Rattle.sbx_domain.specs.Known.{started}
 use Rattle.sbx_domain.proofs.Tables.{cell_more, nothing_started}
@@ -17,3 +18,6 @@ pub returns : goal.returns
 returns c =
     let end : c.loop-left.left ≡ 0 = omega arith in
     c.loop-left.invariant.1 ∙ ap (λ n. started (drop n c.args.cells.now)) end
+
+pub bounds-cells-left : goal.bounds-cells-left
+bounds-cells-left c = grind (arith, common_steps)

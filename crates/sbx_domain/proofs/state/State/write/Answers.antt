@@ -20,3 +20,6 @@ returns-else-location-gt0 c = known_unwritten c.args.self.now c.args.location c.
 
 pub invariant_of-self : goal.invariant_of-self
 invariant_of-self c = grind (arith, common_steps)
+
+pub index_mut-requires : goal.index_mut-requires
+index_mut-requires c = grind (arith, common_steps)

@@ -5,6 +5,7 @@ use Rattle.v8_contained.specs.declared.Memory.{Memory}
 use Rattle.v8_board.specs.Seen.{Seen}
 use Rattle.v8_board.proofs.Placed.{placed_kept, placed_loaded, placed_maps}
 use Rattle.v8_board.proofs.Contained.{boots_state, control_is, loads_contained}
+use Rattle.v8_board.proofs.Sizes.{first_fits}
 use Rattle.v8_board.proofs.board.Board.load.Goals as goal
 
 pub returns-clause-map : goal.returns-clause-map
@@ -47,13 +48,19 @@ returns-clause-calls g c =
     ap g.P.Port.calls port ∙ ap (λ (s : Seen g.row.N). s.calls) c.self.view_is
 
 pub y-word-requires : goal.y-word-requires
-y-word-requires g c = grind (arith, common_steps)
+y-word-requires g c = search (first_fits)
 
 pub boot-requires : goal.boot-requires
-boot-requires g c = grind (arith, common_steps)
+boot-requires g c = search (first_fits)
 
 pub invariant_of-self : goal.invariant_of-self
 invariant_of-self g c = grind (arith, common_steps)
 
 pub bus_mut-requires : goal.bus_mut-requires
-bus_mut-requires g c = grind (arith, common_steps)
+bus_mut-requires g c = search (first_fits)
+
+pub place-requires-clause-at_least : goal.place-requires-clause-at_least
+place-requires-clause-at_least g c = assumption
+
+pub place-requires-clause-at_most : goal.place-requires-clause-at_most
+place-requires-clause-at_most g c = assumption

@@ -3,6 +3,7 @@ use Rattle.std.proofs.Common.{◌≡◌, length, ap, ◌∙◌, lit<, refl, rule
 use Rattle.v8_core.specs.Ram.{AreBytes}
 use Rattle.v8_contained.specs.declared.Memory.{Memory}
 use Rattle.v8_board.proofs.Contained.{blank_bytes, boots_state}
+use Rattle.v8_board.proofs.Sizes.{first_fits}
 use Rattle.v8_board.proofs.board.Board.new.Goals as goal
 
 pub invariant_of-result : goal.invariant_of-result
@@ -33,4 +34,4 @@ pub returns-clause-calls : goal.returns-clause-calls
 returns-clause-calls g c = ap g.P.Port.calls (ap (λ (m : Memory g.row.P.Denot). m.port) c.new-2.ensures.bus ∙ c.in_ok-new.ensures.port)
 
 pub new-requires-2 : goal.new-requires-2
-new-requires-2 g c = grind (arith, common_steps)
+new-requires-2 g c = search (first_fits)

@@ -1,7 +1,7 @@
-use Rattle.std.proofs.lemmas.Grind.{common_steps}
-use Rattle.std.proofs.Common.{◌≡◌, ap, ◌∙◌, arith}
+use Rattle.std.proofs.Common.{◌≡◌, ap, ◌∙◌}
 use Rattle.v8_contained.specs.declared.Memory.{Memory}
 use Rattle.v8_board.specs.Seen.{Seen}
+use Rattle.v8_board.proofs.Sizes.{first_fits}
 use Rattle.v8_board.proofs.board.Board.port.Goals as goal
 
 pub returns-clause-input : goal.returns-clause-input
@@ -30,4 +30,4 @@ returns-clause-fault g c =
     ap g.P.Port.fault is ∙ ap (λ (s : Seen g.row.N). s.fault) c.self.view_is
 
 pub bus-requires : goal.bus-requires
-bus-requires g c = grind (arith, common_steps)
+bus-requires g c = search (first_fits)

@@ -5,6 +5,7 @@ use Rattle.v8_contained.specs.Board.{board}
 use Rattle.v8_board.specs.Seen.{Seen, turned}
 use Rattle.std.proofs.Common.{◌≡◌, subst, arith}
 use Rattle.std.proofs.lemmas.Grind.{common_steps}
+use Rattle.v8_board.proofs.Sizes.{first_fits}
 use Rattle.v8_board.proofs.board.Board.repeat.Goals as goal
 
 pub returns-clause-turn : goal.returns-clause-turn
@@ -26,8 +27,7 @@ pub returns-clause-own : goal.returns-clause-own
 returns-clause-own g c = c.step.ensures.own
 
 pub step-requires : goal.step-requires
-unfolding turned
-step-requires g c = grind (arith, common_steps)
+step-requires g c = search (first_fits)
 
 pub invariant_of-self : goal.invariant_of-self
 unfolding turned

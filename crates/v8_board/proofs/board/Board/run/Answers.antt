@@ -72,3 +72,27 @@ outcome-requires-2 g c = assumption
 
 pub outcome-requires : goal.outcome-requires
 outcome-requires g c = assumption
+
+pub returns-in_default-clause-stands : goal.returns-in_default-clause-stands
+returns-in_default-clause-stands g c = assumption
+
+pub returns-in_default-clause-goes_on : goal.returns-in_default-clause-goes_on
+returns-in_default-clause-goes_on g c = assumption
+
+pub returns-in-Err-clause-run : goal.returns-in-Err-clause-run
+returns-in-Err-clause-run g c = assumption
+
+pub returns-clause-own : goal.returns-clause-own
+returns-clause-own g c = assumption
+
+pub returns-in-Err-clause-told : goal.returns-in-Err-clause-told
+returns-in-Err-clause-told g c = assumption
+
+pub returns-clause-stands : goal.returns-clause-stands
+returns-clause-stands g c = assumption
+
+pub returns-clause-goes_on : goal.returns-clause-goes_on
+returns-clause-goes_on g c = assumption
+
+pub returns-in_default-clause-own : goal.returns-in_default-clause-own
+returns-in_default-clause-own g c = assumption

@@ -3,6 +3,7 @@ use Rattle.std.proofs.Common.{rules, ap, sym, subst, ◌≤◌, ◌+◌, arith}
 use Rattle.v8_core.specs.Calls.{calls_by}
 use Rattle.v8_contained.specs.Board.{board}
 use Rattle.v8_board.specs.Seen.{Seen, turned}
+use Rattle.v8_board.proofs.Sizes.{first_fits}
 use Rattle.v8_board.proofs.board.Board.turn.Goals as goal
 
 pub returns-in-Ok-clause-turn : goal.returns-in-Ok-clause-turn
@@ -37,9 +38,17 @@ unfolding turned
 invariant_of-self g c = grind (arith, common_steps)
 
 pub step-requires : goal.step-requires
-unfolding turned
-step-requires g c = grind (arith, common_steps)
+step-requires g c = search (first_fits)
 
 pub invariant_of-self-in-Err : goal.invariant_of-self-in-Err
 unfolding turned
 invariant_of-self-in-Err g c = grind (arith, common_steps)
+
+pub returns-in-Ok-clause-own : goal.returns-in-Ok-clause-own
+returns-in-Ok-clause-own g c = assumption
+
+pub returns-in-Err-clause-turn : goal.returns-in-Err-clause-turn
+returns-in-Err-clause-turn g c = assumption
+
+pub returns-in-Ok-clause-state : goal.returns-in-Ok-clause-state
+returns-in-Ok-clause-state g c = assumption
