@@ -83,9 +83,7 @@ pub fn heading_of(lines: &[Line<'_>]) -> Heading
         match line.said() {
             Ok(Statement::Directive(Directive::Depth(_))) => version = 3,
             Ok(Statement::Directive(Directive::Region { .. })) => version = version.max(2),
-            Ok(Statement::Directive(Directive::Services(said))) => services = services.or(Some(
-                said,
-            )),
+            Ok(Statement::Directive(Directive::Services(set))) => services = services.or(Some(set)),
             Ok(Statement::Directive(Directive::Stack(pages))) => stack = stack.or(Some(pages)),
             _ => {}
         }
