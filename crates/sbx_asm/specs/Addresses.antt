@@ -44,7 +44,7 @@ data_offset (i ∷ before) = if is_region i then 0 else min (data_offset before 
 
 -- ---- addresses
 
--- a region begins at the page behind the last one of the region before it, which has so many bytes; a ninth is too many, and begins in bounds
+-- a region begins at the page behind the last one of the region before, of so many bytes; a ninth, too many, behind eight full ones at the latest
 abbrev pub start_behind : ℕ → ℕ → ℕ
 start_behind start size = min (start + 4096 * pages_for size) (DATA_START + 8 * section_room)
 
