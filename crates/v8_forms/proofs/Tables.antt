@@ -1,9 +1,10 @@
 -- What holds of all forms holds of the one that is found.
-use Rattle.std.proofs.Common.{◌≡◌, ℕ, ◌+◌, ◌*◌, ◌≤◌, Bool, true, false, cond, List, [], ◌∷◌, length, refl, subst, leb, Some, Option}
+use Rattle.std.proofs.Common.{◌≡◌, ℕ, ◌+◌, ◌*◌, ◌≤◌, Bool, true, false, cond, List, [], ◌∷◌, length, refl, subst, leb, sym, ap, ◌∙◌, Some, Option, take, map}
 use Rattle.std.specs.List.{find}
 use Rattle.std.proofs.lemmas.Bool.{false≢true, leb-true}
+use Rattle.std.proofs.lemmas.List.{length-map, take-map}
 use Rattle.v8_formats.specs.Table.{meaning}
-use Rattle.v8_forms.specs.Forms.{Form, natives, synthetics}
+use Rattle.v8_forms.specs.Forms.{Form, forms, natives, synthetics}
 use Rattle.v8_forms.specs.Laws.{CoversTheTable, TellsFormsApart}
 use Rattle.v8_forms.specs.Text.{is_word_of, native_of}
 
@@ -49,3 +50,18 @@ tells_apart = refl
 pub covers_table : CoversTheTable
 unfolding natives meaning
 covers_table = (refl, refl)
+
+natives_come_first : take 74 forms ≡ natives
+unfolding natives synthetics
+natives_come_first = refl
+
+-- rows of all forms begin with those of the instructions
+pub first_are_native : {Row : Type 0} (form : Row → Form) (rows : List Row) → map form rows ≡ forms → map form (take 74 rows) ≡ natives
+first_are_native form rows e = sym (take-map form 74 rows) ∙ ap (take 74) e ∙ natives_come_first
+
+count_of_natives : length natives ≡ 74
+unfolding natives
+count_of_natives = refl
+
+pub natives_fit : {Row : Type 0} (form : Row → Form) (rows : List Row) → map form rows ≡ forms → 74 ≡ length (take 74 rows)
+natives_fit form rows e = sym count_of_natives ∙ ap length (sym (first_are_native form rows e)) ∙ length-map (take 74 rows) form

@@ -193,11 +193,10 @@ pub fn forms() -> &'static [Row]
 }
 
 /// The forms of instructions.
-#[tactic(auto, unfolding(crate::specs::Forms::natives))]
 pub fn natives() -> &'static [Row]
     ensures { map form_of result.now ≡ natives }
 {
-    &ROWS[..NATIVE]
+    &forms()[..NATIVE]
 }
 
 /// The suffixes of the conditions, by their numbers.
