@@ -1,13 +1,16 @@
-//! Measures turns of the board of eight windows, and verification.
+//! Measures turns of the board of eight windows, verification, and words.
 //!
 //! Drives the board through each raw loop for a number of turns, in each way: turn by turn, in one run, in a raw run, in a trace, and
 //! by a plain interpreter.
 //! Prints what the board counted and the register that the loop counts down, the bytes that were put out, or the lines of the trace;
 //! the times, loading included, go to standard error.
 //! Then verifies images of each shape, a great one and one of a quarter of it, and prints the verdicts; the times go to standard error.
+//! Then decodes and encodes words, and computes results, a thousand for each turn, and prints a checksum of each; the times go to standard
+//! error.
 //!
 //! Arguments, in any order: the number of turns; a loop's name for that loop alone; `straight`, `branches`, `cells` or `calls`
-//! for that shape alone; `step`, `run`, `raw`, `trace` or `plain` for that way alone, in place of all others and of verification.
+//! for that shape alone; `words` or `results` for these alone; `step`, `run`, `raw`, `trace` or `plain` for that way alone, in place of
+//! all others, of verification, and of words and results.
 #![tactic(auto)]
 
 mod callers;
@@ -18,6 +21,7 @@ mod shapes;
 mod tally;
 mod verdicts;
 mod ways;
+mod words;
 
 use anyhow::{Result, anyhow};
 use loops::Loop;
@@ -27,15 +31,17 @@ use std::time::Instant;
 use std::{env, io};
 use verdicts::{Verdict, timed_verdict};
 use ways::{Told, Way};
+use words::Work;
 
-/// What is measured: a loop's turns, or a shape's verification.
+/// What is measured: a loop's turns, a shape's verification, or work with words.
 #[derive(Clone, Copy, PartialEq, Eq)]
 enum Subject {
     Loop(Loop),
     Shape(Shape),
+    Work(Work),
 }
 
-const SUBJECTS: [(&str, Subject); 12] = [
+const SUBJECTS: [(&str, Subject); 14] = [
     ("arithmetic", Subject::Loop(Loop::Arithmetic)),
     ("memory", Subject::Loop(Loop::Memory)),
     ("beside", Subject::Loop(Loop::Beside)),
@@ -48,6 +54,8 @@ const SUBJECTS: [(&str, Subject); 12] = [
     ("branches", Subject::Shape(Shape::Branches)),
     ("cells", Subject::Shape(Shape::Cells)),
     ("calls", Subject::Shape(Shape::Calls)),
+    ("words", Subject::Work(Work::Words)),
+    ("results", Subject::Work(Work::Results)),
 ];
 
 const WAYS: [(&str, Way); 5] = [
@@ -57,6 +65,9 @@ const WAYS: [(&str, Way); 5] = [
     ("trace", Way::Trace),
     ("plain", Way::Plain),
 ];
+
+/// Words, and results, for each turn.
+const WORDS_PER_TURN: u64 = 1000;
 
 /// What is measured; None is all.
 #[derive(Clone, Copy)]
@@ -88,7 +99,7 @@ fn with_argument(plan: Plan, argument: &str) -> Result<Plan> {
     }
     match argument.parse() {
         Ok(turns) => Ok(Plan { turns, ..plan }),
-        Err(_) => Err(anyhow!("an argument is no loop, shape, way or number of turns")),
+        Err(_) => Err(anyhow!("an argument is nothing to measure, no way and no number of turns")),
     }
 }
 
@@ -189,12 +200,30 @@ fn measure_shape(rt: &HostRuntime, name: &str, shape: Shape) -> Result<()> {
     Ok(())
 }
 
-/// Measures what the plan asks for of a loop or a shape.
+/// Tells the checksum of work with so many words, and its time in microseconds.
+fn tell_work(rt: &HostRuntime, name: &str, count: u64, sum: u32, time: u128) -> io::Result<()> {
+    println!(rt; "{count} {name}: checksum {sum:08x}")?;
+    eprintln!(rt; "{count} {name}: {time} us")
+}
+
+/// Measures work with so many words.
+fn measure_work(rt: &HostRuntime, name: &str, work: Work, count: u64) -> Result<()> {
+    let begin = Instant::now(rt)?;
+    let sum = work.checksum(count);
+    let time = begin.elapsed(rt)?;
+    tell_work(rt, name, count, sum, time.as_micros())?;
+    Ok(())
+}
+
+/// Measures what the plan asks for of a loop, a shape or words.
 fn measure(rt: &HostRuntime, plan: Plan, name: &str, subject: Subject) -> Result<()> {
     match subject {
         Subject::Loop(measured) => measure_loop(rt, plan, name, measured),
         Subject::Shape(shape) if plan.only_way.is_none() => measure_shape(rt, name, shape),
-        Subject::Shape(_) => Ok(()),
+        Subject::Work(work) if plan.only_way.is_none() => {
+            measure_work(rt, name, work, plan.turns.saturating_mul(WORDS_PER_TURN))
+        }
+        Subject::Shape(_) | Subject::Work(_) => Ok(()),
     }
 }
 

@@ -7,7 +7,7 @@ use std::alloc::{AllocError, Global};
 use std::process::Abort;
 
 /// The image that writes `Hi`: exit and put, six words, one leaf with one block.
-const HELLO: [u8; 86] = [
+pub(crate) const HELLO: [u8; 86] = [
     83, 66, 88, 56, 0, 1, 0, 5, 0, 0, 0, 6, 0, 0, 0, 0, 0, 1, 0, 1, 144, 16, 32, 72, 145, 208, 32,
     2, 144, 16, 32, 105, 145, 208, 32, 2, 144, 16, 32, 0, 145, 208, 32, 0, 0, 0, 0, 0, 0, 4, 0, 0,
     0, 0, 0, 0, 0, 0, 0, 0, 0, 0, 0, 0, 0, 0, 0, 16, 0, 1, 0, 4, 0, 0, 0, 0, 0, 0, 0, 0, 0, 0, 0,
@@ -800,7 +800,7 @@ fn regions_begin_with_pages(rt: HostRuntime) {
 }
 
 /// Two regions of 8 bytes, of which the first may be read alone.
-const REGIONS: [u8; 116] = [
+pub(crate) const REGIONS: [u8; 116] = [
     0x53, 0x42, 0x58, 0x38, 0, 2, 0, 5, 0, 0, 0, 7, 0, 2, 0, 1, 0, 1, // header
     0, 0, 0, 8, 0, 0, 0, 0, 0, 8, 0, 1, // lengths and kinds
     0x03, 0x00, 0x02, 0x00, 0xD0, 0x08, 0x40, 0x00, 0x91, 0xD0, 0x20, 0x02, // words
@@ -834,7 +834,7 @@ fn regions_are_read(rt: HostRuntime) {
 }
 
 /// `CALLS` as an image of version 3: its data are one region, and its functions have the depths 256 and 1.
-const DEEP: [u8; 220] = [
+pub(crate) const DEEP: [u8; 220] = [
     83, 66, 88, 56, 0, 3, 0, 7, 0, 0, 0, 8, 0, 1, 0, 16, 0, 2, 0, 0, 0, 8, 0, 1, 1, 0, 0, 0, 1, 0,
     0, 0, 1, 0, 0, 0, 1, 0, 0, 0, 1, 0, 0, 0, 1, 0, 0, 0, 1, 0, 0, 0, 1, 0, 0, 0, 97, 98, 99, 100,
     101, 102, 103, 104, 1, 0, 1, 0, 0, 4, 0, 0, 0, 0, 0, 96, 0, 0, 0, 96, 0, 0, 0, 0, 0, 0, 0, 39,

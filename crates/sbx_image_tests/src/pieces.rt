@@ -1,42 +1,9 @@
 //! Worked images of each version in pieces, cut off, and broken.
+use crate::tests::{DEEP, HELLO, REGIONS};
 use sbx_image::{Image, ImageFault, write};
 use sbx_reader::ImageReader;
 use std::alloc::{AllocError, Global};
 use std::process::Abort;
-
-/// The image that writes `Hi`: exit and put, six words, one leaf with one block.
-const HELLO: [u8; 86] = [
-    83, 66, 88, 56, 0, 1, 0, 5, 0, 0, 0, 6, 0, 0, 0, 0, 0, 1, 0, 1, 144, 16, 32, 72, 145, 208, 32,
-    2, 144, 16, 32, 105, 145, 208, 32, 2, 144, 16, 32, 0, 145, 208, 32, 0, 0, 0, 0, 0, 0, 4, 0, 0,
-    0, 0, 0, 0, 0, 0, 0, 0, 0, 0, 0, 0, 0, 0, 0, 16, 0, 1, 0, 4, 0, 0, 0, 0, 0, 0, 0, 0, 0, 0, 0,
-    0, 0, 16,
-];
-
-/// The image of version 2 that writes `H`: exit and put, seven words, two regions of 8 bytes, of which the first may be read alone,
-/// one leaf with one block.
-const REGIONS: [u8; 116] = [
-    0x53, 0x42, 0x58, 0x38, 0, 2, 0, 5, 0, 0, 0, 7, 0, 2, 0, 1, 0, 1, // header
-    0, 0, 0, 8, 0, 0, 0, 0, 0, 8, 0, 1, // lengths and kinds
-    0x03, 0x00, 0x02, 0x00, 0xD0, 0x08, 0x40, 0x00, 0x91, 0xD0, 0x20, 0x02, // words
-    0x05, 0x00, 0x02, 0x04, 0xD0, 0x28, 0xA0, 0x07, 0x90, 0x10, 0x20, 0x00, //
-    0x91, 0xD0, 0x20, 0x00, //
-    72, 105, 0, 0, 0, 0, 0, 0, 0, 0, 0, 0, 0, 0, 0, 0, // the regions' bytes
-    0, 0, 0, 0, 0, 4, 0, 0, 0, 0, 0, 0, 0, 0, 0, 0, 0, 0, 0, 0, 0, 0, 0, 13, 0, 1, // a function
-    0, 4, 0, 0, 0, 0, 0, 0, 0, 0, 0, 0, 0, 0, 0, 13, // its block
-];
-
-/// An image of version 3: one region of 8 bytes, a framed function of depth 256 with a result, two blocks, cells and terms, and a leaf of
-/// depth 1 with a param.
-const DEEP: [u8; 220] = [
-    83, 66, 88, 56, 0, 3, 0, 7, 0, 0, 0, 8, 0, 1, 0, 16, 0, 2, 0, 0, 0, 8, 0, 1, 1, 0, 0, 0, 1, 0,
-    0, 0, 1, 0, 0, 0, 1, 0, 0, 0, 1, 0, 0, 0, 1, 0, 0, 0, 1, 0, 0, 0, 1, 0, 0, 0, 97, 98, 99, 100,
-    101, 102, 103, 104, 1, 0, 1, 0, 0, 4, 0, 0, 0, 0, 0, 96, 0, 0, 0, 96, 0, 0, 0, 0, 0, 0, 0, 39,
-    1, 0, 0, 2, 255, 255, 255, 251, 0, 0, 0, 5, 0, 0, 4, 0, 0, 0, 0, 0, 0, 0, 0, 0, 0, 0, 0, 0, 39,
-    0, 4, 0, 8, 0, 2, 0, 2, 255, 255, 255, 255, 255, 255, 255, 254, 0, 8, 128, 0, 0, 0, 127, 255,
-    255, 255, 3, 4, 15, 0, 0, 0, 0, 0, 0, 0, 0, 0, 0, 8, 255, 255, 255, 255, 0, 16, 127, 255, 255,
-    255, 0, 1, 0, 0, 0, 4, 0, 16, 0, 0, 0, 0, 0, 0, 0, 0, 0, 0, 0, 0, 0, 0, 0, 2, 0, 1, 0, 1, 0, 0,
-    0, 0, 0, 0, 0, 254, 2, 0, 4, 0, 16, 0, 0, 0, 0, 0, 0, 0, 0, 0, 0, 0, 2,
-];
 
 /// An image of each version.
 const IMAGES: [&'static [u8]; 3] = [&HELLO, &REGIONS, &DEEP];

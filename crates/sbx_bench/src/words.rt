@@ -1,11 +1,17 @@
-//! Measures the decoder, the encoder and the results: goes through N words and N operations, N the argument, and prints a
-//! checksum of each. The words are those of a linear congruential generator; each operation takes what the one before gave.
-#![tactic(auto)]
+//! Words that are decoded and encoded again, and operations whose results are computed.
 
-use std::{env, io};
 use v8_alu::{Op, alu};
 use v8_formats::{decode, encode};
 use v8_word::Icc;
+
+/// What is done with words, those of a linear congruential generator.
+#[derive(Clone, Copy, PartialEq, Eq)]
+pub enum Work {
+    /// Each is decoded, and encoded again.
+    Words,
+    /// Each is an operand of an operation, which takes what the one before gave.
+    Results,
+}
 
 const OPERATIONS: [Op; 30] = [
     Op::Add,
@@ -40,10 +46,12 @@ const OPERATIONS: [Op; 30] = [
     Op::MulsCc,
 ];
 
+/// The word after a word.
 fn next(word: u32) -> u32 {
     word.wrapping_mul(1_664_525).wrapping_add(1_013_904_223)
 }
 
+/// A checksum of so many words, decoded and encoded again.
 fn spelled_again(count: u64) -> u32 {
     let mut word = 1u32;
     let mut sum = 0u32;
@@ -54,6 +62,7 @@ fn spelled_again(count: u64) -> u32 {
     sum
 }
 
+/// A checksum of so many results.
 fn computed(count: u64) -> u32 {
     let mut word = 1u32;
     let mut sum = 0u32;
@@ -70,11 +79,12 @@ fn computed(count: u64) -> u32 {
     sum ^ y
 }
 
-fn main(rt: HostRuntime) -> io::Result<()> {
-    let mut count = 1_000_000u64;
-    for argument in env::args(&rt)? {
-        count = argument.parse().unwrap_or(count);
+impl Work {
+    /// Does it with so many words, and gives a checksum.
+    pub fn checksum(self, count: u64) -> u32 {
+        match self {
+            Work::Words => spelled_again(count),
+            Work::Results => computed(count),
+        }
     }
-    println!(rt; "words {:08x}", spelled_again(count))?;
-    println!(rt; "results {:08x}", computed(count))
 }
