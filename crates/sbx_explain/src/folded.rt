@@ -15,8 +15,11 @@ fn break_of(line: &[u8], room: usize) -> Option<usize> {
     found
 }
 
-/// The items of a line that fit into so many columns, and those that don't; none where they can't be parted.
+/// The items of a line that fit into so many columns, and those that don't; none where the line fits, or can't be parted.
 fn broken(line: &str, room: usize) -> Option<(&str, &str)> {
+    if line.len() <= room {
+        return None;
+    }
     let place = break_of(line.as_bytes(), room)?;
     let (front, behind) = line.split_at_checked(place)?;
     Some((front, behind.trim_start()))
@@ -27,14 +30,10 @@ fn push_folded(out: &mut String, line: &str) -> Result<(), AllocError> {
     let mut rest = line;
     let mut room = WIDTH;
     for _ in 0..line.len() {
-        if rest.len() <= room {
-            break;
-        }
         let Some((front, behind)) = broken(rest, room) else {
             break;
         };
-        writeln!(out, "{front}")?;
-        out.push_str(MARGIN)?;
+        write!(out, "{front}\n{MARGIN}")?;
         rest = behind;
         room = WIDTH - MARGIN.len();
     }
@@ -42,7 +41,7 @@ fn push_folded(out: &mut String, line: &str) -> Result<(), AllocError> {
 }
 
 /// Pushes the lines of a text, each so that it fits 100 columns.
-pub fn push_lines(out: &mut String, text: &str) -> Result<(), AllocError> {
+pub(crate) fn push_lines(out: &mut String, text: &str) -> Result<(), AllocError> {
     for line in text.lines() {
         push_folded(out, line)?;
     }

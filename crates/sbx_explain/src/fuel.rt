@@ -5,13 +5,15 @@ ghost use Rattle.sbx_known.specs.Spots.{IsSpot};
 ghost use Rattle.sbx_inspect.specs.Sights.{IsSeen};
 
 use crate::sides::{Edge, push_budget_sides, push_edge_sides, push_end_sides};
+use crate::sights::{push_going, push_known};
+use crate::values::Sum;
 use sbx_declare::Location;
 use sbx_domain::State;
+use sbx_faults::ends_run;
 use sbx_form::FormTerm;
 use sbx_image::{Image, Term};
 use sbx_inspect::{Fuel, FuelSides, Sight, after, budget_sides, fuel_sides};
-use sbx_known::{Course, Going, Spot, block_at, comes_back, ends_run, start};
-use sbx_sights::{push_form, push_going, push_known};
+use sbx_known::{Course, Going, Spot, block_at, comes_back, start};
 use std::alloc::{AllocError, Global};
 
 /// What is known of the locations of a fuel's terms, where its block begins.
@@ -35,9 +37,11 @@ fn push_form_of(out: &mut String, location: u16, state: &State) -> Result<(), Al
     if terms.is_empty() {
         return Ok(());
     }
-    out.push_str("    which is ")?;
-    push_form(out, form.constant(), terms.as_slice())?;
-    out.push_str(", by what the block began with\n")
+    let value = Sum {
+        constant: form.constant(),
+        terms: terms.as_slice(),
+    };
+    writeln!(out, "    which is {value}, by what the block began with")
 }
 
 /// What is known of the locations of a fuel's terms on the way to its block.
@@ -49,18 +53,25 @@ fn push_arrived(out: &mut String, terms: &[FormTerm], there: &State) -> Result<(
     Ok(())
 }
 
+/// A block's fuel, as a sum.
+fn sum_of(fuel: &Fuel) -> Sum<'_> {
+    Sum {
+        constant: fuel.constant,
+        terms: fuel.terms.as_slice(),
+    }
+}
+
 /// The fuel of a block, and the turns of its words up to here.
 fn push_own(out: &mut String, sides: &FuelSides, beginning: &State) -> Result<(), AllocError> {
     let weight = sides.weight;
-    let terms = sides.fuel.terms.as_slice();
-    out.push_str("\nthe block's fuel is ")?;
-    push_form(out, sides.fuel.constant, terms)?;
-    out.push_str(if terms.is_empty() {
-        "\n"
+    let fuel = sum_of(&sides.fuel);
+    let more = if fuel.terms.is_empty() {
+        ""
     } else {
-        ", where it begins with\n"
-    })?;
-    push_beginnings(out, terms, beginning)?;
+        ", where it begins with"
+    };
+    writeln!(out, "\nthe block's fuel is {fuel}{more}")?;
+    push_beginnings(out, fuel.terms, beginning)?;
     writeln!(out, "its turns to the end of this word are {weight}")
 }
 
@@ -103,7 +114,6 @@ fn push_budget(
     requires { IsSeen image.now sight.now }
 {
     let sides = budget_sides(image, sight);
-    out.push_str("\nas the function begins\n")?;
     push_budget_sides(out, sides.budget, &sides.fuel, beginning)
 }
 
@@ -130,13 +140,10 @@ fn push_edge(
     requires spot { IsSpot image.now spot.now }
     requires well { IsWell image.now spot.now.function going }
 {
-    let terms = edge.next.terms.as_slice();
-    out.push_str("\non the way ")?;
+    let fuel = sum_of(edge.next);
     push_going(out, image, spot.function, going)?;
-    out.push_str(", whose fuel is ")?;
-    push_form(out, edge.next.constant, terms)?;
-    out.push_str("\n")?;
-    push_arrived(out, terms, edge.there)?;
+    writeln!(out, ", whose fuel is {fuel}")?;
+    push_arrived(out, fuel.terms, edge.there)?;
     push_edge_sides(out, edge, weight)
 }
 
@@ -210,15 +217,36 @@ fn push_ends(
     if ends_run(&sight.spot.operation) {
         push_end(out, sides, beginning, "at the end of the run")?;
     }
-    if comes_back(sight.courses.first) {
-        push_end(out, sides, beginning, "back in the caller")?;
+    if !comes_back(sight.courses.first) {
+        return Ok(());
     }
-    Ok(())
+    push_end(out, sides, beginning, "back in the caller")
+}
+
+/// What the fuel of the word's block is asked for at the word itself: of its terms and of the budget where block and function begin,
+/// and of its turns where the run or the function ends.
+fn push_here(
+    out: &mut String,
+    image: &Image,
+    sight: &Sight,
+    sides: &FuelSides,
+    beginning: &State,
+) -> Result<(), AllocError>
+    requires { IsSeen image.now sight.now }
+{
+    push_own(out, sides, beginning)?;
+    if sight.spot.number == 0 {
+        push_strangers(out, image, &sight.spot, &sides.fuel)?;
+        if sight.spot.block == 0 {
+            push_budget(out, image, sight, beginning)?;
+        }
+    }
+    push_ends(out, sight, sides, beginning)
 }
 
 /// The two sides of the rule of fuel at a word, each worked out with the numbers at which the fuel is scarcest; an arrow marks where it
 /// doesn't last, and terms that name no cell.
-pub fn push_fuel(
+pub(crate) fn push_fuel(
     alloc: Global,
     out: &mut String,
     image: &Image,
@@ -226,17 +254,10 @@ pub fn push_fuel(
 ) -> Result<(), AllocError>
     requires { IsSeen image.now sight }
 {
-    let sides = fuel_sides(image, &sight);
     let mut beginning = State::new(alloc)?;
     start(image, sight.spot.function, sight.spot.block, &mut beginning);
-    push_own(out, &sides, &beginning)?;
-    if sight.spot.number == 0 {
-        push_strangers(out, image, &sight.spot, &sides.fuel)?;
-        if sight.spot.block == 0 {
-            push_budget(out, image, &sight, &beginning)?;
-        }
-    }
-    push_ends(out, &sight, &sides, &beginning)?;
+    let sides = fuel_sides(image, &sight);
+    push_here(out, image, &sight, &sides, &beginning)?;
     let there = after(image, sight);
     push_ways(out, image, &there, &sides, &beginning)
 }

@@ -16,7 +16,7 @@ fn push_sides(out: &mut String, sides: RoomSides, asker: &str) -> Result<(), All
 }
 
 /// The two sides of the rule of stack room: at the function's entry, at that of function 0, and at a call.
-pub fn push_room(out: &mut String, image: &Image, sight: &Sight) -> Result<(), AllocError>
+pub(crate) fn push_room(out: &mut String, image: &Image, sight: &Sight) -> Result<(), AllocError>
     requires { IsSeen image.now sight.now }
 {
     out.push_str("\nthere are\n")?;
@@ -24,8 +24,8 @@ pub fn push_room(out: &mut String, image: &Image, sight: &Sight) -> Result<(), A
     if sight.spot.function == 0 {
         push_sides(out, stack_room(image, sight), "of the stack by function 0")?;
     }
-    if sight.spot.callee.is_some() {
-        push_sides(out, call_room(image, sight), "by the frame and the callee")?;
+    if sight.spot.callee.is_none() {
+        return Ok(());
     }
-    Ok(())
+    push_sides(out, call_room(image, sight), "by the frame and the callee")
 }

@@ -1,4 +1,4 @@
-use Rattle.sbx_worked.proofs.fuel.push_ways.Goals as goal
+use Rattle.sbx_explain.proofs.fuel.push_ways.Goals as goal
 
 pub push_way-requires-clause-well : goal.push_way-requires-clause-well
 push_way-requires-clause-well c = assumption

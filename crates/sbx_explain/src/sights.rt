@@ -14,8 +14,8 @@ use sbx_known::{Course, Going, Spot, block_at, function_at};
 use std::alloc::AllocError;
 use v8_meaning::Operation;
 
-/// Where a way leads.
-pub fn push_going(
+/// The words that begin what is told of a way, with where it leads.
+pub(crate) fn push_going(
     out: &mut String,
     image: &Image,
     function: usize,
@@ -24,22 +24,26 @@ pub fn push_going(
     requires function { function < length image.now.functions }
     requires well { IsWell image.now function going }
 {
-    let place = match going {
-        Going::Next => "to the next word",
+    let way = match going {
+        Going::Next => "\non the way to the next word",
         Going::To(block) => {
             let address = block_at(image, function, block).address;
-            return write!(out, "to the block at {address:08X}");
+            return write!(out, "\non the way to the block at {address:08X}");
         }
-        Going::Back => "back to the caller",
-        Going::Over => "to the end of the run",
-        Going::Past => "past the function's last word",
-        Going::Astray => "to no block of the function",
+        Going::Back => "\non the way back to the caller",
+        Going::Over => "\non the way to the end of the run",
+        Going::Past => "\non the way past the function's last word",
+        Going::Astray => "\non the way to no block of the function",
     };
-    out.push_str(place)
+    out.push_str(way)
 }
 
 /// A location, and what is known of it.
-pub fn push_known(out: &mut String, location: u16, range: Option<Range>) -> Result<(), AllocError> {
+pub(crate) fn push_known(
+    out: &mut String,
+    location: u16,
+    range: Option<Range>,
+) -> Result<(), AllocError> {
     let (location, known) = (Location(location), Known(range));
     writeln!(out, "  {location} is {known}")
 }
@@ -47,12 +51,13 @@ pub fn push_known(out: &mut String, location: u16, range: Option<Range>) -> Resu
 /// A register that is read. Those that hold the frames and the ways back have no range.
 fn push_register(out: &mut String, register: u8, state: &State) -> Result<(), AllocError> {
     let location = Location(u16::from(register));
-    match register {
-        0 => out.push_str("  %g0 is 0\n"),
-        14 | 30 => writeln!(out, "  {location} holds a frame"),
-        15 | 31 => writeln!(out, "  {location} holds the way back"),
-        _ => push_known(out, u16::from(register), state.range(u16::from(register))),
-    }
+    let held = match register {
+        0 => return out.push_str("  %g0 is 0\n"),
+        14 | 30 => "a frame",
+        15 | 31 => "the way back",
+        _ => return push_known(out, u16::from(register), state.range(u16::from(register))),
+    };
+    writeln!(out, "  {location} holds {held}")
 }
 
 fn push_registers(
@@ -73,20 +78,26 @@ fn push_slot(out: &mut String, slot: Option<u16>, state: &State) -> Result<(), A
     }
 }
 
+/// The line of the condition codes, if they are read.
+fn codes_line(are_read: bool, state: &State) -> &'static str {
+    if !are_read {
+        ""
+    } else if state.icc() {
+        "  the condition codes are defined\n"
+    } else {
+        "  the condition codes are undefined\n"
+    }
+}
+
 /// The condition codes and Y, where they are read.
 fn push_flags(out: &mut String, codes: bool, y: bool, state: &State) -> Result<(), AllocError> {
-    if codes {
-        out.push_str(if state.icc() {
-            "  the condition codes are defined\n"
-        } else {
-            "  the condition codes are undefined\n"
-        })?;
-    }
+    let codes = codes_line(codes, state);
     if y {
         let known = Known(state.y());
-        return writeln!(out, "  Y is {known}");
+        writeln!(out, "{codes}  Y is {known}")
+    } else {
+        out.push_str(codes)
     }
-    Ok(())
 }
 
 /// What a word reads, and what is known of it.
@@ -124,7 +135,6 @@ fn push_course(
     let Some(course) = course else {
         return Ok(());
     };
-    out.push_str("\non the way ")?;
     push_going(out, image, spot.function, course.going)?;
     if course.annulled {
         return out.push_str(" the word is annulled\n");
@@ -137,7 +147,7 @@ fn push_course(
 }
 
 /// The ways on which a word runs, with what is known before it on each.
-pub fn push_sight(out: &mut String, image: &Image, sight: &Sight) -> Result<(), AllocError>
+pub(crate) fn push_sight(out: &mut String, image: &Image, sight: &Sight) -> Result<(), AllocError>
     requires { IsSeen image.now sight.now }
 {
     push_course(out, image, &sight.spot, sight.courses.first, &sight.first)?;

@@ -4,13 +4,13 @@ ghost use Rattle.sbx_inspect.specs.Sights.{IsSeen};
 ghost use Rattle.sbx_known.specs.Courses.{AreWell, IsWell};
 ghost use Rattle.sbx_known.specs.Spots.{IsSpot};
 
+use crate::values::Known;
 use sbx_declare::{Bounds, Location};
 use sbx_domain::State;
 use sbx_image::{Cell, Image, Range};
 use sbx_inspect::Sight;
 use sbx_known::{Course, Courses, Going, Spot, block_at, function_at, perform_on, return_to};
 use sbx_range::is_within;
-use sbx_sights::Known;
 use std::alloc::AllocError;
 
 /// Whether a location is known to hold what a declaration says.
@@ -173,7 +173,7 @@ fn push_ways(
 }
 
 /// The parameters, cells or results that the word's ways lead to, beside what is known after the word there.
-pub fn push_arrivals(out: &mut String, image: &Image, sight: Sight) -> Result<(), AllocError>
+pub(crate) fn push_arrivals(out: &mut String, image: &Image, sight: Sight) -> Result<(), AllocError>
     requires { IsSeen image.now sight }
 {
     let Sight {

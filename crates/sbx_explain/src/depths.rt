@@ -13,7 +13,7 @@ fn push_sides(out: &mut String, sides: DepthSides, asker: &str) -> Result<(), Al
 }
 
 /// The two sides of the rule of call depth: at the function's entry, and at a call.
-pub fn push_depths(out: &mut String, image: &Image, sight: &Sight) -> Result<(), AllocError>
+pub(crate) fn push_depths(out: &mut String, image: &Image, sight: &Sight) -> Result<(), AllocError>
     requires { IsSeen image.now sight.now }
 {
     out.push_str("\nthe declared depth is\n")?;
@@ -22,8 +22,8 @@ pub fn push_depths(out: &mut String, image: &Image, sight: &Sight) -> Result<(),
         entry_depth(image, sight),
         "by the function's own frame",
     )?;
-    if sight.spot.callee.is_some() {
-        push_sides(out, call_depth(image, sight), "by 1 and the callee's depth")?;
+    if sight.spot.callee.is_none() {
+        return Ok(());
     }
-    Ok(())
+    push_sides(out, call_depth(image, sight), "by 1 and the callee's depth")
 }

@@ -17,6 +17,9 @@ pub(crate) struct Edge<'a> {
     pub(crate) there: &'a State,
 }
 
+/// What stands before the fuel that there is.
+const AT_WORST: &str = "  at worst there are  ";
+
 /// The upper end of a range or the lower one; 0 where nothing is known.
 fn end_of(range: Option<Range>, is_upper: bool) -> i128 {
     match range {
@@ -77,68 +80,70 @@ impl Edge<'_> {
     }
 }
 
-/// Pushes a term with the number that its location holds, and gives the sum with it.
-fn push_product(
-    out: &mut String,
-    sum: i128,
-    coefficient: i128,
-    number: i128,
-) -> Result<i128, AllocError> {
-    write!(out, " + {coefficient} * {number}")?;
-    Ok(sum.saturating_add(coefficient.saturating_mul(number)))
+/// The numbers with which a sum is worked out.
+#[derive(Clone, Copy)]
+enum Numbers<'a> {
+    /// Those of where a block begins that make its fuel least.
+    Least(&'a State),
+    /// The same that make it greatest.
+    Greatest(&'a State),
+    /// Those with which an edge's block began, where its fuel is scarcest.
+    Began(&'a Edge<'a>),
+    /// What the locations hold then at the end of the edge.
+    Held(&'a Edge<'a>),
 }
 
-/// Pushes what a sum comes to.
-fn push_sum(out: &mut String, sum: i128) -> Result<i128, AllocError> {
+impl Numbers<'_> {
+    /// The number of a term's location.
+    fn at(&self, term: FormTerm) -> i128 {
+        let (location, grows) = (term.location, term.coefficient > 0);
+        match self {
+            Numbers::Least(beginning) => end_of(beginning.range(location), !grows),
+            Numbers::Greatest(beginning) => end_of(beginning.range(location), grows),
+            Numbers::Began(edge) => edge.began(location),
+            Numbers::Held(edge) => edge.holds(term),
+        }
+    }
+}
+
+/// Pushes the terms of a sum with their numbers, and what it comes to, and gives that.
+fn push_products(
+    out: &mut String,
+    constant: i128,
+    terms: &[FormTerm],
+    numbers: Numbers<'_>,
+) -> Result<i128, AllocError> {
+    let mut sum = constant;
+    for term in terms {
+        let (coefficient, number) = (term.coefficient, numbers.at(*term));
+        write!(out, " + {coefficient} * {number}")?;
+        sum = sum.saturating_add(coefficient.saturating_mul(number));
+    }
     write!(out, " = {sum}")?;
     Ok(sum)
 }
 
-/// Pushes a block's fuel with the numbers that make it least, or greatest, where the block begins, and gives what it comes to.
-fn push_extreme(
+/// Pushes a block's fuel with its numbers behind a heading, and gives what it comes to.
+fn push_worked(
     out: &mut String,
+    heading: &str,
     fuel: &Fuel,
-    beginning: &State,
-    is_greatest: bool,
+    numbers: Numbers<'_>,
 ) -> Result<i128, AllocError> {
-    let constant = fuel.constant;
-    write!(out, "{constant}")?;
+    let constant = i128::from(fuel.constant);
+    write!(out, "{heading}{constant}")?;
     if fuel.terms.is_empty() {
-        return Ok(i128::from(constant));
+        return Ok(constant);
     }
-    let mut sum = i128::from(constant);
-    for term in fuel.terms.as_slice() {
-        let is_upper = (term.coefficient > 0) == is_greatest;
-        let number = end_of(beginning.range(term.location), is_upper);
-        sum = push_product(out, sum, term.coefficient, number)?;
-    }
-    push_sum(out, sum)
-}
-
-/// Pushes the fuel of the block that an edge leaves, where it is scarcest, and gives what it comes to.
-fn push_own(out: &mut String, edge: &Edge<'_>) -> Result<i128, AllocError> {
-    let constant = edge.fuel.constant;
-    write!(out, "{constant}")?;
-    if edge.fuel.terms.is_empty() {
-        return Ok(i128::from(constant));
-    }
-    let mut sum = i128::from(constant);
-    for term in edge.fuel.terms.as_slice() {
-        let number = edge.began(term.location);
-        sum = push_product(out, sum, term.coefficient, number)?;
-    }
-    push_sum(out, sum)
+    push_products(out, constant, fuel.terms.as_slice(), numbers)
 }
 
 /// Pushes the turns up to an edge and the fuel of the block that it leads to, and gives what they come to.
 fn push_next(out: &mut String, edge: &Edge<'_>, weight: u64) -> Result<i128, AllocError> {
     let constant = edge.next.constant;
-    write!(out, "{weight} + {constant}")?;
-    let mut sum = i128::from(weight).saturating_add(i128::from(constant));
-    for term in edge.next.terms.as_slice() {
-        sum = push_product(out, sum, term.coefficient, edge.holds(*term))?;
-    }
-    push_sum(out, sum)
+    write!(out, "\n  and asked for are   {weight} + {constant}")?;
+    let start = i128::from(weight).saturating_add(i128::from(constant));
+    push_products(out, start, edge.next.terms.as_slice(), Numbers::Held(edge))
 }
 
 /// Ends the line of the greater side, with an arrow and how much is lacking where it is greater.
@@ -157,9 +162,7 @@ pub(crate) fn push_edge_sides(
     edge: &Edge<'_>,
     weight: u64,
 ) -> Result<(), AllocError> {
-    out.push_str("  at worst there are  ")?;
-    let there = push_own(out, edge)?;
-    out.push_str("\n  and asked for are   ")?;
+    let there = push_worked(out, AT_WORST, edge.fuel, Numbers::Began(edge))?;
     let asked = push_next(out, edge, weight)?;
     push_verdict(out, there, asked)
 }
@@ -171,8 +174,7 @@ pub(crate) fn push_end_sides(
     beginning: &State,
     weight: u64,
 ) -> Result<(), AllocError> {
-    out.push_str("  at worst there are  ")?;
-    let there = push_extreme(out, fuel, beginning, false)?;
+    let there = push_worked(out, AT_WORST, fuel, Numbers::Least(beginning))?;
     write!(out, "\n  and asked for are   {weight}")?;
     push_verdict(out, there, i128::from(weight))
 }
@@ -184,10 +186,15 @@ pub(crate) fn push_budget_sides(
     fuel: &Fuel,
     beginning: &State,
 ) -> Result<(), AllocError> {
-    write!(
+    writeln!(
         out,
-        "  the budget is       {budget}\n  and asked for are   "
+        "\nas the function begins\n  the budget is       {budget}"
     )?;
-    let asked = push_extreme(out, fuel, beginning, true)?;
+    let asked = push_worked(
+        out,
+        "  and asked for are   ",
+        fuel,
+        Numbers::Greatest(beginning),
+    )?;
     push_verdict(out, i128::from(budget), asked)
 }

@@ -1,18 +1,15 @@
 use Rattle.std.proofs.Common.{arith}
 use Rattle.std.proofs.lemmas.Grind.{common_steps}
-use Rattle.sbx_worked.proofs.fuel.push_fuel.Goals as goal
+use Rattle.sbx_explain.proofs.fuel.push_fuel.Goals as goal
 
 pub after-there-requires : goal.after-there-requires
 after-there-requires c = assumption
 
+pub push_here-requires : goal.push_here-requires
+push_here-requires c = assumption
+
 pub start-requires-clause-keeps : goal.start-requires-clause-keeps
 start-requires-clause-keeps c = assumption
-
-pub push_strangers-requires : goal.push_strangers-requires
-push_strangers-requires c = assumption
-
-pub push_budget-requires : goal.push_budget-requires
-push_budget-requires c = assumption
 
 pub start-requires-clause-block : goal.start-requires-clause-block
 start-requires-clause-block c = assumption

@@ -14,7 +14,7 @@ use v8_meaning::{Exchange, Loading, MemoryOperand, Operation, Transfer, is_alway
 use v8_word::{Reg, Size};
 
 /// Registers by number.
-pub type Registers = ArrayVec<u8, 8>;
+pub(crate) type Registers = ArrayVec<u8, 8>;
 
 fn push(registers: &mut Registers, register: Reg)
     requires { array_vec_len registers.old < 8 }
@@ -91,7 +91,7 @@ fn push_service(registers: &mut Registers, service: Option<u32>)
 
 /// The registers that an operation of a function reads, but for forms of their own: SAVE, CALL, `ret`, `retl`, and frame words.
 #[tactic(auto, unfolding(sbx_rules::specs::Operations::reads_of))]
-pub fn registers_read(function: &Function, operation: &Operation) -> Registers
+pub(crate) fn registers_read(function: &Function, operation: &Operation) -> Registers
     ensures { result.items ≡ reads_of function.now operation.now }
 {
     let mut registers = Registers::new();
@@ -113,7 +113,7 @@ pub fn registers_read(function: &Function, operation: &Operation) -> Registers
 }
 
 /// The location of the frame word that an operation reads, if it reads one.
-pub fn frame_word_read(function: &Function, operation: &Operation) -> Option<u16>
+pub(crate) fn frame_word_read(function: &Function, operation: &Operation) -> Option<u16>
     ensures { result ≡ frame_word_read function.now operation.now }
 {
     match operation {
@@ -129,7 +129,7 @@ pub fn frame_word_read(function: &Function, operation: &Operation) -> Option<u16
 }
 
 /// Whether an operation reads the condition codes: ADDX, SUBX, MULScc and every branch but `ba`.
-pub fn reads_codes(operation: &Operation) -> bool
+pub(crate) fn reads_codes(operation: &Operation) -> bool
     ensures { result ≡ reads_codes operation.now }
 {
     match operation {
@@ -143,7 +143,7 @@ pub fn reads_codes(operation: &Operation) -> bool
 }
 
 /// Whether an operation reads Y: divisions, RDY and MULScc.
-pub fn reads_y(operation: &Operation) -> bool
+pub(crate) fn reads_y(operation: &Operation) -> bool
     ensures { result ≡ reads_y operation.now }
 {
     match operation {
