@@ -3,7 +3,7 @@ use Rattle.std.proofs.Common.{◌≡◌, ℕ, suc, ◌+◌, ◌*◌, ◌<◌, �
 use Rattle.std.specs.Prelude.{not, ◌&&◌, ◌||◌, nat_le, slice_get, if◌then◌else◌, nat_lt}
 use Rattle.std.specs.Result.{result_err}
 use Rattle.std.specs.List.{AllByRecursion, list_any, list_all}
-use Rattle.std.proofs.lemmas.Bool.{ltb-true}
+use Rattle.std.proofs.lemmas.Bool.{false≢true, ltb-true}
 use Rattle.std.proofs.lemmas.List.{append-nil, length-append}
 use Rattle.sbx_text.specs.declared.Token.{Token}
 use Rattle.sbx_image.specs.Region.{Region}
@@ -112,23 +112,29 @@ module _ (values : Values) where
   ahead_more : (before : List Item) (i : Item) (after : List Item) → is_region i ≡ false → ahead before (i ∷ after) ≡ bytes_at values before i [] ++ ahead (i ∷ before) after
   ahead_more before i after h = λ j. each (bytes_at values) before (if h j then [] else i ∷ up_to is_region after)
 
+  some_first : (n front rest : ℕ) → 0 < front → n ≡ front + rest → 0 < n
+  some_first n front rest some all = omega arith
+
+  some_later : (n front rest : ℕ) → 0 < rest → n ≡ front + rest → 0 < n
+  some_later n front rest some all = omega arith
+
   some_ahead : (after before : List Item) → AllByRecursion ItemCounts after → each (faults_at values) before after ≡ [] → list_any has_bytes (up_to leaves_region after) ≡ true → 0 < length (ahead before after)
-  some_ahead [] before says clean h = absurd (cc)
+  some_ahead [] before says clean h = absurd (false≢true h)
   some_ahead (i ∷ after) before says clean h = by (leaves_region i) (has_bytes i) refl refl h (some_ahead after (i ∷ before) says.1 (nil_right (faults_at values before i after) (each (faults_at values) (i ∷ before) after) clean))
     where
       by : (t u : Bool) → leaves_region i ≡ t → has_bytes i ≡ u → list_any has_bytes (if t then [] else i ∷ up_to leaves_region after) ≡ true
           → (list_any has_bytes (up_to leaves_region after) ≡ true → 0 < length (ahead (i ∷ before) after)) → 0 < length (ahead before (i ∷ after))
-      by true u e f k more = absurd (cc)
+      by true u e f k more = absurd (false≢true k)
       by false true e f k more =
           let mine = line_clean values before i after (nil_left (faults_at values before i after) (each (faults_at values) (i ∷ before) after) clean) in
           let count = length_is values before i.number i.labels i.bytes i.tokens i.said says.0 mine in
           let some = long i (data_offset before) i.said says.0 f in
           let all = ap length (ahead_more before i after (or_right (is_text i) (is_region i) e)) ∙ length-append (bytes_at values before i []) (ahead (i ∷ before) after) in
-          omega (arith, count, some, all)
+          some_first (length (ahead before (i ∷ after))) (length (bytes_at values before i [])) (length (ahead (i ∷ before) after)) (subst (λ (n : ℕ). 0 < n) (sym count) some) all
       by false false e f k more =
           let later = more (sym (ap (λ (t : Bool). t || list_any has_bytes (up_to leaves_region after)) f) ∙ k) in
           let all = ap length (ahead_more before i after (or_right (is_text i) (is_region i) e)) ∙ length-append (bytes_at values before i []) (ahead (i ∷ before) after) in
-          omega (arith, later, all)
+          some_later (length (ahead before (i ∷ after))) (length (bytes_at values before i [])) (length (ahead (i ∷ before) after)) later all
 
   region_has : (before : List Item) (i : Item) (after : List Item) → AllByRecursion ItemCounts after → each (faults_at values) before (i ∷ after) ≡ [] → is_region i ≡ true → 0 < length (ahead (i ∷ before) after)
   region_has before i after says clean e =

@@ -1,7 +1,7 @@
 -- The tokens of the lines of a source, as they are kept and as they are given out again.
 use Rattle.std.proofs.Common.{◌≡◌, ℕ, ◌+◌, ◌-◌, ◌≤◌, ◌<◌, List, [], ◌∷◌, ◌++◌, length, map, take, drop, Result, Ok, Err, refl, sym, ap, ◌∙◌, append_assoc, arith}
 use Rattle.std.specs.Prelude.{min}
-use Rattle.std.specs.List.{flat_map, enumerate_from}
+use Rattle.std.specs.List.{enumerate_from}
 use Rattle.std.specs.Result.{result_map_both, result_unwrap_or}
 use Rattle.std.proofs.Math.Seq.{take-append_seam, drop-append_seam}
 use Rattle.std.proofs.lemmas.List.{append-nil, nil_from_length, drop_all, length-append}
@@ -31,12 +31,6 @@ adds_tokens old new (Ok ts) n h is =
     let whole : old ++ ts ≡ new = cc h in
     let count : n ≡ length ts = omega (arith, length-append old ts, ap length whole) in
     (ap (λ (k : ℕ). Ok k) count, sym whole)
-
-pub adds_none : (old new cut : List Token) (read : Result (List Token) TextFault) (f : TextFault) → ((more : List Token) × (new ≡ old ++ more)) → cut ≡ take (length old) new → read ≡ Err f → IsRead read (Err f) old cut
-adds_none old new cut read f longer is h = (
-  sym (ap counted h),
-  is ∙ ap (take (length old)) longer.1 ∙ take-append_seam old longer.0 ∙ sym (append-nil old) ∙ sym (ap (λ (r : Result (List Token) TextFault). old ++ result_unwrap_or r []) h),
-)
 
 -- what the lines so far give, with what those of the rest do
 module _ {A : Type 0} (give : List (List ℕ) → List A) (old total : List A) (rest : List ℕ) (so_far : old ++ give (lines_of rest) ≡ total) where

@@ -4,8 +4,10 @@ mod Walks
 mod Tables
 mod Names
 mod Copies
+mod DataRegions
 mod Firsts
 mod Noting
+mod Contexts
 mod Wholes
 mod StatementWords
 mod Numbers

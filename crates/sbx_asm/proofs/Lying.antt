@@ -1,10 +1,10 @@
 -- Where the data of a source lie in its image: where its labels say.
-use Rattle.std.proofs.Common.{◌≡◌, ℕ, zero, suc, ◌+◌, ◌-◌, ◌*◌, ◌%◌, ◌<◌, ◌≤◌, Bool, true, false, cond, leb, List, [], ◌∷◌, ◌++◌, length, Option, None, Some, Ok, Err, refl, sym, ap, subst, ◌∙◌, append_assoc, arith}
+use Rattle.std.proofs.Common.{◌≡◌, ℕ, zero, suc, ◌+◌, ◌-◌, ◌*◌, ◌%◌, ◌<◌, ◌≤◌, Bool, true, false, cond, List, [], ◌∷◌, ◌++◌, length, Option, None, Some, Ok, Err, refl, sym, ap, subst, ◌∙◌, append_assoc, arith}
 use Rattle.std.specs.Prelude.{min, not, nat_le, nat_lt, slice_get, if◌then◌else◌}
 use Rattle.std.specs.List.{AllByRecursion}
 use Rattle.std.proofs.Math.Nat.{min-eq_left}
 use Rattle.std.specs.Result.{result_err}
-use Rattle.std.proofs.lemmas.Bool.{cond_both, le-leb, le-ltb, leb-true, leb-false}
+use Rattle.std.proofs.lemmas.Bool.{le-ltb, leb-true, leb-false}
 use Rattle.std.proofs.lemmas.List.{append-nil, length-append, length-replicate}
 use Rattle.std.proofs.lemmas.Option.{slice_get_past, slice_get_within}
 use Rattle.v8_map.specs.declared.TheConstants.{DATA_START}
@@ -197,13 +197,16 @@ module _ (values : Values) (before : List Item) (number : ℕ) (labels : List (L
   no_code true cs h = cons_nil h
   no_code false cs h = refl
 
+  nothing_at : {A : Type 0} (k b : ℕ) → slice_get {X = ℕ} [] k ≡ Some b → A
+  nothing_at k b h = absurd (cc)
+
   in_data : (s : Said) (k b : ℕ) → line_rules values before (it s) s ≡ [] → slice_get (bytes_at values before (it s) []) k ≡ Some b → in_code before ≡ false
   in_data (Ok (statements.Directive (directives.Values w n))) k b clean h = no_code (in_code before) _ (nil_left (data_rules before (bytes_of_width w * n)) (value_rules (result_err (data_of values bytes w tokens))) clean)
   in_data (Ok (statements.Directive (directives.Skip n))) k b clean h = no_code (in_code before) _ clean
   in_data (Ok (statements.Directive (directives.Align n))) k b clean h = no_code (in_code before) _ clean
-  in_data (Ok (statements.Directive _)) k b clean h = absurd (cc)
-  in_data (Ok _) k b clean h = absurd (cc)
-  in_data (Err f) k b clean h = absurd (cc)
+  in_data (Ok (statements.Directive _)) k b clean h = nothing_at k b h
+  in_data (Ok _) k b clean h = nothing_at k b h
+  in_data (Err f) k b clean h = nothing_at k b h
 
 -- ---- the newest region, with the bytes of some more lines, and the regions behind it
 

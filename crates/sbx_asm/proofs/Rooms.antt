@@ -1,8 +1,7 @@
 -- How far a section is filled, and where a region begins at the latest.
-use Rattle.std.proofs.Common.{◌≡◌, ℕ, ◌+◌, ◌*◌, Bool, true, false, ◌≤◌, List, [], ◌∷◌, sym, ap, ◌∙◌, arith}
+use Rattle.std.proofs.Common.{◌≡◌, ℕ, ◌+◌, Bool, true, false, ◌≤◌, List, [], ◌∷◌, sym, ap, ◌∙◌, arith}
 use Rattle.std.specs.Prelude.{if◌then◌else◌, min}
 use Rattle.std.proofs.Math.Nat.{min-eq_left}
-use Rattle.sbx_image.specs.Regions.{pages_for}
 use Rattle.sbx_asm.specs.Items.{Item, is_region}
 use Rattle.sbx_asm.specs.Addresses.{code_length, data_length, code_offset, section_room, start_behind, region_start, data_offset, in_code, label_address, code_address}
 use Rattle.sbx_asm.proofs.Views.{up_to_room, last_start, data_address}

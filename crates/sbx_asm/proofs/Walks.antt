@@ -1,7 +1,7 @@
 -- A loop that walks over lines: what it has gathered, and what is still to come.
-use Rattle.std.proofs.Common.{◌≡◌, ℕ, ◌+◌, ◌-◌, ◌<◌, Bool, List, ◌∷◌, ◌++◌, length, take, drop, get_or, Option, sym, ◌∙◌, append_assoc, arith}
-use Rattle.std.specs.List.{fold, list_any}
-use Rattle.std.proofs.lemmas.List.{length-drop, take_all, at_drop_more}
+use Rattle.std.proofs.Common.{◌≡◌, ℕ, ◌+◌, ◌-◌, ◌<◌, ◌≤◌, Bool, List, ◌∷◌, ◌++◌, length, take, drop, get_or, Option, sym, ◌∙◌, append_assoc, arith}
+use Rattle.std.specs.List.{fold, flat_map, list_any}
+use Rattle.std.proofs.lemmas.List.{append-nil, length-drop, take_all, at_drop_all, at_drop_more}
 use Rattle.std.proofs.lemmas.List.Sums.{fold-append}
 use Rattle.sbx_asm.specs.declared.fault.AsmFault.{AsmFault}
 use Rattle.sbx_asm.specs.Rules.{told}
@@ -14,8 +14,12 @@ found_in end test is = list_any test (up_to end is)
 -- ---- a loop over a slice, whose index is k
 
 -- what the rest gives, where a line comes first
-goes_on : {T : Type 0} (f : List Item → T) (total : T) (is : List Item) (k : ℕ) (i : Item) → k < length is → i ≡ get_or is k i → f (drop k is) ≡ total → f (i ∷ drop (k + 1) is) ≡ total
+pub goes_on : {T : Type 0} (f : List Item → T) (total : T) (is : List Item) (k : ℕ) (i : Item) → k < length is → i ≡ get_or is k i → f (drop k is) ≡ total → f (i ∷ drop (k + 1) is) ≡ total
 goes_on f total is k i h e so_far = (λ j. f (e j ∷ drop (k + 1) is)) ∙ sym (at_drop_more f is k i h) ∙ so_far
+
+-- what all lines give, behind the last one
+pub all_given : {A : Type 0} (f : Item → List A) (got total : List A) (is : List Item) (k : ℕ) → length is ≤ k → got ++ flat_map f (drop k is) ≡ total → got ≡ total
+all_given f got total is k h so_far = sym (append-nil got) ∙ sym (at_drop_all (λ (js : List Item). got ++ flat_map f js) is k h) ∙ so_far
 
 -- ---- what each line gives in its place
 

@@ -8,7 +8,6 @@ use Rattle.sbx_directives.specs.declared.directive.Directive.TheVariants as dire
 use Rattle.sbx_directives.specs.declared.directive.Statement.TheVariants as statements
 use Rattle.sbx_directives.specs.Directives.{text_of}
 use Rattle.sbx_directives.specs.Data.{bytes_of_width}
-use Rattle.sbx_asm.specs.declared.place.Place.{Place}
 use Rattle.sbx_asm.specs.Items.{Item, Said, each, is_text, is_data, is_region}
 
 -- ---- lengths, in bytes
@@ -65,10 +64,6 @@ in_code (i ∷ before) = if is_text i then true else (if is_data i || is_region 
 -- where the next line's labels point: behind the code, or the data of the newest region
 abbrev pub label_address : List Item → ℕ
 label_address before = if in_code before then code_address before else region_start before + data_offset before
-
--- the place of a line behind some others, the nearest first
-abbrev pub place_at : List Item → Place
-place_at before = record { in_code = in_code before; next_word = code_address before; region_start = region_start before; region_bytes = data_offset before }
 
 -- ---- labels
 

@@ -7,17 +7,22 @@ use Rattle.sbx_image.specs.Region.{Region}
 use Rattle.sbx_asm.specs.declared.data.Data.{Data}
 use Rattle.sbx_asm.specs.declared.table.Table.{Table}
 use Rattle.sbx_asm.specs.declared.notes.Notes.{Notes}
+use Rattle.sbx_asm.specs.declared.place.Place.{Place}
 use Rattle.sbx_asm.specs.declared.context.Locations.{Locations}
 use Rattle.sbx_asm.specs.declared.context.Context.{Context}
 use Rattle.sbx_asm.specs.declared.survey.Survey.{Survey}
 use Rattle.sbx_asm.specs.Items.{Item, Cell, Term, each, up_to, count, starts_function, ends_function, is_block, ends_block, is_data, is_region, in_function, block_count, services, stacks, params, results, depths, cells, terms, has}
-use Rattle.sbx_asm.specs.Addresses.{Label, place_at, worth_in}
+use Rattle.sbx_asm.specs.Addresses.{Label, in_code, code_address, region_start, data_offset, worth_in}
 use Rattle.sbx_asm.specs.Rules.{Cause, Values, at, told, duplicates, acts, has_fuel}
 use Rattle.sbx_asm.specs.Images.{filled, region_with, bytes_at, region_at}
 
 -- what a name is worth in a table
 abbrev pub worth : Table → Values
 worth t name = get_by (λ k. bytes_eq name k.now) t.entries
+
+-- the place of a line behind some others, the nearest first
+abbrev pub place_at : List Item → Place
+place_at before = record { in_code = in_code before; next_word = code_address before; region_start = region_start before; region_bytes = data_offset before }
 
 -- a survey of some labels has the worth of each, and the fault that is told of those that stand twice
 abbrev pub IsSurvey : List Label → Survey → Type 0

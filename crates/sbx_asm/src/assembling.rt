@@ -1,15 +1,32 @@
 //! The image that a source means.
-ghost use Rattle.std.specs.Prelude.{◌≡◌};
+ghost use Rattle.std.specs.Prelude.{◌≡◌, ℕ, List};
+ghost use Rattle.sbx_asm.specs.Items.{items_of};
 ghost use Rattle.sbx_asm.specs.Images.{source_image, Gives};
 
 use crate::checking::check;
 use crate::fault::AsmFault;
 use crate::finish::judged;
 use crate::parts::parts_of;
+use crate::reading::Line;
 use crate::survey::survey_lines;
 use crate::text::Text;
 use sbx_image::Image;
 use std::alloc::Global;
+
+/// The image that lines of a source mean.
+fn image_of(alloc: Global, lines: &[Line<'_>]) -> Result<Image, AsmFault>
+    ensures { (source : List ℕ) → lines.now ≡ items_of source → Gives result (source_image source) }
+{
+    let survey = survey_lines(alloc, lines)?;
+    let checked = check(alloc, &survey.table, survey.fault, lines)?;
+    match checked.fault {
+        Some(fault) => Err(fault),
+        None => {
+            let parts = parts_of(alloc, &survey.table, checked.words, lines)?;
+            judged(lines.len() + 1, parts)
+        }
+    }
+}
 
 /// The image that a source means.
 ///
@@ -20,15 +37,6 @@ pub fn assemble(alloc: Global, source: &[u8]) -> Result<Image, AsmFault>
     ensures exact { Gives result (source_image source.now) }
 {
     let text = Text::read(alloc, source)?;
-    let read = text.lines(alloc)?;
-    let lines = read.as_slice();
-    let survey = survey_lines(alloc, lines)?;
-    let checked = check(alloc, &survey.table, survey.fault, lines)?;
-    match checked.fault {
-        Some(fault) => Err(fault),
-        None => {
-            let parts = parts_of(alloc, &survey.table, checked.words, lines)?;
-            judged(lines.len() + 1, parts)
-        }
-    }
+    let lines = text.lines(alloc)?;
+    image_of(alloc, lines.as_slice())
 }

@@ -41,18 +41,18 @@ fn have_bytes(lines: &[Line<'_>]) -> bool
 }
 
 /// Whether a line acts in some lines, up to the end of the block.
-fn any_acts(alloc: Global, table: &Table<'_>, lines: &[Line<'_>]) -> Result<bool, AllocError>
-    ensures { IfOk result (λ found. found ≡ list_any (acts (worth table.now)) (up_to ends_block lines.now)) }
+fn any_acts(table: &Table<'_>, lines: &[Line<'_>]) -> bool
+    ensures { result ≡ list_any (acts (worth table.now)) (up_to ends_block lines.now) }
 {
     for line in lines {
         if ends_block(line) {
-            return Ok(false);
+            return false;
         }
-        if acts(line, value_fault(alloc, table, line)?) {
-            return Ok(true);
+        if acts(line, value_fault(table, line)) {
+            return true;
         }
     }
-    Ok(false)
+    false
 }
 
 /// Whether a line begins a region without bytes.
@@ -63,23 +63,16 @@ fn is_empty_region(line: &Line<'_>, behind: &[Line<'_>]) -> bool
 }
 
 /// Whether a line begins a block in which no line acts.
-fn is_idle_block(
-    alloc: Global,
-    table: &Table<'_>,
-    context: Context,
-    line: &Line<'_>,
-    behind: &[Line<'_>],
-) -> Result<bool, AllocError>
-    ensures { IfOk result (λ idle. (before : List Item) → context ≡ context_at (worth table.now) before → idle ≡ (begins_block before line.now && not (list_any (acts (worth table.now)) (up_to ends_block behind.now)))) }
+fn is_idle_block(table: &Table<'_>, context: Context, line: &Line<'_>, behind: &[Line<'_>]) -> bool
+    ensures { (before : List Item) → context ≡ context_at (worth table.now) before → result ≡ (begins_block before line.now && not (list_any (acts (worth table.now)) (up_to ends_block behind.now))) }
 {
-    Ok(context.begins_block(line) && !any_acts(alloc, table, behind)?)
+    context.begins_block(line) && !any_acts(table, behind)
 }
 
 impl Checked {
     /// One more line, in front of others, and whether it acts.
     fn add_line(
         &mut self,
-        alloc: Global,
         table: &Table<'_>,
         context: Context,
         line: &Line<'_>,
@@ -90,11 +83,11 @@ impl Checked {
             × (self.new.fault ≡ fold told self.old.fault (faults_at (worth table.now) before line.now behind.now))
             × (self.new.words.items ≡ self.old.words.items ++ words_at (worth table.now) before line.now behind.now)) }
     {
-        let value_fault = value_fault(alloc, table, line)?;
         let here = context.place.next_word;
-        let syntax_fault = push_words(&mut self.words, alloc, table, here, line)?;
+        let syntax_fault = push_words(&mut self.words, table, here, line)?;
+        let value_fault = value_fault(table, line);
         let is_empty = is_empty_region(line, behind);
-        let is_idle = is_idle_block(alloc, table, context, line, behind)?;
+        let is_idle = is_idle_block(table, context, line, behind);
         let notes = Notes {
             line: line.number(),
             fault: self.fault,
@@ -124,7 +117,7 @@ pub fn check(
     };
     let mut context = Context::start();
     for (at, line) in lines.iter().enumerate() {
-        let is_acting = checked.add_line(alloc, table, context, line, &lines[at + 1..])?;
+        let is_acting = checked.add_line(table, context, line, &lines[at + 1..])?;
         context = context.after(line, is_acting);
     }
     Ok(checked)

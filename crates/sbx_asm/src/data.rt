@@ -1,8 +1,7 @@
 //! The data of lines without faults.
 ghost use Rattle.std.specs.Prelude.{◌≡◌, ◌++◌, [], ◌∷◌, List, IfOk, replicate};
-ghost use Rattle.sbx_asm.specs.Kept.{worth, regions_with};
+ghost use Rattle.sbx_asm.specs.Kept.{worth, place_at, regions_with};
 ghost use Rattle.sbx_asm.specs.Items.{Item};
-ghost use Rattle.sbx_asm.specs.Addresses.{place_at};
 ghost use Rattle.sbx_asm.specs.Images.{filled, region_with, regions_of};
 
 use crate::operands::push_line_values;
@@ -23,7 +22,6 @@ pub struct Data {
 }
 
 /// Adds so many zeros.
-#[tactic(auto, using(crate::proofs::Copies::one_more))]
 fn push_zeros(bytes: &mut Vec<u8>, count: u64) -> Result<(), AllocError>
     ensures { IfOk result (λ _. bytes.new.items ≡ bytes.old.items ++ replicate count 0) }
 {
@@ -63,22 +61,20 @@ impl Data {
     {
         match line.said() {
             Ok(Statement::Directive(Directive::Values(width, _))) => {
-                push_line_values(&mut self.bytes, table, width, line)?;
+                push_line_values(&mut self.bytes, table, width, line)
             }
-            Ok(Statement::Directive(Directive::Skip(count))) => {
-                push_zeros(&mut self.bytes, count)?;
-            }
+            Ok(Statement::Directive(Directive::Skip(count))) => push_zeros(&mut self.bytes, count),
             Ok(Statement::Directive(Directive::Align(unit))) => {
                 let count = padding(unit, place.region_bytes);
-                push_zeros(&mut self.bytes, u64::from(count))?;
+                push_zeros(&mut self.bytes, u64::from(count))
             }
             Ok(Statement::Directive(Directive::Region { writable })) => {
                 self.end_region(alloc)?;
                 self.writable = writable;
+                Ok(())
             }
-            _ => {}
+            _ => Ok(()),
         }
-        Ok(())
     }
 }
 

@@ -1,5 +1,5 @@
 //! The image of parts, or why they are none.
-ghost use Rattle.std.specs.Prelude.{◌≡◌, ◌%◌, ◌-◌, length, nat_lt, None};
+ghost use Rattle.std.specs.Prelude.{◌≡◌, length, nat_lt, None};
 ghost use Rattle.sbx_image.specs.Regions.{page_rights};
 ghost use Rattle.sbx_asm.specs.Images.{judged, whole_cause};
 

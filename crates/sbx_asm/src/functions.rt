@@ -1,7 +1,8 @@
 //! The functions of lines without faults, each of its own lines.
 ghost use Rattle.std.specs.Prelude.{◌≡◌, ◌++◌, [], ◌∷◌, List, IfOk};
 ghost use Rattle.sbx_asm.specs.Items.{Item, each, up_to, ends_block};
-ghost use Rattle.sbx_asm.specs.Addresses.{code_address, place_at};
+ghost use Rattle.sbx_asm.specs.Addresses.{code_address};
+ghost use Rattle.sbx_asm.specs.Kept.{place_at};
 ghost use Rattle.sbx_asm.specs.Images.{block_with, block_at, function_at};
 
 use crate::annotations::{block_with, signature_of};
@@ -12,8 +13,21 @@ use sbx_directives::{Directive, Statement};
 use sbx_image::{Block, Function, Items};
 use std::alloc::{AllocError, Global};
 
-/// Adds the block that a line begins at a place, if it is a `.block`.
+/// Adds the block that begins at an address and has the next lines.
 fn push_block(
+    blocks: &mut Vec<Block>,
+    alloc: Global,
+    address: u32,
+    after: &[Line<'_>],
+) -> Result<(), AllocError>
+    ensures { IfOk result (λ _. blocks.new.items ≡ blocks.old.items ++ block_with address (up_to ends_block after.now) ∷ []) }
+{
+    blocks.push(block_with(alloc, address, up_to_block(after))?)?;
+    Ok(())
+}
+
+/// Adds the block that a line begins at a place, if it is a `.block`.
+fn push_named_block(
     blocks: &mut Vec<Block>,
     alloc: Global,
     line: &Line<'_>,
@@ -23,9 +37,10 @@ fn push_block(
     ensures { IfOk result (λ _. (before : List Item) → place ≡ place_at before → blocks.new.items ≡ blocks.old.items ++ block_at before line.now after.now) }
 {
     if let Ok(Statement::Directive(Directive::Block(_))) = line.said() {
-        blocks.push(block_with(alloc, place.next_word, up_to_block(after))?)?;
+        push_block(blocks, alloc, place.next_word, after)
+    } else {
+        Ok(())
     }
-    Ok(())
 }
 
 /// The blocks of a function, which begins with a line at a place and has some more: the first begins with the function.
@@ -38,10 +53,10 @@ fn blocks_of(
     ensures { IfOk result (λ blocks. (before : List Item) → place ≡ place_at before → blocks ≡ block_with (code_address before) (up_to ends_block own.now) ∷ each block_at (first.now ∷ before) own.now) }
 {
     let mut blocks = Vec::new(alloc);
-    blocks.push(block_with(alloc, place.next_word, up_to_block(own))?)?;
+    push_block(&mut blocks, alloc, place.next_word, own)?;
     let mut here = place.after(first);
     for (at, line) in own.iter().enumerate() {
-        push_block(&mut blocks, alloc, line, here, &own[at + 1..])?;
+        push_named_block(&mut blocks, alloc, line, here, &own[at + 1..])?;
         here = here.after(line);
     }
     Ok(Items::new(blocks))
@@ -70,6 +85,7 @@ fn push_function(
     ) = line.said()
     {
         let own = up_to_function(after);
+        let blocks = blocks_of(alloc, line, place, own)?;
         let signature = signature_of(alloc, own)?;
         functions.push(Function {
             kind,
@@ -80,7 +96,7 @@ fn push_function(
             stack_room,
             budget,
             depth: signature.depth,
-            blocks: blocks_of(alloc, line, place, own)?,
+            blocks,
         })?;
     }
     Ok(())

@@ -1,6 +1,6 @@
 //! What the operands of a line mean.
 ghost use Rattle.std.specs.Prelude.{◌≡◌, ◌++◌, [], IfOk, List, map};
-ghost use Rattle.std.specs.Result.{result_err, result_unwrap_or};
+ghost use Rattle.std.specs.Result.{result_unwrap_or};
 ghost use Rattle.v8_formats.specs.Spelling.{spelling};
 ghost use Rattle.sbx_directives.specs.Data.{data_of};
 ghost use Rattle.sbx_asm.specs.Items.{Item};
@@ -13,42 +13,37 @@ use crate::reading::Line;
 use crate::scope::Scope;
 use crate::table::Table;
 use sbx_directives::{DataFault, Directive, Statement, Width, push_values};
-use std::alloc::{AllocError, Global};
+use std::alloc::AllocError;
 use v8_formats::{Instr, encode};
 use v8_syntax::{SyntaxFault, parse_instr};
 
-/// Adds the bytes of a line's values of a width, or tells why they have none.
+/// Adds the bytes of a line's values of a width, none where these have a fault.
 pub fn push_line_values(
     bytes: &mut Vec<u8>,
     table: &Table<'_>,
     width: Width,
     line: &Line<'_>,
-) -> Result<Option<DataFault>, AllocError>
-    ensures fault { IfOk result (λ fault. fault ≡ result_err (data_of (worth table.now) line.now.bytes width line.now.tokens)) }
-    ensures bytes { IfOk result (λ _. bytes.new.items ≡ bytes.old.items ++ result_unwrap_or (data_of (worth table.now) line.now.bytes width line.now.tokens) []) }
+) -> Result<(), AllocError>
+    ensures { IfOk result (λ _. bytes.new.items ≡ bytes.old.items ++ result_unwrap_or (data_of (worth table.now) line.now.bytes width line.now.tokens) []) }
 {
     let scope = Scope { table, here: 0 };
     match push_values(width, &scope, line.bytes(), line.tokens(), bytes) {
-        Ok(()) => Ok(None),
+        Ok(()) => Ok(()),
         Err(DataFault::Memory(want)) => Err(AllocError::from(want)),
-        Err(fault) => Ok(Some(fault)),
+        Err(_) => Ok(()),
     }
 }
 
 /// Why the values of a line have no bytes, where it has values and they have none.
-pub fn value_fault(
-    alloc: Global,
-    table: &Table<'_>,
-    line: &Line<'_>,
-) -> Result<Option<DataFault>, AllocError>
-    ensures { IfOk result (λ fault. fault ≡ value_fault_of (worth table.now) line.now) }
+pub fn value_fault(table: &Table<'_>, line: &Line<'_>) -> Option<DataFault>
+    ensures { result ≡ value_fault_of (worth table.now) line.now }
 {
     match line.said() {
         Ok(Statement::Directive(Directive::Values(width, _))) => {
-            let mut bytes = Vec::new(alloc);
-            push_line_values(&mut bytes, table, width, line)
+            let scope = Scope { table, here: 0 };
+            sbx_directives::value_fault(width, &scope, line.bytes(), line.tokens())
         }
-        _ => Ok(None),
+        _ => None,
     }
 }
 
@@ -73,7 +68,6 @@ fn push_spelled(words: &mut Vec<u32>, instructions: &[Instr]) -> Result<(), Allo
 /// Adds the words of a line at an address, if it is an instruction, or tells why it has none.
 pub fn push_words(
     words: &mut Vec<u32>,
-    alloc: Global,
     table: &Table<'_>,
     here: u32,
     line: &Line<'_>,

@@ -1,14 +1,14 @@
 //! Places of a source: how far the code and the data have come.
 ghost use Rattle.std.specs.Prelude.{◌≡◌, ◌+◌, ◌-◌, ◌*◌, ◌≤◌, min, nat_le, List, [], ◌∷◌};
 ghost use Rattle.sbx_directives.specs.Data.{bytes_of_width};
-ghost use Rattle.sbx_image.specs.Regions.{pages_for};
 ghost use Rattle.sbx_asm.specs.Items.{Item};
-ghost use Rattle.sbx_asm.specs.Addresses.{code_offset, data_offset, data_length, in_code, label_address, padding_of, place_at, section_room, start_behind};
+ghost use Rattle.sbx_asm.specs.Addresses.{code_offset, data_offset, data_length, in_code, label_address, padding_of, section_room, start_behind};
+ghost use Rattle.sbx_asm.specs.Kept.{place_at};
 
 use crate::kinds::{is_data, is_region, is_text};
 use crate::reading::Line;
 use sbx_directives::{Directive, Statement, Width, byte_len};
-use v8_map::{CODE_END, CODE_START, DATA_START};
+use v8_map::{CODE_START, DATA_START};
 
 /// The bytes that a section has room for, as the code, the data or a region of them.
 pub const ROOM: u32 = 0x40000;

@@ -144,15 +144,14 @@ impl<'a> Line<'a> {
         behind_labels(self.tokens, self.label_count)
     }
 
-    /// How many bytes of code its instruction takes.
-    pub fn code_len(&self) -> u128
-        ensures { result ≡ 4 * statement_length self.now.bytes self.now.tokens }
+    /// How many words an instruction behind its labels takes.
+    fn word_count(&self) -> usize
+        ensures { result ≡ statement_length self.now.bytes self.now.tokens }
     {
-        let words = match &self.told {
+        match &self.told {
             Told::Instruction(words) => *words,
             _ => length_of(self.bytes, self.tokens()),
-        };
-        4 * words as u128
+        }
     }
 
     /// How many bytes of code the line takes.
@@ -160,7 +159,7 @@ impl<'a> Line<'a> {
         ensures { result ≡ code_length self.now }
     {
         match self.said() {
-            Ok(Statement::Instruction) => self.code_len(),
+            Ok(Statement::Instruction) => 4 * self.word_count() as u128,
             Err(_) => 4,
             _ => 0,
         }

@@ -215,7 +215,7 @@ impl Context {
             }
             Ok(Statement::Malformed(keyword, _)) => self.malformed_rules(notes, keyword),
             Ok(Statement::Instruction) => {
-                self.instruction_rules(notes, line.code_len(), syntax_fault)
+                self.instruction_rules(notes, line.code_length(), syntax_fault)
             }
         }
     }

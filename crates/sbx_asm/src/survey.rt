@@ -2,8 +2,8 @@
 ghost use Rattle.std.specs.Prelude.{◌≡◌, IfOk, List, MatchOption, None, [], ◌∷◌, ◌++◌, map};
 ghost use Rattle.sbx_directives.specs.Directives.{text_of};
 ghost use Rattle.sbx_asm.specs.Items.{Item, each, label_names};
-ghost use Rattle.sbx_asm.specs.Addresses.{Label, labelled, labels_at, names_said, place_at};
-ghost use Rattle.sbx_asm.specs.Kept.{IsSurvey};
+ghost use Rattle.sbx_asm.specs.Addresses.{Label, labelled, labels_at, names_said};
+ghost use Rattle.sbx_asm.specs.Kept.{IsSurvey, place_at};
 
 use crate::fault::{AsmFault, Cause, told};
 use crate::place::Place;

@@ -3,3 +3,4 @@ pub mod Dots
 pub mod Groups
 pub mod Counts
 pub mod Appending
+pub mod Misfits

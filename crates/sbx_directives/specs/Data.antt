@@ -43,7 +43,11 @@ module _ (values : List ℕ → Option ℕ) (line : List ℕ) where
   abbrev pub bytes_of : Width → Operand → List ℕ
   bytes_of width o = option_map_or (spelled width) (value_of o) []
 
-  -- an unknown symbol anywhere is told before a value that does not fit
+  -- why expressions have no bytes, where they have none: an unknown symbol anywhere is told before a value that does not fit
+  abbrev pub misfit : Width → List Operand → Option DataFault
+  misfit width os =
+      if not (list_all is_known os) then Some DataFault.UnknownSymbol else (if not (list_all (is_fit width) os) then Some DataFault.Malformed else None)
+
   unfoldable pub listed : Width → List Operand → Result (List ℕ) DataFault
   listed width os =
       if is_none (value_count os) then Err DataFault.Malformed

@@ -14,4 +14,4 @@ pub use directive::{Directive, Keyword, Name, Statement, Width, text_of};
 pub use fault::DataFault;
 pub use label::label_count;
 pub use statement::read_statement;
-pub use values::{byte_len, push_values};
+pub use values::{byte_len, push_values, value_fault};

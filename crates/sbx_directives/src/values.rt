@@ -2,8 +2,9 @@
 ghost use Rattle.std.specs.Prelude.{◌≡◌, ◌++◌, ℕ, List, Option, pos, negsuc, ◌+ℤ◌, ◌≤ℤ◌, length, take, OnOk, OnErr, true};
 ghost use Rattle.std.specs.List.{flat_map, list_all};
 ghost use Rattle.std.specs.Option.{option_map};
+ghost use Rattle.std.specs.Result.{result_err};
 ghost use Rattle.sbx_directives.specs.Directives.{behind};
-ghost use Rattle.sbx_directives.specs.Data.{bytes_of_width, fits, spelled, value_of, is_known, is_fit, bytes_of, listed, data_of, Gives};
+ghost use Rattle.sbx_directives.specs.Data.{bytes_of_width, fits, spelled, value_of, is_fit, bytes_of, misfit, data_of, Gives};
 
 use crate::directive::{Width, text_of};
 use crate::fault::DataFault;
@@ -61,42 +62,40 @@ fn value_of<S: Symbols>(symbols: &S, line: &[u8], operand: Operand) -> Option<i1
     }
 }
 
-fn is_known<S: Symbols>(symbols: &S, line: &[u8], operand: Operand) -> bool
-    ensures { result ≡ is_known (S.values symbols.now) line.now operand }
+/// Why the values behind a first token have no bytes, where they are expressions: one is unknown, or else one does not fit.
+fn misfit<S: Symbols>(width: Width, symbols: &S, line: &[u8], tokens: &[Token]) -> Option<DataFault>
+    ensures { result ≡ misfit (S.values symbols.now) line.now width (behind line.now tokens.now) }
 {
-    value_of(symbols, line, operand).is_some()
-}
-
-fn is_fit<S: Symbols>(symbols: &S, line: &[u8], width: Width, operand: Operand) -> bool
-    ensures { result ≡ is_fit (S.values symbols.now) line.now width operand }
-{
-    value_of(symbols, line, operand).is_some_and(|value| fits(width, value))
-}
-
-fn are_known<S: Symbols>(symbols: &S, line: &[u8], tokens: &[Token]) -> bool
-    ensures { result ≡ list_all (is_known (S.values symbols.now) line.now) (behind line.now tokens.now) }
-{
+    let mut fault = None;
     let mut rest = tokens;
     while let Some((operand, after)) = next_operand(line, rest) {
-        if !is_known(symbols, line, operand) {
-            return false;
+        match value_of(symbols, line, operand) {
+            None => return Some(DataFault::UnknownSymbol),
+            Some(value) if fits(width, value) => {}
+            Some(_) => fault = Some(DataFault::Malformed),
         }
         rest = after;
     }
-    true
+    fault
 }
 
-fn are_fit<S: Symbols>(symbols: &S, line: &[u8], width: Width, tokens: &[Token]) -> bool
-    ensures { result ≡ list_all (is_fit (S.values symbols.now) line.now width) (behind line.now tokens.now) }
+/// Why the values of a data directive have no bytes, where they have none. `tokens` begin with the directive's name.
+///
+/// `Malformed` where they are no list of expressions; else `UnknownSymbol`; else `Malformed` where a value does not fit.
+#[tactic(auto, unfolding(crate::specs::Data::listed))]
+pub fn value_fault<S: Symbols>(
+    width: Width,
+    symbols: &S,
+    line: &[u8],
+    tokens: &[Token],
+) -> Option<DataFault>
+    ensures { result ≡ result_err (data_of (S.values symbols.now) line.now width tokens.now) }
 {
-    let mut rest = tokens;
-    while let Some((operand, after)) = next_operand(line, rest) {
-        if !is_fit(symbols, line, width, operand) {
-            return false;
-        }
-        rest = after;
+    let values = operands(tokens);
+    match value_count(line, values) {
+        Some(_) => misfit(width, symbols, line, values),
+        None => Some(DataFault::Malformed),
     }
-    true
 }
 
 fn push_spelled(width: Width, value: i128, out: &mut Vec<u8>) -> Result<(), AllocError>
@@ -154,7 +153,6 @@ fn push_all<S: Symbols>(
 /// # Errors
 /// `Malformed` where they are no list of expressions; else `UnknownSymbol`; else `Malformed` where a value does not fit. `Memory`
 /// may come in the place of any answer. After an error `out` is as before.
-#[tactic(auto, unfolding(crate::specs::Data::listed))]
 pub fn push_values<S: Symbols>(
     width: Width,
     symbols: &S,
@@ -164,18 +162,11 @@ pub fn push_values<S: Symbols>(
 ) -> Result<(), DataFault>
     ensures { Gives result out.old.items out.new.items (data_of (S.values symbols.now) line.now width tokens.now) }
 {
-    let values = operands(tokens);
-    if value_count(line, values).is_none() {
-        return Err(DataFault::Malformed);
-    }
-    if !are_known(symbols, line, values) {
-        return Err(DataFault::UnknownSymbol);
-    }
-    if !are_fit(symbols, line, width, values) {
-        return Err(DataFault::Malformed);
+    if let Some(fault) = value_fault(width, symbols, line, tokens) {
+        return Err(fault);
     }
     let before = out.len();
-    match push_all(width, symbols, line, values, out) {
+    match push_all(width, symbols, line, operands(tokens), out) {
         Ok(()) => Ok(()),
         Err(error) => {
             out.truncate(before);

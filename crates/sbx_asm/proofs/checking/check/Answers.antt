@@ -1,4 +1,5 @@
-use Rattle.std.proofs.Common.{ℕ, ◌+◌, List, [], ◌∷◌, ◌++◌, refl, ap}
+use Rattle.std.proofs.Common.{ℕ, ◌+◌, List, [], ◌∷◌, ◌++◌, refl, ap, arith}
+use Rattle.std.proofs.lemmas.Grind.{common_steps}
 use Rattle.std.specs.List.{fold}
 use Rattle.sbx_asm.specs.Rules.{told, Values, faults_at}
 use Rattle.sbx_asm.specs.Items.{Item, each}
@@ -30,3 +31,6 @@ loop-at-preserved c =
       faults = told_more (faults_at values) c.loop-at.checked.fault c.add_line.new.self.fault (fold told c.args.told_before (each (faults_at values) [] lines)) so_far.before lines k i _ c.loop-at-test.true c.index-lines-at.is rest own.1 so_far.faults;
       words = one_more (words_at values) c.loop-at.checked.words.items c.add_line.new.self.words.items (each (words_at values) [] lines) so_far.before lines k i _ c.loop-at-test.true c.index-lines-at.is rest own.2 so_far.words;
     }
+
+pub returns : goal.returns
+returns c = grind (arith, common_steps)

@@ -1,7 +1,6 @@
 use Rattle.std.proofs.Common.{◌≡◌, List, drop}
-use Rattle.sbx_asm.specs.Kept.{worth, regions_with}
+use Rattle.sbx_asm.specs.Kept.{worth, place_at, regions_with}
 use Rattle.sbx_asm.specs.Items.{Item}
-use Rattle.sbx_asm.specs.Addresses.{place_at}
 use Rattle.sbx_asm.specs.Images.{regions_of}
 use Rattle.sbx_asm.proofs.data.regions_of.Given as goal
 

@@ -1,6 +1,7 @@
 use Rattle.std.proofs.Common.{◌≡◌, List, ◌∷◌, ◌++◌, drop}
 use Rattle.sbx_asm.specs.Items.{Item, each, up_to, ends_block}
-use Rattle.sbx_asm.specs.Addresses.{code_address, place_at}
+use Rattle.sbx_asm.specs.Addresses.{code_address}
+use Rattle.sbx_asm.specs.Kept.{place_at}
 use Rattle.sbx_asm.specs.Images.{block_with, block_at}
 use Rattle.sbx_asm.proofs.functions.blocks_of.Given as goal
 

@@ -1,6 +1,6 @@
 use Rattle.std.proofs.Common.{◌≡◌, List, [], ◌++◌, drop}
 use Rattle.sbx_asm.specs.Items.{Item, each}
-use Rattle.sbx_asm.specs.Addresses.{place_at}
+use Rattle.sbx_asm.specs.Kept.{place_at}
 use Rattle.sbx_asm.specs.Images.{function_at}
 use Rattle.sbx_asm.proofs.functions.functions_of.Given as goal
 

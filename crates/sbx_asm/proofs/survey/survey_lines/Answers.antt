@@ -1,8 +1,9 @@
-use Rattle.std.proofs.Common.{List, [], take, ap, subst, ◌∙◌}
+use Rattle.std.proofs.Common.{List, [], take, ap, subst, ◌∙◌, arith}
+use Rattle.std.proofs.lemmas.Grind.{common_steps}
 use Rattle.sbx_asm.specs.Items.{Item, each}
 use Rattle.sbx_asm.proofs.Views.{behind}
-use Rattle.sbx_asm.specs.Addresses.{Label, labels_at, place_at}
-use Rattle.sbx_asm.specs.Kept.{IsSurvey}
+use Rattle.sbx_asm.specs.Addresses.{Label, labels_at}
+use Rattle.sbx_asm.specs.Kept.{IsSurvey, place_at}
 use Rattle.sbx_asm.proofs.Surveys.{behind_more, labels_more}
 use Rattle.sbx_asm.proofs.survey.survey_lines.Goals as goal
 
@@ -15,3 +16,6 @@ loop-line-preserved c =
       found = subst (λ (ls : List Label). IsSurvey ls c.add_line.new.self) (labels_more c.args.lines.now c.loop-line.line-index c.line-item.result c.loop-line-test.true c.line-item.is)
           (c.in_ok-add_line.ensures labels before c.loop-line.invariant.stands c.loop-line.invariant.found);
     }
+
+pub returns : goal.returns
+returns c = grind (arith, common_steps)

@@ -1,8 +1,8 @@
 use Rattle.std.proofs.Common.{◌≡◌, [], take}
 use Rattle.sbx_asm.specs.Items.{each}
 use Rattle.sbx_asm.proofs.Views.{behind}
-use Rattle.sbx_asm.specs.Addresses.{labels_at, place_at}
-use Rattle.sbx_asm.specs.Kept.{IsSurvey}
+use Rattle.sbx_asm.specs.Addresses.{labels_at}
+use Rattle.sbx_asm.specs.Kept.{IsSurvey, place_at}
 use Rattle.sbx_asm.proofs.survey.survey_lines.Given as goal
 
 abbrev pub invariant-loop-line : goal.invariant-loop-line
