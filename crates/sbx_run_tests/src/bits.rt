@@ -17,10 +17,9 @@ const HELLO: [u8; 86] = [
 /// The bytes with one bit turned: of each byte the greatest one comes first.
 fn turned(bit: usize) -> [u8; 86] {
     let mut bytes = HELLO;
-    for (place, byte) in bytes.iter_mut().enumerate() {
-        if place == bit / 8 {
-            *byte ^= 0x80u8 >> (bit % 8);
-        }
+    let place = bit / 8;
+    if place < bytes.len() {
+        bytes[place] ^= 0x80u8 >> (bit % 8);
     }
     bytes
 }
@@ -116,7 +115,7 @@ fn services_have_three_bits(rt: HostRuntime) {
     for bit in 48..61usize {
         assert!(rt; !is_image(rt.alloc(), bit), "{bit}");
     }
-    for (bit, undeclared) in SERVICES {
-        assert!(rt; is_image_that_calls(rt.alloc(), bit, undeclared), "{bit}");
+    for (bit, undeclared) in &SERVICES {
+        assert!(rt; is_image_that_calls(rt.alloc(), *bit, *undeclared), "{bit}");
     }
 }

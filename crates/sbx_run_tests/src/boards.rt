@@ -99,11 +99,16 @@ static REGISTERS: [(u8, u32); 4] = [
 /// Words of RAM after the chain's run: the first function's %fp and the second one's %i7, as they were spilled.
 static SPILLED: [(u64, u32); 2] = [(0x9_FF98, 0x000F_FFC0), (0x9_FF3C, 0x0004_0004)];
 
+fn has_register(board: &Board<4, SlicePort<'_>>, number: u8, word: u32) -> bool {
+    match Reg::new(number) {
+        Some(register) => board.reg(register) == word,
+        None => false,
+    }
+}
+
 fn has_registers(board: &Board<4, SlicePort<'_>>) -> bool {
-    for (number, word) in REGISTERS {
-        if let Some(register) = Reg::new(number)
-            && board.reg(register) != word
-        {
+    for (number, word) in &REGISTERS {
+        if !has_register(board, *number, *word) {
             return false;
         }
     }

@@ -2,13 +2,11 @@
 use crate::calls::judged;
 use crate::runs::{CHAINED, ECHOES, Row, accepted_of, runs_everywhere};
 use crate::verdicts::is_shown;
-use sbx_image::{Image, Items, Parts};
+use sbx_image::{Function, Image, Items, Parts};
 use std::alloc::Global;
 
-/// The parts of an image in version 3: from the second function on the depths fall by one each, from a number that the first would have.
-fn deepened(image: Image, first: u16, deepest: u16) -> Parts {
-    let mut parts = image.into_parts();
-    let mut functions = parts.functions.into_vec();
+/// Sets the depths of functions: from the second one on they fall by one each, from a number that the first would have.
+fn deepen(functions: &mut [Function], first: u16, deepest: u16) {
     let mut depth = deepest;
     for function in functions.iter_mut() {
         function.depth = depth;
@@ -17,6 +15,13 @@ fn deepened(image: Image, first: u16, deepest: u16) -> Parts {
     if let Some(function) = functions.first_mut() {
         function.depth = first;
     }
+}
+
+/// The parts of an image in version 3, with these depths.
+fn deepened(image: Image, first: u16, deepest: u16) -> Parts {
+    let mut parts = image.into_parts();
+    let mut functions = parts.functions.into_vec();
+    deepen(functions.as_mut_slice(), first, deepest);
     parts.functions = Items::new(functions);
     parts.version = 3;
     parts
@@ -50,7 +55,7 @@ fn is_so_with(alloc: Global, row: &Row<'_>, first: u16, deepest: u16) -> bool {
 fn is_refused(alloc: Global, image: Image, told: &str) -> bool {
     match judged(alloc, image) {
         Ok(_accepted) => false,
-        Err((_back, refusal)) => is_shown(alloc, &refusal, told),
+        Err(refused) => is_shown(alloc, &refused.1, told),
     }
 }
 

@@ -42,13 +42,21 @@ struct Row<'a> {
     input: &'a [u8],
     written: &'a [u8],
     reads: u64,
-    ending: Ending,
+    /// None where the limit ends it.
+    status: Option<u32>,
     turns: u64,
+}
+
+fn ending_of(status: Option<u32>) -> Ending {
+    match status {
+        Some(status) => Ending::Exit(status),
+        None => Ending::Limit,
+    }
 }
 
 /// Whether what is told of a run, and what its streams were asked, is what the row says.
 fn is_told(told: &Outcome, reader: &Source<'_>, writer: &Sink, row: &Row<'_>) -> bool {
-    told.ending == row.ending
+    told.ending == ending_of(row.status)
         && told.turns == row.turns
         && reader.reads == row.reads
         && writer.took(row.written)
@@ -76,17 +84,48 @@ fn is_so(alloc: Global, row: &Row<'_>) -> bool {
 }
 
 /// A run that its limit cuts short before anything is read or written.
-const fn cut(source: &'static str, limit: u64) -> Row<'static> {
+const CUT: Row<'static> = Row {
+    source: ECHO,
+    limit: 0,
+    input: b"abc",
+    written: b"",
+    reads: 0,
+    status: None,
+    turns: 0,
+};
+
+static ROWS: [Row<'static>; 5] = [
+    CUT,
     Row {
-        source,
-        limit,
-        input: b"abc",
-        written: b"",
-        reads: 0,
-        ending: Ending::Limit,
-        turns: limit,
-    }
-}
+        source: ENDLESS,
+        limit: 10,
+        turns: 10,
+        ..CUT
+    },
+    Row {
+        limit: 61,
+        written: b"abc",
+        reads: 4,
+        turns: 61,
+        ..CUT
+    },
+    Row {
+        limit: 62,
+        written: b"abc",
+        reads: 4,
+        status: Some(0),
+        turns: 62,
+        ..CUT
+    },
+    Row {
+        source: GREETING,
+        limit: u64::MAX,
+        written: b"Hi",
+        status: Some(0),
+        turns: 16,
+        ..CUT
+    },
+];
 
 /// Each row is so.
 fn are_so(rt: &impl Abort, alloc: Global, rows: &[Row<'_>]) {
@@ -97,26 +136,5 @@ fn are_so(rt: &impl Abort, alloc: Global, rows: &[Row<'_>]) {
 
 #[test]
 fn boards_run_up_to_a_limit(rt: HostRuntime) {
-    let rows = [
-        cut(ECHO, 0),
-        cut(ENDLESS, 10),
-        Row {
-            written: b"abc",
-            reads: 4,
-            ..cut(ECHO, 61)
-        },
-        Row {
-            written: b"abc",
-            reads: 4,
-            ending: Ending::Exit(0),
-            ..cut(ECHO, 62)
-        },
-        Row {
-            written: b"Hi",
-            ending: Ending::Exit(0),
-            turns: 16,
-            ..cut(GREETING, u64::MAX)
-        },
-    ];
-    are_so(&rt, rt.alloc(), &rows);
+    are_so(&rt, rt.alloc(), &ROWS);
 }

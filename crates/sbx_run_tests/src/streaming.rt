@@ -26,47 +26,109 @@ struct Row<'a> {
     writes: u64,
 }
 
-/// A thousand bytes, and as many that are never read.
-const LONG: [u8; 2000] = [b'x'; 2000];
+/// An echo of nothing: its reader is asked for the end, and no stream fails.
+const SILENT: Row<'static> = Row {
+    source: ECHO,
+    input: b"",
+    reader_breaks: false,
+    room: 5000,
+    writer_breaks: false,
+    fault: None,
+    written: b"",
+    status: 0,
+    turns: 14,
+    reads: 1,
+    writes: 0,
+};
 
-/// What the echo of this input gives where no stream fails: the reads are one more where it asked for the end.
-const fn echo<'a>(input: &'a [u8], written: &'a [u8], turns: u64, reads: u64) -> Row<'a> {
+static ECHOES: [Row<'static>; 2] = [
+    SILENT,
     Row {
-        source: ECHO,
-        input,
-        reader_breaks: false,
-        room: 5000,
-        writer_breaks: false,
-        fault: None,
-        written,
-        status: 0,
-        turns,
-        reads,
-        writes: written.len() as u64,
-    }
-}
+        input: b"abc",
+        written: b"abc",
+        turns: 62,
+        reads: 4,
+        writes: 3,
+        ..SILENT
+    },
+];
 
-/// What the echo of this input gives where a stream fails.
-const fn broken<'a>(
-    fault: RunFault,
-    input: &'a [u8],
-    written: &'a [u8],
-    reads: u64,
-    writes: u64,
-) -> Row<'a> {
+/// A reader that breaks before it gives a byte.
+const UNREAD: Row<'static> = Row {
+    reader_breaks: true,
+    fault: Some(RunFault::Reader),
+    ..SILENT
+};
+
+/// A writer that takes one byte, and then none.
+const UNWRITTEN: Row<'static> = Row {
+    input: b"abc",
+    room: 1,
+    fault: Some(RunFault::Writer),
+    written: b"a",
+    reads: 2,
+    writes: 2,
+    ..SILENT
+};
+
+static BROKEN: [Row<'static>; 5] = [
     Row {
-        source: ECHO,
-        input,
-        reader_breaks: false,
-        room: 5000,
-        writer_breaks: false,
-        fault: Some(fault),
-        written,
-        status: 0,
-        turns: 0,
-        reads,
-        writes,
-    }
+        input: b"ab",
+        written: b"ab",
+        reads: 3,
+        writes: 2,
+        ..UNREAD
+    },
+    UNREAD,
+    UNWRITTEN,
+    Row {
+        writer_breaks: true,
+        ..UNWRITTEN
+    },
+    Row {
+        room: 0,
+        written: b"",
+        reads: 1,
+        writes: 1,
+        ..UNWRITTEN
+    },
+];
+
+/// Three bytes are asked for, and the third is told: none.
+const NO_THIRD: Row<'static> = Row {
+    source: THREE,
+    status: 0xFFFF_FFFF,
+    turns: 18,
+    ..SILENT
+};
+
+static ENDED: [Row<'static>; 3] = [
+    NO_THIRD,
+    Row {
+        input: b"a",
+        reads: 2,
+        ..NO_THIRD
+    },
+    Row {
+        input: b"abc",
+        status: 0x63,
+        reads: 3,
+        ..NO_THIRD
+    },
+];
+
+/// Whether a run over streams gave what the row says, and what a run alone, over the same bytes in memory, gave.
+fn are_alike(finished: &Finished, alone: &Finished, row: &Row<'_>) -> bool {
+    row.fault.is_none()
+        && finished.status == row.status
+        && finished.turns == row.turns
+        && finished.output.is_empty()
+        && alone.status == finished.status
+        && alone.turns == finished.turns
+        && alone.overflows == finished.overflows
+        && alone.underflows == finished.underflows
+        && alone.pages == finished.pages
+        && alone.output.as_slice() == row.written
 }
 
 /// Whether a run gave what the row says, and what a run over the same bytes in memory gives.
@@ -79,18 +141,7 @@ fn gave<const N: usize>(
     requires { (4 ≤ N) × (N ≤ 32) }
 {
     match finished_on::<N>(alloc, accepted, row.input) {
-        Some(alone) => {
-            row.fault.is_none()
-                && finished.status == row.status
-                && finished.turns == row.turns
-                && finished.output.is_empty()
-                && alone.status == finished.status
-                && alone.turns == finished.turns
-                && alone.overflows == finished.overflows
-                && alone.underflows == finished.underflows
-                && alone.pages == finished.pages
-                && alone.output.as_slice() == row.written
-        }
+        Some(alone) => are_alike(finished, &alone, row),
         None => false,
     }
 }
@@ -141,56 +192,35 @@ fn are_so(rt: &impl Abort, alloc: Global, rows: &[Row<'_>]) {
     }
 }
 
+/// A thousand bytes, and as many that are never read.
+const LONG: [u8; 2000] = [b'x'; 2000];
+
+/// Whether the first half of these bytes comes back.
+fn is_cut(alloc: Global, input: &[u8]) -> bool {
+    let (written, _unread) = input.split_at(input.len() / 2);
+    let row = Row {
+        input,
+        written,
+        turns: 16006,
+        reads: 1000,
+        writes: 1000,
+        ..SILENT
+    };
+    is_so(alloc, &row)
+}
+
 #[test]
 fn streams_are_echoed(rt: HostRuntime) {
-    let rows = [
-        echo(b"", b"", 14, 1),
-        echo(b"abc", b"abc", 62, 4),
-        echo(&LONG, &LONG[..1000], 16006, 1000),
-    ];
-    are_so(&rt, rt.alloc(), &rows);
+    are_so(&rt, rt.alloc(), &ECHOES);
+    assert!(rt; is_cut(rt.alloc(), &LONG));
 }
 
 #[test]
 fn broken_streams_end_runs(rt: HostRuntime) {
-    let rows = [
-        Row {
-            reader_breaks: true,
-            ..broken(RunFault::Reader, b"ab", b"ab", 3, 2)
-        },
-        Row {
-            reader_breaks: true,
-            ..broken(RunFault::Reader, b"", b"", 1, 0)
-        },
-        Row {
-            room: 1,
-            ..broken(RunFault::Writer, b"abc", b"a", 2, 2)
-        },
-        Row {
-            room: 1,
-            writer_breaks: true,
-            ..broken(RunFault::Writer, b"abc", b"a", 2, 2)
-        },
-        Row {
-            room: 0,
-            ..broken(RunFault::Writer, b"abc", b"", 1, 1)
-        },
-    ];
-    are_so(&rt, rt.alloc(), &rows);
+    are_so(&rt, rt.alloc(), &BROKEN);
 }
 
 #[test]
 fn ended_inputs_are_not_asked_again(rt: HostRuntime) {
-    for (input, status, reads) in [
-        (b"".as_slice(), 0xFFFF_FFFF, 1),
-        (b"a", 0xFFFF_FFFF, 2),
-        (b"abc", 0x63, 3),
-    ] {
-        let row = Row {
-            source: THREE,
-            status,
-            ..echo(input, b"", 18, reads)
-        };
-        assert!(rt; is_so(rt.alloc(), &row), "{reads}");
-    }
+    are_so(&rt, rt.alloc(), &ENDED);
 }

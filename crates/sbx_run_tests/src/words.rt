@@ -36,6 +36,10 @@ static WEIGHTS: [(u32, u64); 6] = [
     (0x9202_2005, 1),
 ];
 
+fn weighs(word: u32, weight: u64) -> bool {
+    weight_of(&asked(word)) == weight
+}
+
 /// Whether a code word is read at its place, and none behind the last.
 fn reads_places() -> bool {
     word_at(&CODE, 0x0004_0004) == Some(0x91d0_2002) && word_at(&CODE, 0x0004_0008).is_none()
@@ -49,7 +53,7 @@ fn knows_services() -> bool {
 #[test]
 fn reads_code_words(rt: HostRuntime) {
     for (word, weight) in &WEIGHTS {
-        assert!(rt; weight_of(&asked(*word)) == *weight, "{word}");
+        assert!(rt; weighs(*word, *weight), "{word}");
     }
     assert!(rt; reads_places() && knows_services());
 }

@@ -1,11 +1,10 @@
 //! Sources that tell how deep calls go.
-use crate::check::same;
-use crate::sources::written;
+use crate::check::is_same;
+use crate::sources::{inside, is_written};
 use sbx_asm::assemble;
 use sbx_image::{Function, Image, Region};
 use std::alloc::{AllocError, Global};
 use std::process::Abort;
-use std::test::Fail;
 
 fn push_depths(text: &mut String, functions: &[Function]) -> Result<(), AllocError> {
     for function in functions {
@@ -27,19 +26,24 @@ fn push_regions(text: &mut String, regions: &[Region]) -> Result<(), AllocError>
 }
 
 /// The version of an image, the depth of each function, and what each region may be used for and how long it is.
-fn image_told(alloc: Global, image: &Image) -> Result<String, AllocError> {
-    let mut text = format!(in alloc; "version {}, depths", image.version())?;
-    push_depths(&mut text, image.functions())?;
+fn push_image(text: &mut String, image: &Image) -> Result<(), AllocError> {
+    write!(text, "version {}, depths", image.version())?;
+    push_depths(text, image.functions())?;
     text.push_str(", regions")?;
-    push_regions(&mut text, image.regions())?;
+    push_regions(text, image.regions())
+}
+
+fn image_told(alloc: Global, image: &Image) -> Result<String, AllocError> {
+    let mut text = String::new(alloc);
+    push_image(&mut text, image)?;
     Ok(text)
 }
 
-/// The same of a source's image, or the source's fault.
-fn told(alloc: Global, source: &str) -> Result<String, AllocError> {
+/// Whether this is told of a source's image, or is the source's fault.
+fn tells(alloc: Global, source: &str, wanted: &str) -> bool {
     match assemble(alloc, source.as_bytes()) {
-        Ok(image) => image_told(alloc, &image),
-        Err(fault) => format!(in alloc; "{fault}"),
+        Ok(image) => is_same(image_told(alloc, &image), wanted),
+        Err(fault) => is_same(format!(in alloc; "{fault}"), wanted),
     }
 }
 
@@ -98,20 +102,23 @@ static INSIDE: [(&str, &str); 27] = [
     (".Depth 1\n nop", "line 2: S1"),
 ];
 
-fn tells_inside<R: Abort>(rt: &R, alloc: Global, row: &(&str, &str)) -> Result<(), AllocError> {
-    let (source, wanted) = *row;
-    let whole = format!(in alloc; ".function f,leaf,0,0,1\n{source}")?;
-    let found = told(alloc, whole.as_str())?;
-    same(rt, source, &found, wanted);
-    Ok(())
+fn tells_inside(alloc: Global, source: &str, wanted: &str) -> bool {
+    match inside(alloc, source) {
+        Ok(whole) => tells(alloc, whole.as_str(), wanted),
+        Err(AllocError) => false,
+    }
+}
+
+/// Each row is told.
+fn are_told_inside(rt: &impl Abort, alloc: Global, rows: &[(&str, &str)]) {
+    for (source, wanted) in rows {
+        assert!(rt; tells_inside(alloc, source, wanted), "{source}");
+    }
 }
 
 #[test]
-fn depths(rt: HostRuntime) -> Result<(), Fail> {
-    for row in &INSIDE {
-        tells_inside(&rt, rt.alloc(), row)?;
-    }
-    Ok(())
+fn depths(rt: HostRuntime) {
+    are_told_inside(&rt, rt.alloc(), &INSIDE);
 }
 
 /// Sources behind nothing at all.
@@ -122,16 +129,14 @@ static BARE: [(&str, &str); 3] = [
 ];
 
 #[test]
-fn bare_depths(rt: HostRuntime) -> Result<(), Fail> {
+fn bare_depths(rt: HostRuntime) {
     for (source, wanted) in &BARE {
-        let found = told(rt.alloc(), source)?;
-        same(&rt, source, &found, wanted);
+        assert!(rt; tells(rt.alloc(), source, wanted), "{source}");
     }
-    Ok(())
 }
 
 /// The bytes of an image by the format's fields: the header, the word, the function with its depth, and its block.
-static WHOLE: [&str; 4] = [
+const WHOLE: &[&str] = &[
     "534258380003000000000001000000010001",
     "01000000",
     "00000000000400000000000000000000000000000000000100050001",
@@ -139,42 +144,46 @@ static WHOLE: [&str; 4] = [
 ];
 
 #[test]
-fn writes_depths(rt: HostRuntime) -> Result<(), Fail> {
-    let mut wanted = String::new(rt.alloc());
-    for piece in &WHOLE {
-        wanted.push_str(piece)?;
-    }
-    let found = written(rt.alloc(), ".function f,leaf,0,0,1\n.depth 5\n nop")?;
-    same(&rt, "whole", &found, &wanted);
-    Ok(())
+fn writes_depths(rt: HostRuntime) {
+    let source = ".function f,leaf,0,0,1\n.depth 5\n nop";
+    assert!(rt; is_written(rt.alloc(), source, WHOLE));
 }
 
 /// So many functions in a row: each calls the next one, and the last one none.
 const CHAIN: u16 = 40;
 
-/// A source of functions with these depths: 40 of the first, and one less of each next one.
-fn chain(alloc: Global) -> Result<String, AllocError> {
-    let mut text = String::new(alloc);
-    for number in 0..CHAIN {
-        write!(text, ".function f{number},framed,96,96,9\n")?;
-        write!(text, ".depth {}\n save %sp,-96,%sp\n", CHAIN - number)?;
-        if number + 1 < CHAIN {
-            write!(text, " call f{}\n nop\n", number + 1)?;
-        }
-        text.push_str(" ret\n restore\n")?;
+/// What their image tells: depths of 40 of the first, and one less of each next one.
+const CHAINED: &str =
+    "version 3, depths 40 39 38 37 36 35 34 33 32 31 30 29 28 27 26 25 24 23 22 21 20 19 18 17 16 15 14 13 12 11 10 9 8 7 6 5 4 3 2 1, regions";
+
+/// A function of them.
+fn push_link(text: &mut String, number: u16) -> Result<(), AllocError> {
+    let depth = CHAIN.saturating_sub(number);
+    write!(text, ".function f{number},framed,96,96,9\n.depth {depth}\n")?;
+    text.push_str(" save %sp,-96,%sp\n")?;
+    if depth > 1 {
+        write!(text, " call f{}\n nop\n", number.saturating_add(1))?;
     }
-    Ok(text)
+    text.push_str(" ret\n restore\n")
+}
+
+fn push_chain(text: &mut String) -> Result<(), AllocError> {
+    for number in 0..CHAIN {
+        push_link(text, number)?;
+    }
+    Ok(())
+}
+
+/// Whether their source tells this.
+fn chain_tells(alloc: Global, wanted: &str) -> bool {
+    let mut text = String::new(alloc);
+    match push_chain(&mut text) {
+        Ok(()) => tells(alloc, text.as_str(), wanted),
+        Err(AllocError) => false,
+    }
 }
 
 #[test]
-fn chains(rt: HostRuntime) -> Result<(), Fail> {
-    let source = chain(rt.alloc())?;
-    let mut wanted = String::from_str(rt.alloc(), "version 3, depths")?;
-    for number in 0..CHAIN {
-        write!(wanted, " {}", CHAIN - number)?;
-    }
-    wanted.push_str(", regions")?;
-    let found = told(rt.alloc(), source.as_str())?;
-    same(&rt, "chain", &found, &wanted);
-    Ok(())
+fn chains(rt: HostRuntime) {
+    assert!(rt; chain_tells(rt.alloc(), CHAINED));
 }

@@ -1,61 +1,26 @@
 //! Labels, directives and the bytes of their values.
-use crate::check::same;
+use crate::instructions::halves;
 use crate::names::OneName;
 use sbx_directives::{
-    Directive, Name, Statement, Width, byte_len, label_count, push_values, read_statement, text_of,
+    DataFault, Directive, Name, Statement, Width, byte_len, label_count, push_values,
+    read_statement, text_of,
 };
-use sbx_image::{Cell, Kind, Range, Term};
-use sbx_text::tokens;
-use std::alloc::{AllocError, Global};
+use sbx_image::{Kind, Range};
+use sbx_text::{Token, tokens};
+use std::alloc::Global;
 use std::process::Abort;
-use std::test::Fail;
+use std::str::SplitWhitespace;
 
-fn push_name(text: &mut String, keyword: &str, name: Name) -> Result<(), AllocError> {
-    write!(text, "{keyword} {}-{}", name.start, name.stop)
-}
+/// A statement in a word, and its numbers in the order of its operands: so many of the five.
+type Told = (&'static str, usize, [i128; 5]);
 
-fn push_number(text: &mut String, keyword: &str, number: u64) -> Result<(), AllocError> {
-    write!(text, "{keyword} {number}")
-}
-
-fn push_flag(text: &mut String, keyword: &str, flag: bool) -> Result<(), AllocError> {
-    write!(text, "{keyword} {flag}")
-}
-
-fn push_fuel(text: &mut String, fuel: i64) -> Result<(), AllocError> {
-    write!(text, "fuel {fuel}")
-}
+const NOTHING: [i128; 5] = [0; 5];
 
 fn kind_name(kind: Kind) -> &'static str {
     match kind {
-        Kind::Leaf => " leaf",
-        Kind::Framed => " framed",
+        Kind::Leaf => "leaf",
+        Kind::Framed => "framed",
     }
-}
-
-fn push_function(
-    text: &mut String,
-    name: Name,
-    kind: Kind,
-    numbers: (u32, u32, u64),
-) -> Result<(), AllocError> {
-    push_name(text, "function", name)?;
-    push_number(text, kind_name(kind), u64::from(numbers.0))?;
-    push_number(text, "", u64::from(numbers.1))?;
-    push_number(text, "", numbers.2)
-}
-
-fn push_range(text: &mut String, name: &str, range: &Range) -> Result<(), AllocError> {
-    write!(text, "{name} {} {} {}", range.lo, range.hi, range.alignment)
-}
-
-fn push_cell(text: &mut String, cell: &Cell) -> Result<(), AllocError> {
-    write!(text, "cell {} ", cell.location)?;
-    push_range(text, "range", &cell.range)
-}
-
-fn push_term(text: &mut String, term: &Term) -> Result<(), AllocError> {
-    write!(text, "term {} {}", term.location, term.coefficient)
 }
 
 fn width_name(width: Width) -> &'static str {
@@ -66,236 +31,347 @@ fn width_name(width: Width) -> &'static str {
     }
 }
 
-fn push_directive(text: &mut String, directive: &Directive) -> Result<(), AllocError> {
+const fn one(number: i128) -> [i128; 5] {
+    [number, 0, 0, 0, 0]
+}
+
+const fn two(first: i128, second: i128) -> [i128; 5] {
+    [first, second, 0, 0, 0]
+}
+
+fn three(range: Range) -> [i128; 5] {
+    [
+        range.lo as i128,
+        range.hi as i128,
+        range.alignment as i128,
+        0,
+        0,
+    ]
+}
+
+fn told(directive: Directive) -> Told {
     match directive {
-        Directive::Text => text.push_str("text"),
-        Directive::Data => text.push_str("data"),
-        Directive::Region { writable } => push_flag(text, "region", *writable),
-        Directive::Services(services) => push_number(text, "services", u64::from(services.0)),
-        Directive::Stack(pages) => push_number(text, "stack", u64::from(*pages)),
+        Directive::Text => ("text", 0, NOTHING),
+        Directive::Data => ("data", 0, NOTHING),
+        Directive::Region { writable } => ("region", 1, one(writable as i128)),
+        Directive::Services(services) => ("services", 1, one(services.0 as i128)),
+        Directive::Stack(pages) => ("stack", 1, one(pages as i128)),
         Directive::Function {
             name,
             kind,
             frame,
             stack_room,
             budget,
-        } => push_function(text, *name, *kind, (*frame, *stack_room, *budget)),
-        Directive::Param(range) => push_range(text, "param", range),
-        Directive::Result(range) => push_range(text, "result", range),
-        Directive::Depth(depth) => push_number(text, "depth", u64::from(*depth)),
-        Directive::Block(name) => push_name(text, "block", *name),
-        Directive::Cell(cell) => push_cell(text, cell),
-        Directive::Fuel(fuel) => push_fuel(text, *fuel),
-        Directive::Term(term) => push_term(text, term),
-        Directive::Values(width, count) => push_number(text, width_name(*width), *count as u64),
-        Directive::Skip(count) => push_number(text, "skip", *count),
-        Directive::Align(unit) => push_number(text, "align", u64::from(*unit)),
+        } => (
+            kind_name(kind),
+            5,
+            [
+                name.start as i128,
+                name.stop as i128,
+                frame as i128,
+                stack_room as i128,
+                budget as i128,
+            ],
+        ),
+        Directive::Param(range) => ("param", 3, three(range)),
+        Directive::Result(range) => ("result", 3, three(range)),
+        Directive::Depth(depth) => ("depth", 1, one(depth as i128)),
+        Directive::Block(name) => ("block", 2, two(name.start as i128, name.stop as i128)),
+        Directive::Cell(cell) => {
+            let [lo, hi, alignment, _, _] = three(cell.range);
+            ("cell", 4, [cell.location as i128, lo, hi, alignment, 0])
+        }
+        Directive::Fuel(fuel) => ("fuel", 1, one(fuel as i128)),
+        Directive::Term(term) => (
+            "term",
+            2,
+            two(term.location as i128, term.coefficient as i128),
+        ),
+        Directive::Values(width, count) => (width_name(width), 1, one(count as i128)),
+        Directive::Skip(count) => ("skip", 1, one(count as i128)),
+        Directive::Align(unit) => ("align", 1, one(unit as i128)),
     }
 }
 
-fn push_statement(text: &mut String, statement: &Statement) -> Result<(), AllocError> {
+fn told_statement(statement: Statement) -> Told {
     match statement {
-        Statement::Nothing => text.push_str("nothing"),
-        Statement::Directive(directive) => push_directive(text, directive),
-        Statement::Malformed(..) => text.push_str("malformed"),
-        Statement::Instruction => text.push_str("instruction"),
+        Statement::Nothing => ("nothing", 0, NOTHING),
+        Statement::Directive(directive) => told(directive),
+        Statement::Malformed(..) => ("malformed", 0, NOTHING),
+        Statement::Instruction => ("instruction", 0, NOTHING),
     }
 }
 
-/// The labels of a line, counted, and what stands behind them.
-fn shown(alloc: Global, line: &str) -> Result<String, Fail> {
-    let found = tokens(alloc, line.as_bytes())?;
-    let count = label_count(line.as_bytes(), &found);
-    let statement = read_statement(line.as_bytes(), found.as_slice().split_at(2 * count).1);
-    let mut text = format!(in alloc; "{count} ")?;
-    push_statement(&mut text, &statement)?;
-    Ok(text)
+fn next_number(pieces: &mut SplitWhitespace<'_>) -> Option<i128> {
+    pieces.next()?.parse().ok()
 }
 
-fn is_read<R: Abort>(rt: &R, alloc: Global, line: &str, wanted: &str) -> Result<(), Fail> {
-    let found = shown(alloc, line)?;
-    same(rt, line, &found, wanted);
-    Ok(())
+/// Whether the next pieces are so many of these numbers, and there is no other.
+fn are_rest(pieces: &mut SplitWhitespace<'_>, numbers: &[i128; 5], count: usize) -> bool {
+    for place in 0..count {
+        let number = next_number(pieces);
+        if number.is_none() || number != numbers.get(place).copied() {
+            return false;
+        }
+    }
+    pieces.next().is_none()
 }
 
-static STATEMENTS: [(&str, &str); 27] = [
-    ("", "0 nothing"),
-    ("a: .text : ! b:", "2 nothing"),
-    ("a: nop", "1 instruction"),
-    (".foo 5", "0 instruction"),
-    (".TEXT", "0 instruction"),
-    ("%o0", "0 instruction"),
-    ("5:", "0 instruction"),
-    ("x: .text", "1 text"),
-    (".data", "0 data"),
-    (".region ro", "0 region false"),
-    ("x: .region rw", "1 region true"),
-    (".services exit,exit", "0 services 1"),
-    (".services put , get", "0 services 6"),
-    (".stack 16", "0 stack 16"),
-    (
-        ".function f,framed,4096,65536,0xFFFFFFFFFF",
-        "0 function 10-11 framed 4096 65536 1099511627775",
-    ),
-    (
-        ".param -2147483648,2147483647,3",
-        "0 param -2147483648 2147483647 3",
-    ),
-    (".result 7,7,0", "0 result 7 7 0"),
-    (".depth 256", "0 depth 256"),
-    (".block loop", "0 block 7-11"),
-    (".cell slot 1007,0,1,0", "0 cell 1039 range 0 1 0"),
-    (".cell %fp,0,1,0", "0 cell 30 range 0 1 0"),
-    (".fuel -1099511627775", "0 fuel -1099511627775"),
-    (".term slot -0,-2147483648", "0 term 32 -2147483648"),
-    (".word 1,-2,s,s+3,.-4", "0 words 5"),
-    (".half 70000", "0 halves 1"),
-    (".skip 262145", "0 skip 262145"),
-    (".align 8", "0 align 8"),
-];
+/// Whether these words and numbers, between blanks, are the count of labels and what is told.
+fn is_told(labels: usize, told: &Told, wanted: &str) -> bool {
+    let mut pieces = wanted.split_whitespace();
+    next_number(&mut pieces) == Some(labels as i128)
+        && pieces.next() == Some(told.0)
+        && are_rest(&mut pieces, &told.2, told.1)
+}
+
+/// The labels of a line, counted, and what stands behind them, are as wanted.
+fn are_read(line: &[u8], found: &[Token], wanted: &str) -> bool {
+    let labels = label_count(line, found);
+    let statement = read_statement(line, found.split_at(2 * labels).1);
+    is_told(labels, &told_statement(statement), wanted)
+}
+
+fn is_read(alloc: Global, line: &str, wanted: &str) -> bool {
+    match tokens(alloc, line.as_bytes()) {
+        Ok(found) => are_read(line.as_bytes(), &found, wanted),
+        Err(_fault) => false,
+    }
+}
+
+/// A line; and how many labels it has, what stands behind them, and the numbers of that: of a name its first place and the one behind
+/// it, of a function those of its name, its frame, its room and its budget, of a region whether it is written.
+const STATEMENTS: &str = " = 0 nothing
+a: .text : ! b: = 2 nothing
+a: nop = 1 instruction
+.foo 5 = 0 instruction
+.TEXT = 0 instruction
+%o0 = 0 instruction
+5: = 0 instruction
+x: .text = 1 text
+.data = 0 data
+.region ro = 0 region 0
+x: .region rw = 1 region 1
+.services exit,exit = 0 services 1
+.services put , get = 0 services 6
+.stack 16 = 0 stack 16
+.function f,framed,4096,65536,0xFFFFFFFFFF = 0 framed 10 11 4096 65536 1099511627775
+.param -2147483648,2147483647,3 = 0 param -2147483648 2147483647 3
+.result 7,7,0 = 0 result 7 7 0
+.depth 256 = 0 depth 256
+.block loop = 0 block 7 11
+.cell slot 1007,0,1,0 = 0 cell 1039 0 1 0
+.cell %fp,0,1,0 = 0 cell 30 0 1 0
+.fuel -1099511627775 = 0 fuel -1099511627775
+.term slot -0,-2147483648 = 0 term 32 -2147483648
+.word 1,-2,s,s+3,.-4 = 0 words 5
+.half 70000 = 0 halves 1
+.skip 262145 = 0 skip 262145
+.align 8 = 0 align 8
+";
+
+/// Each row of a table, a line each, is read as it says.
+fn are_so(rt: &impl Abort, alloc: Global, rows: &str) {
+    for row in rows.lines() {
+        let (line, wanted) = halves(row);
+        assert!(rt; is_read(alloc, line, wanted), "{row}");
+    }
+}
 
 #[test]
-fn statements(rt: HostRuntime) -> Result<(), Fail> {
-    for (line, wanted) in &STATEMENTS {
-        is_read(&rt, rt.alloc(), line, wanted)?;
-    }
-    Ok(())
+fn statements(rt: HostRuntime) {
+    are_so(&rt, rt.alloc(), STATEMENTS);
 }
 
 /// Operands of another shape, and numbers past their bounds.
-static MALFORMED: [&str; 53] = [
-    ".text 5",
-    ".data x",
-    ".region",
-    ".region wr",
-    ".region ro,rw",
-    ".region ro rw",
-    ".region 1",
-    ".region ro+1",
-    ".services",
-    ".services exit,",
-    ".services stop",
-    ".services exit get",
-    ".stack",
-    ".stack 0",
-    ".stack 17",
-    ".stack 1,2",
-    ".function f,leaf,4097,0,1",
-    ".function f,leaf,0,65537,1",
-    ".function f,leaf,0,0,-1",
-    ".function f,tree,0,0,1",
-    ".function f,leaf,0,0",
-    ".function 5,leaf,0,0,1",
-    ".function f,leaf,0,0,1,2",
-    ".param 8,7,0",
-    ".param 0,7,4",
-    ".param -2147483649,7,0",
-    ".param 0,2147483648,0",
-    ".param 0,1",
-    ".result 0,1,s",
-    ".depth 257",
-    ".depth -1",
-    ".depth f",
-    ".block",
-    ".block 5",
-    ".cell %g0,0,1,0",
-    ".cell %y,0,1,0",
-    ".cell slot 1008,0,1,0",
-    ".cell slot -1,0,1,0",
-    ".cell slot+0,0,1,0",
-    ".cell word 5,0,1,0",
-    ".cell %o0,1,0,0",
-    ".fuel s",
-    ".term %o0,0",
-    ".term %o0,2147483648",
-    ".word",
-    ".word 1,,2",
-    ".word 1+2",
-    ".byte +5",
-    ".half -s",
-    ".word %o0",
-    ".skip -1",
-    ".align 16",
-    ".align 1",
-];
+const MALFORMED: &str = ".text 5
+.data x
+.region
+.region wr
+.region ro,rw
+.region ro rw
+.region 1
+.region ro+1
+.services
+.services exit,
+.services stop
+.services exit get
+.stack
+.stack 0
+.stack 17
+.stack 1,2
+.function f,leaf,4097,0,1
+.function f,leaf,0,65537,1
+.function f,leaf,0,0,-1
+.function f,tree,0,0,1
+.function f,leaf,0,0
+.function 5,leaf,0,0,1
+.function f,leaf,0,0,1,2
+.param 8,7,0
+.param 0,7,4
+.param -2147483649,7,0
+.param 0,2147483648,0
+.param 0,1
+.result 0,1,s
+.depth 257
+.depth -1
+.depth f
+.block
+.block 5
+.cell %g0,0,1,0
+.cell %y,0,1,0
+.cell slot 1008,0,1,0
+.cell slot -1,0,1,0
+.cell slot+0,0,1,0
+.cell word 5,0,1,0
+.cell %o0,1,0,0
+.fuel s
+.term %o0,0
+.term %o0,2147483648
+.word
+.word 1,,2
+.word 1+2
+.byte +5
+.half -s
+.word %o0
+.skip -1
+.align 16
+.align 1
+";
 
-#[test]
-fn malformed_statements(rt: HostRuntime) -> Result<(), Fail> {
-    for line in &MALFORMED {
-        is_read(&rt, rt.alloc(), line, "0 malformed")?;
+/// Each line has the shape of no statement.
+fn are_malformed(rt: &impl Abort, alloc: Global, lines: &str) {
+    for line in lines.lines() {
+        assert!(rt; is_read(alloc, line, "0 malformed"), "{line}");
     }
-    Ok(())
 }
 
 #[test]
-fn names(rt: HostRuntime) -> Result<(), Fail> {
-    let line = b".block loop".as_slice();
-    for (stop, wanted) in [(11, "loop"), (12, "")] {
-        assert!(rt;
-            text_of(line, Name { start: 7, stop }) == wanted.as_bytes(),
-            "{stop}"
-        );
-    }
-    Ok(())
+fn malformed_statements(rt: HostRuntime) {
+    are_malformed(&rt, rt.alloc(), MALFORMED);
 }
 
-/// Values, and what they make of the byte 7.
-static VALUES: [(Width, &str, &str); 14] = [
-    (Width::Byte, ".byte 255,-128,0", "07 FF 80 00 "),
-    (Width::Byte, ".byte 256", "07 Malformed"),
-    (Width::Byte, ".byte -129", "07 Malformed"),
-    (Width::Half, ".half 65535,-32768", "07 FF FF 80 00 "),
-    (Width::Half, ".half 65536", "07 Malformed"),
-    (Width::Half, ".half -32769", "07 Malformed"),
+/// Whether the bytes of a name that begins at the seventh one are these.
+fn is_name(line: &[u8], stop: usize, wanted: &[u8]) -> bool {
+    text_of(line, Name { start: 7, stop }) == wanted
+}
+
+#[test]
+fn names(rt: HostRuntime) {
+    assert!(rt; is_name(b".block loop", 11, b"loop"), "whole");
+    assert!(rt; is_name(b".block loop", 12, b""), "past the end");
+}
+
+/// Values, what they make of the byte 7, and their fault.
+type Values = (Width, &'static str, &'static [u8], Option<DataFault>);
+
+static VALUES: [Values; 14] = [
+    (Width::Byte, ".byte 255,-128,0", b"\x07\xff\x80\x00", None),
+    (
+        Width::Byte,
+        ".byte 256",
+        b"\x07",
+        Some(DataFault::Malformed),
+    ),
+    (
+        Width::Byte,
+        ".byte -129",
+        b"\x07",
+        Some(DataFault::Malformed),
+    ),
+    (
+        Width::Half,
+        ".half 65535,-32768",
+        b"\x07\xff\xff\x80\x00",
+        None,
+    ),
+    (
+        Width::Half,
+        ".half 65536",
+        b"\x07",
+        Some(DataFault::Malformed),
+    ),
+    (
+        Width::Half,
+        ".half -32769",
+        b"\x07",
+        Some(DataFault::Malformed),
+    ),
     (
         Width::Word,
         ".word 4294967295,-2147483648",
-        "07 FF FF FF FF 80 00 00 00 ",
+        b"\x07\xff\xff\xff\xff\x80\x00\x00\x00",
+        None,
     ),
-    (Width::Word, ".word 4294967296", "07 Malformed"),
-    (Width::Word, ".word -2147483649", "07 Malformed"),
-    (Width::Word, ".word s,s+1", "07 12 34 56 78 12 34 56 79 "),
-    (Width::Half, ".half s-305419896", "07 00 00 "),
-    (Width::Byte, ".byte s", "07 Malformed"),
-    (Width::Byte, ".byte t,256", "07 UnknownSymbol"),
-    (Width::Byte, ".byte 256,.", "07 UnknownSymbol"),
+    (
+        Width::Word,
+        ".word 4294967296",
+        b"\x07",
+        Some(DataFault::Malformed),
+    ),
+    (
+        Width::Word,
+        ".word -2147483649",
+        b"\x07",
+        Some(DataFault::Malformed),
+    ),
+    (
+        Width::Word,
+        ".word s,s+1",
+        b"\x07\x12\x34\x56\x78\x12\x34\x56\x79",
+        None,
+    ),
+    (Width::Half, ".half s-305419896", b"\x07\x00\x00", None),
+    (Width::Byte, ".byte s", b"\x07", Some(DataFault::Malformed)),
+    (
+        Width::Byte,
+        ".byte t,256",
+        b"\x07",
+        Some(DataFault::UnknownSymbol),
+    ),
+    (
+        Width::Byte,
+        ".byte 256,.",
+        b"\x07",
+        Some(DataFault::UnknownSymbol),
+    ),
 ];
 
-/// Bytes in hexadecimal with a space behind each.
-fn push_bytes(text: &mut String, bytes: &[u8]) -> Result<(), AllocError> {
-    for byte in bytes {
-        write!(text, "{byte:02X} ")?;
-    }
-    Ok(())
+/// Whether the values of a directive make of these bytes, and tell, what the row says.
+fn are_pushed(row: &Values, found: &[Token], out: &mut Vec<u8>) -> bool {
+    let (width, line, bytes, wanted) = *row;
+    let fault = push_values(width, &OneName, line.as_bytes(), found, out).err();
+    fault == wanted && out.as_slice() == bytes
 }
 
-/// What the values of a directive make of one byte, and the fault.
-fn pushed(alloc: Global, width: Width, line: &str) -> Result<String, Fail> {
-    let mut out = vec![in alloc; 7]?;
-    let mut text = String::new(alloc);
-    let found = tokens(alloc, line.as_bytes())?;
-    let result = push_values(width, &OneName, line.as_bytes(), &found, &mut out);
-    push_bytes(&mut text, &out)?;
-    if let Err(fault) = result {
-        write!(text, "{fault:?}")?;
+fn are_spelled(alloc: Global, row: &Values, found: &[Token]) -> bool {
+    match vec![in alloc; 7] {
+        Ok(out) => {
+            let mut out = out;
+            are_pushed(row, found, &mut out)
+        }
+        Err(_refused) => false,
     }
-    Ok(text)
 }
 
-fn is_spelled<R: Abort>(rt: &R, alloc: Global, row: &(Width, &str, &str)) -> Result<(), Fail> {
-    let (width, line, wanted) = *row;
-    let found = pushed(alloc, width, line)?;
-    same(rt, line, &found, wanted);
-    Ok(())
+fn is_spelled(alloc: Global, row: &Values) -> bool {
+    match tokens(alloc, row.1.as_bytes()) {
+        Ok(found) => are_spelled(alloc, row, &found),
+        Err(_fault) => false,
+    }
+}
+
+/// Each row is spelled so.
+fn are_all_spelled(rt: &impl Abort, alloc: Global, rows: &[Values]) {
+    for row in rows {
+        assert!(rt; is_spelled(alloc, row), "{}", row.1);
+    }
 }
 
 #[test]
-fn values(rt: HostRuntime) -> Result<(), Fail> {
-    for row in &VALUES {
-        is_spelled(&rt, rt.alloc(), row)?;
-    }
-    for (width, wanted) in [(Width::Byte, 1), (Width::Half, 2), (Width::Word, 4)] {
-        assert!(rt; byte_len(width) == wanted, "{wanted}");
-    }
-    Ok(())
+fn values(rt: HostRuntime) {
+    are_all_spelled(&rt, rt.alloc(), &VALUES);
+    assert!(rt;
+        byte_len(Width::Byte) == 1 && byte_len(Width::Half) == 2 && byte_len(Width::Word) == 4
+    );
 }

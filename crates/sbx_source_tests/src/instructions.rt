@@ -1,11 +1,10 @@
 //! Statements and the instructions that they are.
-use crate::check::same;
 use crate::names::Fixed;
 use arrayvec::{ArrayString, ArrayVec};
-use sbx_text::tokens;
+use sbx_text::{Token, tokens};
 use std::alloc::{AllocError, Global};
 use std::process::Abort;
-use std::test::Fail;
+use std::str::SplitWhitespace;
 use v8_formats::{Instr, decode, encode};
 use v8_forms::print_instr;
 use v8_syntax::{
@@ -27,74 +26,98 @@ const NAMED: Fixed = Fixed {
 
 type Parsed = Result<ArrayVec<Instr, 2>, SyntaxFault>;
 
-fn parsed(alloc: Global, statement: &str, symbols: &Fixed) -> Result<Parsed, Fail> {
+/// What a statement is, if it has tokens.
+fn parsed(alloc: Global, statement: &str, symbols: &Fixed) -> Option<Parsed> {
     let line = statement.as_bytes();
-    let found = tokens(alloc, line)?;
-    Ok(parse_instr(line, &found, symbols))
-}
-
-/// Words in hexadecimal with a space behind each, or the fault and a space.
-fn words_of(alloc: Global, parsed: &Parsed) -> Result<String, AllocError> {
-    let mut text = String::new(alloc);
-    match parsed {
-        Ok(list) => {
-            for instr in list.as_slice() {
-                write!(text, "{:08X} ", encode(instr))?;
-            }
-        }
-        Err(fault) => write!(text, "{fault} ")?,
+    match tokens(alloc, line) {
+        Ok(found) => Some(parse_instr(line, &found, symbols)),
+        Err(_fault) => None,
     }
-    Ok(text)
 }
 
-/// A statement gives these words, with a space between two, or this fault.
-pub(crate) fn gives<R: Abort>(
-    rt: &R,
-    alloc: Global,
-    statement: &str,
-    symbols: &Fixed,
-    wanted: &str,
-) -> Result<(), Fail> {
-    let read = parsed(alloc, statement, symbols)?;
-    let found = words_of(alloc, &read)?;
-    same(rt, statement, found.trim_end(), wanted);
-    Ok(())
+/// Whether instructions are this word alone.
+fn is_single(list: &[Instr], word: u32) -> bool {
+    match list {
+        [instr] => encode(instr) == word,
+        _ => false,
+    }
 }
 
-/// The text of a word.
-pub(crate) fn prints<R: Abort>(rt: &R, word: u32, wanted: &str) {
-    let mut text = ArrayString::<64>::new();
-    print_instr(&decode(word), &mut text);
-    same(rt, wanted, text.as_str(), wanted);
+/// Whether a statement is this word.
+pub(crate) fn is_word(alloc: Global, statement: &str, symbols: &Fixed, word: u32) -> bool {
+    match parsed(alloc, statement, symbols) {
+        Some(Ok(list)) => is_single(list.as_slice(), word),
+        _ => false,
+    }
 }
 
-/// The text of an instruction reads back as it.
-fn reads_back<R: Abort>(rt: &R, alloc: Global, instr: &Instr) -> Result<(), Fail> {
+fn next_word(pieces: &mut SplitWhitespace<'_>) -> Option<u32> {
+    u32::from_str_radix(pieces.next()?, 16).ok()
+}
+
+/// Whether instructions are these words, in hexadecimal with a blank between two.
+fn are_words(list: &[Instr], wanted: &str) -> bool {
+    let mut pieces = wanted.split_whitespace();
+    for instr in list {
+        if next_word(&mut pieces) != Some(encode(instr)) {
+            return false;
+        }
+    }
+    pieces.next().is_none()
+}
+
+fn is_fault(alloc: Global, fault: SyntaxFault, wanted: &str) -> bool {
+    match format!(in alloc; "{fault}") {
+        Ok(text) => text.as_str() == wanted,
+        Err(AllocError) => false,
+    }
+}
+
+/// Whether these are the wanted words, or this is the wanted fault.
+fn is_wanted(alloc: Global, parsed: &Parsed, wanted: &str) -> bool {
+    match parsed {
+        Ok(list) => are_words(list.as_slice(), wanted),
+        Err(fault) => is_fault(alloc, *fault, wanted),
+    }
+}
+
+/// Whether a statement gives these words, with a blank between two, or this fault.
+pub(crate) fn gives(alloc: Global, statement: &str, symbols: &Fixed, wanted: &str) -> bool {
+    match parsed(alloc, statement, symbols) {
+        Some(parsed) => is_wanted(alloc, &parsed, wanted),
+        None => false,
+    }
+}
+
+/// Whether an instruction has this text.
+fn has_text(instr: &Instr, wanted: &str) -> bool {
     let mut text = ArrayString::<64>::new();
     print_instr(instr, &mut text);
-    let word = format!(in alloc; "{:08X}", encode(instr))?;
-    gives(rt, alloc, text.as_str(), &NAMELESS, word.as_str())
+    text.as_str() == wanted
 }
 
-/// A statement has the length of its words, with a space between two.
-fn has_length<R: Abort>(rt: &R, alloc: Global, statement: &str, words: &str) -> Result<(), Fail> {
-    let line = statement.as_bytes();
-    let found = tokens(alloc, line)?;
-    assert!(rt;
-        length_of(line, &found) == words.len().saturating_add(1) / 9,
-        "{statement}"
-    );
-    Ok(())
+/// Whether this is the text of a word.
+pub(crate) fn is_text(word: u32, wanted: &str) -> bool {
+    has_text(&decode(word), wanted)
 }
 
-/// The text of each instruction of a statement reads back.
-fn goes_round<R: Abort>(rt: &R, alloc: Global, statement: &str) -> Result<(), Fail> {
-    if let Ok(list) = parsed(alloc, statement, &NAMELESS)? {
+/// Whether the text of an instruction reads back as it.
+fn reads_back(alloc: Global, instr: &Instr) -> bool {
+    let mut text = ArrayString::<64>::new();
+    print_instr(instr, &mut text);
+    is_word(alloc, text.as_str(), &NAMELESS, encode(instr))
+}
+
+/// Whether the text of each instruction of a statement reads back.
+fn read_back(alloc: Global, parsed: &Parsed) -> bool {
+    if let Ok(list) = parsed {
         for instr in list.as_slice() {
-            reads_back(rt, alloc, instr)?;
+            if !reads_back(alloc, instr) {
+                return false;
+            }
         }
     }
-    Ok(())
+    true
 }
 
 /// Statements and their words, as GNU as gives them but for `tst`, `btst` and the plain `restore`: these have the operands
@@ -285,29 +308,38 @@ nop = 01000000
 ";
 
 /// A row's statement, and what it gives: none does where nothing parts them.
-fn halves(row: &str) -> (&str, &str) {
+pub(crate) fn halves(row: &str) -> (&str, &str) {
     row.split_once(" = ").unwrap_or((row, ""))
 }
 
-fn is_read<R: Abort>(rt: &R, alloc: Global, row: &str) -> Result<(), Fail> {
-    let (statement, words) = halves(row);
-    gives(rt, alloc, statement, &NAMELESS, words)?;
-    has_length(rt, alloc, statement, words)?;
-    goes_round(rt, alloc, statement)
+/// Whether these tokens of a statement have the length of its words, with a blank between two, and are them, and each reads back.
+fn are_so(alloc: Global, line: &[u8], found: &[Token], words: &str) -> bool {
+    let parsed = parse_instr(line, found, &NAMELESS);
+    length_of(line, found) == words.len().saturating_add(1) / 9
+        && is_wanted(alloc, &parsed, words)
+        && read_back(alloc, &parsed)
+}
+
+fn is_so(alloc: Global, statement: &str, words: &str) -> bool {
+    let line = statement.as_bytes();
+    match tokens(alloc, line) {
+        Ok(found) => are_so(alloc, line, &found, words),
+        Err(_fault) => false,
+    }
 }
 
 /// Each row of a table, a line each, is read.
-fn are_read<R: Abort>(rt: &R, alloc: Global, rows: &str) -> Result<(), Fail> {
+fn are_read(rt: &impl Abort, alloc: Global, rows: &str) {
     for row in rows.lines() {
-        is_read(rt, alloc, row)?;
+        let (statement, words) = halves(row);
+        assert!(rt; is_so(alloc, statement, words), "{row}");
     }
-    Ok(())
 }
 
 #[test]
-fn statements(rt: HostRuntime) -> Result<(), Fail> {
-    are_read(&rt, rt.alloc(), ENCODINGS)?;
-    are_read(&rt, rt.alloc(), BY_HAND)
+fn statements(rt: HostRuntime) {
+    are_read(&rt, rt.alloc(), ENCODINGS);
+    are_read(&rt, rt.alloc(), BY_HAND);
 }
 
 /// What each statement gives where every symbol is worth 0x12345678, at the address 0x40000.
@@ -378,19 +410,18 @@ unimp -1 = S3
 ";
 
 /// Each row of a table, a line each, gives what it says.
-fn are_given<R: Abort>(rt: &R, alloc: Global, rows: &str) -> Result<(), Fail> {
+fn are_given(rt: &impl Abort, alloc: Global, rows: &str) {
     for row in rows.lines() {
         let (statement, words) = halves(row);
-        gives(rt, alloc, statement, &NAMED, words)?;
+        assert!(rt; gives(alloc, statement, &NAMED, words), "{row}");
     }
-    Ok(())
 }
 
 #[test]
-fn other_statements(rt: HostRuntime) -> Result<(), Fail> {
-    are_given(&rt, rt.alloc(), OTHERS)?;
-    gives(&rt, rt.alloc(), "set sym,%o0", &NAMELESS, "S4")?;
-    gives(&rt, rt.alloc(), "ba sym", &NAMELESS, "S4")
+fn other_statements(rt: HostRuntime) {
+    are_given(&rt, rt.alloc(), OTHERS);
+    assert!(rt; gives(rt.alloc(), "set sym,%o0", &NAMELESS, "S4"), "set");
+    assert!(rt; gives(rt.alloc(), "ba sym", &NAMELESS, "S4"), "ba");
 }
 
 /// Words and their text.
@@ -416,12 +447,16 @@ static TEXTS: [(u32, &str); 19] = [
     (0x2F3FFFFF, "sethi 4194303,%l7"),
 ];
 
-#[test]
-fn texts(rt: HostRuntime) -> Result<(), Fail> {
-    for (word, wanted) in &TEXTS {
-        prints(&rt, *word, wanted);
+/// Each word has its text.
+fn are_texts(rt: &impl Abort, rows: &[(u32, &str)]) {
+    for (word, wanted) in rows {
+        assert!(rt; is_text(*word, wanted), "{wanted}");
     }
-    Ok(())
+}
+
+#[test]
+fn texts(rt: HostRuntime) {
+    are_texts(&rt, &TEXTS);
 }
 
 /// Names without their `%`, and the numbers of their registers.
@@ -441,42 +476,44 @@ static REGISTERS: [(&str, Option<u8>); 13] = [
     ("", None),
 ];
 
-#[test]
-fn registers(rt: HostRuntime) -> Result<(), Fail> {
-    for (name, wanted) in &REGISTERS {
-        let found = register_named(name.as_bytes()).map(|register| register.number());
-        assert!(rt; found == *wanted, "{name}");
+fn is_register(name: &str, wanted: Option<u8>) -> bool {
+    match register_named(name.as_bytes()) {
+        Some(register) => Some(register.number()) == wanted,
+        None => wanted.is_none(),
     }
-    Ok(())
 }
 
-/// A place in the line `add %o0`, and the bytes there.
-static PIECES: [(usize, usize, &str); 3] = [(4, 7, "%o0"), (4, 8, ""), (3, 2, "")];
-
-#[test]
-fn pieces(rt: HostRuntime) -> Result<(), Fail> {
-    let line = b"add %o0".as_slice();
-    for (start, stop, wanted) in &PIECES {
-        assert!(rt;
-            bytes_between(line, *start, *stop) == wanted.as_bytes(),
-            "{wanted}"
-        );
+/// Each name is that of its register.
+fn are_registers(rt: &impl Abort, rows: &[(&str, Option<u8>)]) {
+    for (name, wanted) in rows {
+        assert!(rt; is_register(name, *wanted), "{name}");
     }
-    Ok(())
 }
 
-/// A name, what follows its first byte, and its sign.
-static FRONTS: [(&str, &str, u8); 3] = [("add %o0", "dd %o0", b'a'), ("+", "", b'+'), ("", "", 0)];
+#[test]
+fn registers(rt: HostRuntime) {
+    are_registers(&rt, &REGISTERS);
+}
+
+/// Whether these are the bytes between two places of the line `add %o0`.
+fn is_piece(start: usize, stop: usize, wanted: &[u8]) -> bool {
+    bytes_between(b"add %o0", start, stop) == wanted
+}
 
 #[test]
-fn fronts(rt: HostRuntime) -> Result<(), Fail> {
-    for (text, rest, sign) in &FRONTS {
-        let bytes = text.as_bytes();
-        assert!(rt;
-            after_first(bytes) == rest.as_bytes() && sign_byte(bytes) == *sign,
-            "{text}"
-        );
-    }
+fn pieces(rt: HostRuntime) {
+    assert!(rt; is_piece(4, 7, b"%o0") && is_piece(4, 8, b"") && is_piece(3, 2, b""));
+}
+
+/// Whether this follows the first byte of a text, and this is its sign.
+fn is_front(text: &[u8], rest: &[u8], sign: u8) -> bool {
+    after_first(text) == rest && sign_byte(text) == sign
+}
+
+#[test]
+fn fronts(rt: HostRuntime) {
+    assert!(rt;
+        is_front(b"add %o0", b"dd %o0", b'a') && is_front(b"+", b"", b'+') && is_front(b"", b"", 0)
+    );
     assert!(rt; is_same(b"add", b"add") && !is_same(b"add", b"and"));
-    Ok(())
 }

@@ -3,7 +3,6 @@ use crate::sources::gives;
 use sbx_asm::assemble;
 use std::alloc::{AllocError, Global};
 use std::process::Abort;
-use std::test::Fail;
 
 /// The line of a function.
 const HEAD: &str = ".function f,leaf,0,0,1\n";
@@ -59,46 +58,73 @@ fn source_of(alloc: Global, row: &Row, count: usize) -> Result<String, AllocErro
     Ok(text)
 }
 
-/// A source with one too many gives the fault.
-fn is_refused<R: Abort>(rt: &R, alloc: Global, row: &Row) -> Result<(), AllocError> {
-    let source = source_of(alloc, row, row.3)?;
-    gives(rt, alloc, source.as_bytes(), row.4)
-}
-
-/// With one less it gives none.
-fn is_accepted<R: Abort>(rt: &R, alloc: Global, row: &Row) -> Result<(), AllocError> {
-    let source = source_of(alloc, row, row.3.saturating_sub(1))?;
-    assert!(rt; assemble(alloc, source.as_bytes()).is_ok(), "{}", row.1);
-    Ok(())
-}
-
-#[test]
-fn limits(rt: HostRuntime) -> Result<(), Fail> {
-    for row in &LIMITS {
-        is_refused(&rt, rt.alloc(), row)?;
-        is_accepted(&rt, rt.alloc(), row)?;
+/// Whether a source with one too many gives the fault.
+fn is_refused(alloc: Global, row: &Row) -> bool {
+    match source_of(alloc, row, row.3) {
+        Ok(source) => gives(alloc, source.as_bytes(), row.4),
+        Err(AllocError) => false,
     }
-    Ok(())
 }
 
-/// A source of lines without a byte.
-fn empty_lines<R: Abort>(
-    rt: &R,
-    alloc: Global,
-    count: usize,
-    wanted: &str,
-) -> Result<(), AllocError> {
-    let source = vec![in alloc; b'\n'; count]?;
-    gives(rt, alloc, source.as_slice(), wanted)
+fn has_image(alloc: Global, source: &[u8]) -> bool {
+    match assemble(alloc, source) {
+        Ok(_image) => true,
+        Err(_fault) => false,
+    }
+}
+
+/// Whether it gives none with one less.
+fn is_accepted(alloc: Global, row: &Row) -> bool {
+    match source_of(alloc, row, row.3.saturating_sub(1)) {
+        Ok(source) => has_image(alloc, source.as_bytes()),
+        Err(AllocError) => false,
+    }
+}
+
+/// Each limit is so.
+fn are_limits(rt: &impl Abort, alloc: Global, rows: &[Row]) {
+    for row in rows {
+        assert!(rt; is_refused(alloc, row), "{} past it", row.1);
+        assert!(rt; is_accepted(alloc, row), "{} at it", row.1);
+    }
 }
 
 #[test]
-fn lines(rt: HostRuntime) -> Result<(), Fail> {
-    empty_lines(&rt, rt.alloc(), 1_000_000, "line 1000001: A2")?;
-    empty_lines(&rt, rt.alloc(), 1_000_001, "line 1000001: A3")?;
-    let mut long = [b' '; 1025];
-    gives(&rt, rt.alloc(), &long, "line 1: X4")?;
-    long[1024] = b'\n';
-    gives(&rt, rt.alloc(), &long, "line 2: A2")?;
-    Ok(())
+fn limits(rt: HostRuntime) {
+    are_limits(&rt, rt.alloc(), &LIMITS);
+}
+
+/// So many line ends.
+fn empty_lines(alloc: Global, count: usize) -> Result<Vec<u8>, AllocError> {
+    vec![in alloc; b'\n'; count]
+}
+
+/// Whether a source of lines without a byte gives this.
+fn are_empty_lines(alloc: Global, count: usize, wanted: &str) -> bool {
+    match empty_lines(alloc, count) {
+        Ok(source) => gives(alloc, source.as_slice(), wanted),
+        Err(AllocError) => false,
+    }
+}
+
+/// Whether a source of 1,024 blanks and another byte gives this.
+fn is_long_line(alloc: Global, last: u8, wanted: &str) -> bool {
+    let mut line = [b' '; 1025];
+    line[1024] = last;
+    gives(alloc, &line, wanted)
+}
+
+#[test]
+fn lines(rt: HostRuntime) {
+    let alloc = rt.alloc();
+    assert!(rt;
+        are_empty_lines(alloc, 1_000_000, "line 1000001: A2"),
+        "most"
+    );
+    assert!(rt;
+        are_empty_lines(alloc, 1_000_001, "line 1000001: A3"),
+        "more"
+    );
+    assert!(rt; is_long_line(alloc, b' ', "line 1: X4"), "longer");
+    assert!(rt; is_long_line(alloc, b'\n', "line 2: A2"), "longest");
 }

@@ -1,9 +1,8 @@
 //! Lines and their tokens.
-use crate::check::same;
+use crate::check::is_same;
 use sbx_text::{Kind, Token, tokens};
 use std::alloc::{AllocError, Global};
 use std::process::Abort;
-use std::test::Fail;
 
 /// A kind in a letter, or a number by its value.
 fn push_kind(text: &mut String, kind: Kind) -> Result<(), AllocError> {
@@ -23,20 +22,19 @@ fn push_tokens(text: &mut String, found: &[Token]) -> Result<(), AllocError> {
     Ok(())
 }
 
-/// The kinds of a line's tokens with the bytes of each, or the fault.
-fn shown(alloc: Global, line: &[u8]) -> Result<String, AllocError> {
+/// The kinds of tokens with the bytes of each.
+fn tokens_text(alloc: Global, found: &[Token]) -> Result<String, AllocError> {
     let mut text = String::new(alloc);
-    match tokens(alloc, line) {
-        Ok(found) => push_tokens(&mut text, &found)?,
-        Err(fault) => write!(text, "{fault}")?,
-    }
+    push_tokens(&mut text, found)?;
     Ok(text)
 }
 
-fn gives<R: Abort>(rt: &R, alloc: Global, line: &[u8], wanted: &str) -> Result<(), AllocError> {
-    let found = shown(alloc, line)?;
-    same(rt, wanted, &found, wanted);
-    Ok(())
+/// Whether a line has these tokens, or this fault.
+fn gives(alloc: Global, line: &[u8], wanted: &str) -> bool {
+    match tokens(alloc, line) {
+        Ok(found) => is_same(tokens_text(alloc, &found), wanted),
+        Err(fault) => is_same(format!(in alloc; "{fault}"), wanted),
+    }
 }
 
 static LINES: [(&str, &str); 22] = [
@@ -64,20 +62,29 @@ static LINES: [(&str, &str); 22] = [
     ("1099511627776 $", "X3"),
 ];
 
-#[test]
-fn lines(rt: HostRuntime) -> Result<(), Fail> {
-    for (line, wanted) in &LINES {
-        gives(&rt, rt.alloc(), line.as_bytes(), wanted)?;
+/// Each line gives what it says.
+fn are_given(rt: &impl Abort, alloc: Global, rows: &[(&str, &str)]) {
+    for (line, wanted) in rows {
+        assert!(rt; gives(alloc, line.as_bytes(), wanted), "{line}");
     }
-    Ok(())
 }
 
 #[test]
-fn longest_lines(rt: HostRuntime) -> Result<(), Fail> {
-    gives(&rt, rt.alloc(), &[b' '; 1025], "X4")?;
-    let mut fits = [b'a'; 1024];
-    gives(&rt, rt.alloc(), &fits, "n@0-1024 ")?;
-    fits[0] = 0xC3;
-    gives(&rt, rt.alloc(), &fits, "X1")?;
-    Ok(())
+fn lines(rt: HostRuntime) {
+    are_given(&rt, rt.alloc(), &LINES);
+}
+
+/// Whether the longest line, of the letter a behind its first byte, gives this.
+fn is_longest_line(alloc: Global, first: u8, wanted: &str) -> bool {
+    let mut line = [b'a'; 1024];
+    line[0] = first;
+    gives(alloc, &line, wanted)
+}
+
+#[test]
+fn longest_lines(rt: HostRuntime) {
+    let alloc = rt.alloc();
+    assert!(rt; gives(alloc, &[b' '; 1025], "X4"), "longer");
+    assert!(rt; is_longest_line(alloc, b'a', "n@0-1024 "), "a name");
+    assert!(rt; is_longest_line(alloc, 0xC3, "X1"), "no text");
 }

@@ -1,10 +1,8 @@
 //! Sources whose data are regions.
-use crate::check::same;
-use crate::sources::{gives, gives_inside, written};
+use crate::sources::{are_given_inside, gives, is_written};
 use sbx_asm::assemble;
 use std::alloc::{AllocError, Global};
 use std::process::Abort;
-use std::test::Fail;
 
 /// Writes the letter H from a region that is read alone, and stores it in one that is written.
 const LETTER_SOURCE: &str = ".services exit,put
@@ -26,7 +24,7 @@ const LETTER_SOURCE: &str = ".services exit,put
 
 /// The bytes of its image by the format's fields: the header, the two regions' lengths and kinds, the words, the regions, the
 /// function and its block.
-static LETTER: [&str; 6] = [
+const LETTER: &[&str] = &[
     "534258380002000500000007000200010001",
     "000000080000000000080001",
     "03000200d008400091d0200205000204d028a0079010200091d02000",
@@ -36,14 +34,8 @@ static LETTER: [&str; 6] = [
 ];
 
 #[test]
-fn writes_regions(rt: HostRuntime) -> Result<(), Fail> {
-    let mut wanted = String::new(rt.alloc());
-    for piece in &LETTER {
-        wanted.push_str(piece)?;
-    }
-    let found = written(rt.alloc(), LETTER_SOURCE)?;
-    same(&rt, "letter", &found, &wanted);
-    Ok(())
+fn writes_regions(rt: HostRuntime) {
+    assert!(rt; is_written(rt.alloc(), LETTER_SOURCE, LETTER));
 }
 
 /// Sources behind the line of a function.
@@ -88,14 +80,13 @@ static INSIDE: [(&str, &str); 20] = [
     (".region ro\n.byte 1", "line 1: A2"),
 ];
 
+/// Regions of which no function stands before.
+const FULL: &[u8] = b".region ro\n.skip 262144\n.region rw\n.byte 1";
+
 #[test]
-fn regions(rt: HostRuntime) -> Result<(), Fail> {
-    for row in &INSIDE {
-        gives_inside(&rt, rt.alloc(), row)?;
-    }
-    let whole = ".region ro\n.skip 262144\n.region rw\n.byte 1";
-    gives(&rt, rt.alloc(), whole.as_bytes(), "line 5: A2")?;
-    Ok(())
+fn regions(rt: HostRuntime) {
+    are_given_inside(&rt, rt.alloc(), &INSIDE);
+    assert!(rt; gives(rt.alloc(), FULL, "line 5: A2"), "full");
 }
 
 /// How long the first region is, and the words of `set` of the second one's start.
@@ -113,20 +104,25 @@ fn source_of(alloc: Global, bytes: u32) -> Result<String, AllocError> {
     )
 }
 
-fn starts_at<R: Abort>(rt: &R, alloc: Global, row: &(u32, [u32; 2])) -> Result<(), AllocError> {
-    let source = source_of(alloc, row.0)?;
-    match assemble(alloc, source.as_bytes()) {
-        Ok(image) => assert!(rt; image.words() == row.1.as_slice(), "{}", row.0),
-        Err(fault) => assert!(rt; false, "{}: {fault}", row.0),
+/// Whether a source's words are these.
+fn has_words(alloc: Global, source: &[u8], words: &[u32]) -> bool {
+    match assemble(alloc, source) {
+        Ok(image) => image.words() == words,
+        Err(_fault) => false,
     }
-    Ok(())
+}
+
+fn starts_at(alloc: Global, row: &(u32, [u32; 2])) -> bool {
+    match source_of(alloc, row.0) {
+        Ok(source) => has_words(alloc, source.as_bytes(), &row.1),
+        Err(AllocError) => false,
+    }
 }
 
 /// The last one's page is the last of 64.
 #[test]
-fn starts(rt: HostRuntime) -> Result<(), Fail> {
+fn starts(rt: HostRuntime) {
     for row in &STARTS {
-        starts_at(&rt, rt.alloc(), row)?;
+        assert!(rt; starts_at(rt.alloc(), row), "{}", row.0);
     }
-    Ok(())
 }

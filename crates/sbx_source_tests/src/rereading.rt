@@ -1,10 +1,9 @@
 //! Texts of instructions read again, and lengths counted.
-use crate::instructions::{NAMELESS, gives, prints};
+use crate::instructions::{NAMELESS, gives, is_text, is_word};
 use crate::names::Fixed;
-use sbx_text::tokens;
+use sbx_text::{Token, tokens};
 use std::alloc::Global;
 use std::process::Abort;
-use std::test::Fail;
 use v8_syntax::{length_of, parse_instr};
 
 /// Every name is worth the greatest word, at a place that is no multiple of 4.
@@ -41,21 +40,24 @@ static WORDS: [(u32, &str, u32); 23] = [
     (0x8143_C000, "stbar", 0x8143_C000),
 ];
 
-/// The text of a word, and the word that the text is read as, whatever the names are worth.
-fn goes_round<R: Abort>(rt: &R, alloc: Global, row: &(u32, &str, u32)) -> Result<(), Fail> {
+/// Whether a word has its text, and the text is read as its word, whatever the names are worth.
+fn goes_round(alloc: Global, row: &(u32, &str, u32)) -> bool {
     let (word, text, again) = *row;
-    prints(rt, word, text);
-    let wanted = format!(in alloc; "{again:08X}")?;
-    gives(rt, alloc, text, &NAMELESS, wanted.as_str())?;
-    gives(rt, alloc, text, &ELSEWHERE, wanted.as_str())
+    is_text(word, text)
+        && is_word(alloc, text, &NAMELESS, again)
+        && is_word(alloc, text, &ELSEWHERE, again)
+}
+
+/// Each row goes round.
+fn go_round(rt: &impl Abort, alloc: Global, rows: &[(u32, &str, u32)]) {
+    for row in rows {
+        assert!(rt; goes_round(alloc, row), "{}", row.1);
+    }
 }
 
 #[test]
-fn texts(rt: HostRuntime) -> Result<(), Fail> {
-    for row in &WORDS {
-        goes_round(&rt, rt.alloc(), row)?;
-    }
-    Ok(())
+fn texts(rt: HostRuntime) {
+    go_round(&rt, rt.alloc(), &WORDS);
 }
 
 /// Statements, how many instructions are counted, and how many they are: `set` of a symbol always takes two, and what is no
@@ -75,35 +77,43 @@ static LENGTHS: [(&str, usize, usize); 12] = [
     ("set sym,%y", 1, 0),
 ];
 
-/// How many instructions are counted, and how many a statement is where its symbol is worth this word.
-fn lengths_of(alloc: Global, statement: &str, word: u32) -> Result<(usize, usize), Fail> {
-    let line = statement.as_bytes();
-    let found = tokens(alloc, line)?;
+/// How many instructions a statement is.
+fn made(line: &[u8], found: &[Token], symbols: &Fixed) -> usize {
+    match parse_instr(line, found, symbols) {
+        Ok(list) => list.len(),
+        Err(_fault) => 0,
+    }
+}
+
+/// Whether so many instructions are counted, and so many there are where the symbol is worth this word.
+fn is_counted_at(line: &[u8], found: &[Token], counts: (usize, usize), word: u32) -> bool {
     let symbols = Fixed {
         word: Some(word),
         here: 0,
     };
-    let made = match parse_instr(line, &found, &symbols) {
-        Ok(list) => list.len(),
-        Err(_) => 0,
-    };
-    Ok((length_of(line, &found), made))
+    (length_of(line, found), made(line, found, &symbols)) == counts
 }
 
-fn is_counted<R: Abort>(rt: &R, alloc: Global, row: &(&str, usize, usize)) -> Result<(), Fail> {
-    let (statement, counted, made) = *row;
-    let low = lengths_of(alloc, statement, 0)?;
-    let high = lengths_of(alloc, statement, 4092)?;
-    assert!(rt; low == (counted, made) && high == low, "{statement}");
-    Ok(())
+fn is_counted(alloc: Global, row: &(&str, usize, usize)) -> bool {
+    let (line, counts) = (row.0.as_bytes(), (row.1, row.2));
+    match tokens(alloc, line) {
+        Ok(found) => {
+            is_counted_at(line, &found, counts, 0) && is_counted_at(line, &found, counts, 4092)
+        }
+        Err(_fault) => false,
+    }
+}
+
+/// Each row is counted so.
+fn are_counted(rt: &impl Abort, alloc: Global, rows: &[(&str, usize, usize)]) {
+    for row in rows {
+        assert!(rt; is_counted(alloc, row), "{}", row.0);
+    }
 }
 
 #[test]
-fn lengths(rt: HostRuntime) -> Result<(), Fail> {
-    for row in &LENGTHS {
-        is_counted(&rt, rt.alloc(), row)?;
-    }
-    Ok(())
+fn lengths(rt: HostRuntime) {
+    are_counted(&rt, rt.alloc(), &LENGTHS);
 }
 
 /// Words without a syntax: `fadds %f0,%f0,%f0`, a word of a reserved opcode, and `lda [%g1+4],%o0`, which no identifier fits.
@@ -113,19 +123,26 @@ static BARE: [(u32, &str); 3] = [
     (0xD080_6004, ".word 0xD0806004"),
 ];
 
-/// A text of two tokens, of which the first is no mnemonic.
-fn is_bare<R: Abort>(rt: &R, alloc: Global, word: u32, text: &str) -> Result<(), Fail> {
-    prints(rt, word, text);
-    gives(rt, alloc, text, &NAMELESS, "S1")?;
-    let found = tokens(alloc, text.as_bytes())?;
-    assert!(rt; found.len() == 2, "{text}");
-    Ok(())
+fn is_two_tokens(alloc: Global, text: &str) -> bool {
+    match tokens(alloc, text.as_bytes()) {
+        Ok(found) => found.len() == 2,
+        Err(_fault) => false,
+    }
+}
+
+/// Whether a word has this text, of two tokens, of which the first is no mnemonic.
+fn is_bare(alloc: Global, word: u32, text: &str) -> bool {
+    is_text(word, text) && gives(alloc, text, &NAMELESS, "S1") && is_two_tokens(alloc, text)
+}
+
+/// Each row is bare.
+fn are_bare(rt: &impl Abort, alloc: Global, rows: &[(u32, &str)]) {
+    for (word, text) in rows {
+        assert!(rt; is_bare(alloc, *word, text), "{text}");
+    }
 }
 
 #[test]
-fn bare_words(rt: HostRuntime) -> Result<(), Fail> {
-    for (word, text) in &BARE {
-        is_bare(&rt, rt.alloc(), *word, text)?;
-    }
-    Ok(())
+fn bare_words(rt: HostRuntime) {
+    are_bare(&rt, rt.alloc(), &BARE);
 }

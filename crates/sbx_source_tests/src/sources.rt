@@ -1,18 +1,13 @@
 //! Worked sources, and the order of faults.
-use crate::check::same;
+use crate::check::is_same;
 use sbx_asm::{AsmFault, assemble};
 use sbx_image::{Block, Cell, Function, Image, Kind, Range, Term, write};
 use std::alloc::{AllocError, Global};
 use std::process::Abort;
-use std::test::Fail;
 
-/// The image that writes `Hi`.
-static HELLO: [u8; 86] = [
-    83, 66, 88, 56, 0, 1, 0, 5, 0, 0, 0, 6, 0, 0, 0, 0, 0, 1, 0, 1, 144, 16, 32, 72, 145, 208, 32,
-    2, 144, 16, 32, 105, 145, 208, 32, 2, 144, 16, 32, 0, 145, 208, 32, 0, 0, 0, 0, 0, 0, 4, 0, 0,
-    0, 0, 0, 0, 0, 0, 0, 0, 0, 0, 0, 0, 0, 0, 0, 16, 0, 1, 0, 4, 0, 0, 0, 0, 0, 0, 0, 0, 0, 0, 0,
-    0, 0, 16,
-];
+/// The bytes of the image that writes `Hi`.
+const HELLO: &str =
+    "53425838000100050000000600000000000100019010204891d020029010206991d020029010200091d02000000000000004000000000000000000000000000000000010000100040000000000000000000000000010";
 
 const HELLO_SOURCE: &str =
     ".services exit,put\n.function main,leaf,0,0,16\n.fuel 16\n mov 72,%o0\n ta 2\n mov 105,%o0\n ta 2\n mov 0,%o0\n ta 0\n";
@@ -47,7 +42,7 @@ const ECHO_SOURCE: &str = ".services exit,get,put
 ";
 
 /// The bytes of its image by the format's fields: the header, the words, the function, and its four blocks.
-static ECHO: [&str; 7] = [
+const ECHO: &[&str] = &[
     "53425838000100070000000c0000000000010001",
     "9de3bfa0a01023e891d0200180a23fff028000060100000091d02002a0a4200112bffffa010000009010200091d02000",
     "010000000004000000000060000000600000000000003e9e0004",
@@ -65,43 +60,59 @@ fn push_hex(text: &mut String, bytes: &[u8]) -> Result<(), AllocError> {
     Ok(())
 }
 
-fn fault_text(alloc: Global, fault: &AsmFault) -> Result<String, AllocError> {
-    format!(in alloc; "{fault}")
+fn is_fault(alloc: Global, fault: &AsmFault, wanted: &str) -> bool {
+    is_same(format!(in alloc; "{fault}"), wanted)
 }
 
-fn image_text(alloc: Global, image: &Image) -> Result<String, AllocError> {
-    let bytes = write(image, alloc)?;
+fn hex_of(alloc: Global, bytes: &[u8]) -> Result<String, AllocError> {
     let mut text = String::new(alloc);
-    push_hex(&mut text, &bytes)?;
+    push_hex(&mut text, bytes)?;
     Ok(text)
 }
 
-/// The bytes of a source's image in hexadecimal, or its fault.
-pub(crate) fn written(alloc: Global, source: &str) -> Result<String, AllocError> {
+/// Whether these pieces are a text, one behind the other.
+fn are_pieces(text: &str, pieces: &[&str]) -> bool {
+    let mut left = text;
+    for piece in pieces {
+        match left.strip_prefix(*piece) {
+            Some(rest) => left = rest,
+            None => return false,
+        }
+    }
+    left.is_empty()
+}
+
+/// Whether bytes in hexadecimal are these pieces.
+fn are_bytes(alloc: Global, bytes: &[u8], pieces: &[&str]) -> bool {
+    match hex_of(alloc, bytes) {
+        Ok(text) => are_pieces(text.as_str(), pieces),
+        Err(AllocError) => false,
+    }
+}
+
+fn is_image(alloc: Global, image: &Image, pieces: &[&str]) -> bool {
+    match write(image, alloc) {
+        Ok(bytes) => are_bytes(alloc, bytes.as_slice(), pieces),
+        Err(AllocError) => false,
+    }
+}
+
+/// Whether the bytes of a source's image are these, in hexadecimal.
+pub(crate) fn is_written(alloc: Global, source: &str, pieces: &[&str]) -> bool {
     match assemble(alloc, source.as_bytes()) {
-        Ok(image) => image_text(alloc, &image),
-        Err(fault) => fault_text(alloc, &fault),
+        Ok(image) => is_image(alloc, &image, pieces),
+        Err(_fault) => false,
     }
 }
 
 #[test]
-fn writes_hello(rt: HostRuntime) -> Result<(), Fail> {
-    let mut wanted = String::new(rt.alloc());
-    push_hex(&mut wanted, &HELLO)?;
-    let found = written(rt.alloc(), HELLO_SOURCE)?;
-    same(&rt, "hello", &found, &wanted);
-    Ok(())
+fn writes_hello(rt: HostRuntime) {
+    assert!(rt; is_written(rt.alloc(), HELLO_SOURCE, &[HELLO]));
 }
 
 #[test]
-fn writes_echo(rt: HostRuntime) -> Result<(), Fail> {
-    let mut wanted = String::new(rt.alloc());
-    for piece in &ECHO {
-        wanted.push_str(piece)?;
-    }
-    let found = written(rt.alloc(), ECHO_SOURCE)?;
-    same(&rt, "echo", &found, &wanted);
-    Ok(())
+fn writes_echo(rt: HostRuntime) {
+    assert!(rt; is_written(rt.alloc(), ECHO_SOURCE, ECHO));
 }
 
 /// Two functions with each annotation, and pages of stack.
@@ -203,27 +214,30 @@ fn push_functions(text: &mut String, functions: &[Function]) -> Result<(), Alloc
     Ok(())
 }
 
+fn push_image(text: &mut String, image: &Image) -> Result<(), AllocError> {
+    let (services, pages) = (image.services().0, image.stack_pages());
+    write!(text, "services {services}, stack {pages}\n")?;
+    push_functions(text, image.functions())
+}
+
 /// What an image says beside its words and its data.
 fn image_told(alloc: Global, image: &Image) -> Result<String, AllocError> {
-    let (services, pages) = (image.services().0, image.stack_pages());
-    let mut text = format!(in alloc; "services {services}, stack {pages}\n")?;
-    push_functions(&mut text, image.functions())?;
+    let mut text = String::new(alloc);
+    push_image(&mut text, image)?;
     Ok(text)
 }
 
-/// What a source's image says beside its words and its data, or the source's fault.
-fn told(alloc: Global, source: &str) -> Result<String, AllocError> {
+/// Whether a source's image says this beside its words and its data.
+fn tells(alloc: Global, source: &str, wanted: &str) -> bool {
     match assemble(alloc, source.as_bytes()) {
-        Ok(image) => image_told(alloc, &image),
-        Err(fault) => fault_text(alloc, &fault),
+        Ok(image) => is_same(image_told(alloc, &image), wanted),
+        Err(_fault) => false,
     }
 }
 
 #[test]
-fn keeps_annotations(rt: HostRuntime) -> Result<(), Fail> {
-    let found = told(rt.alloc(), ANNOTATED_SOURCE)?;
-    same(&rt, "annotated", &found, ANNOTATED);
-    Ok(())
+fn keeps_annotations(rt: HostRuntime) {
+    assert!(rt; tells(rt.alloc(), ANNOTATED_SOURCE, ANNOTATED));
 }
 
 fn push_words(text: &mut String, words: &[u32]) -> Result<(), AllocError> {
@@ -240,33 +254,27 @@ fn push_bytes(text: &mut String, bytes: &[u8]) -> Result<(), AllocError> {
     Ok(())
 }
 
+fn push_parts(text: &mut String, image: &Image) -> Result<(), AllocError> {
+    push_words(text, image.words())?;
+    for region in image.regions() {
+        push_bytes(text, region.bytes.as_slice())?;
+    }
+    Ok(())
+}
+
+/// The words and the data of an image.
 fn parts_text(alloc: Global, image: &Image) -> Result<String, AllocError> {
     let mut text = String::new(alloc);
-    push_words(&mut text, image.words())?;
-    for region in image.regions() {
-        push_bytes(&mut text, region.bytes.as_slice())?;
-    }
+    push_parts(&mut text, image)?;
     Ok(text)
 }
 
-/// The words and the data of a source's image, or its fault.
-fn shown(alloc: Global, source: &[u8]) -> Result<String, AllocError> {
+/// Whether a source gives these words and data, or this fault.
+pub(crate) fn gives(alloc: Global, source: &[u8], wanted: &str) -> bool {
     match assemble(alloc, source) {
-        Ok(image) => parts_text(alloc, &image),
-        Err(fault) => fault_text(alloc, &fault),
+        Ok(image) => is_same(parts_text(alloc, &image), wanted),
+        Err(fault) => is_fault(alloc, &fault, wanted),
     }
-}
-
-/// A source gives this image, or this fault.
-pub(crate) fn gives<R: Abort>(
-    rt: &R,
-    alloc: Global,
-    source: &[u8],
-    wanted: &str,
-) -> Result<(), AllocError> {
-    let found = shown(alloc, source)?;
-    same(rt, wanted, &found, wanted);
-    Ok(())
 }
 
 /// Sources behind nothing at all.
@@ -288,12 +296,16 @@ static BARE: [(&str, &str); 15] = [
     (".stack 17", "line 1: A2"),
 ];
 
-#[test]
-fn bare_sources(rt: HostRuntime) -> Result<(), Fail> {
-    for (source, wanted) in &BARE {
-        gives(&rt, rt.alloc(), source.as_bytes(), wanted)?;
+/// Each source gives what it says.
+fn are_given(rt: &impl Abort, alloc: Global, rows: &[(&str, &str)]) {
+    for (source, wanted) in rows {
+        assert!(rt; gives(alloc, source.as_bytes(), wanted), "{source}");
     }
-    Ok(())
+}
+
+#[test]
+fn bare_sources(rt: HostRuntime) {
+    are_given(&rt, rt.alloc(), &BARE);
 }
 
 /// Sources behind the line of a function.
@@ -367,21 +379,27 @@ static INSIDE: [(&str, &str); 55] = [
     ),
 ];
 
-/// The same behind the line of a function.
-pub(crate) fn gives_inside<R: Abort>(
-    rt: &R,
-    alloc: Global,
-    row: &(&str, &str),
-) -> Result<(), AllocError> {
-    let (source, wanted) = *row;
-    let whole = format!(in alloc; ".function f,leaf,0,0,1\n{source}")?;
-    gives(rt, alloc, whole.as_bytes(), wanted)
+/// The source behind the line of a function.
+pub(crate) fn inside(alloc: Global, source: &str) -> Result<String, AllocError> {
+    format!(in alloc; ".function f,leaf,0,0,1\n{source}")
+}
+
+/// Whether a source gives this behind the line of a function.
+fn gives_inside(alloc: Global, source: &str, wanted: &str) -> bool {
+    match inside(alloc, source) {
+        Ok(whole) => gives(alloc, whole.as_bytes(), wanted),
+        Err(AllocError) => false,
+    }
+}
+
+/// Each source does.
+pub(crate) fn are_given_inside(rt: &impl Abort, alloc: Global, rows: &[(&str, &str)]) {
+    for (source, wanted) in rows {
+        assert!(rt; gives_inside(alloc, source, wanted), "{source}");
+    }
 }
 
 #[test]
-fn sources(rt: HostRuntime) -> Result<(), Fail> {
-    for row in &INSIDE {
-        gives_inside(&rt, rt.alloc(), row)?;
-    }
-    Ok(())
+fn sources(rt: HostRuntime) {
+    are_given_inside(&rt, rt.alloc(), &INSIDE);
 }
