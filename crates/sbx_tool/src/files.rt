@@ -26,16 +26,17 @@ fn status_on<I: Read, O: Write>(
     exit_status(rt.alloc(), job, file, input, out, &mut rt.stderr())
 }
 
-/// Does a job on the file at a path, from a reader to a writer.
-pub fn done_on<I: Read, O: Write>(
+/// Does a job on the file at a path, from a reader to a writer. Both are `dyn`, so that the machines of the counts of windows are compiled
+/// once and not for each reader and writer.
+pub fn done_on(
     rt: &HostRuntime,
     job: &Job<'_>,
     path: &str,
-    input: &mut I,
-    out: &mut O,
+    mut input: &mut dyn Read,
+    mut out: &mut dyn Write,
 ) -> Result<u8, Stop> {
     match opened(rt, path) {
-        Ok(mut file) => Ok(status_on(rt, job, &mut file, input, out)),
+        Ok(mut file) => Ok(status_on(rt, job, &mut file, &mut input, &mut out)),
         Err(stop) => Err(stop),
     }
 }

@@ -45,49 +45,65 @@ fn codes(digit: u32) -> Option<Icc>
     })
 }
 
-fn plain(name: &str) -> Option<Op> {
-    Some(match name {
-        "add" => Op::Add,
-        "addcc" => Op::AddCc,
-        "addx" => Op::Addx,
-        "addxcc" => Op::AddxCc,
-        "sub" => Op::Sub,
-        "subcc" => Op::SubCc,
-        "subx" => Op::Subx,
-        "subxcc" => Op::SubxCc,
-        "and" => Op::And,
-        "andcc" => Op::AndCc,
-        "andn" => Op::Andn,
-        "andncc" => Op::AndnCc,
-        "or" => Op::Or,
-        "orcc" => Op::OrCc,
-        "orn" => Op::Orn,
-        "orncc" => Op::OrnCc,
-        "xor" => Op::Xor,
-        "xorcc" => Op::XorCc,
-        "xnor" => Op::Xnor,
-        "xnorcc" => Op::XnorCc,
-        "sll" => Op::Sll,
-        "srl" => Op::Srl,
-        "sra" => Op::Sra,
-        "umul" => Op::Umul,
-        "umulcc" => Op::UmulCc,
-        "smul" => Op::Smul,
-        "smulcc" => Op::SmulCc,
-        "mulscc" => Op::MulsCc,
-        _ => return None,
-    })
+/// The operations, by their names.
+const OPERATIONS: [(&str, Operation); 34] = [
+    ("add", Operation::Plain(Op::Add)),
+    ("addcc", Operation::Plain(Op::AddCc)),
+    ("addx", Operation::Plain(Op::Addx)),
+    ("addxcc", Operation::Plain(Op::AddxCc)),
+    ("sub", Operation::Plain(Op::Sub)),
+    ("subcc", Operation::Plain(Op::SubCc)),
+    ("subx", Operation::Plain(Op::Subx)),
+    ("subxcc", Operation::Plain(Op::SubxCc)),
+    ("and", Operation::Plain(Op::And)),
+    ("andcc", Operation::Plain(Op::AndCc)),
+    ("andn", Operation::Plain(Op::Andn)),
+    ("andncc", Operation::Plain(Op::AndnCc)),
+    ("or", Operation::Plain(Op::Or)),
+    ("orcc", Operation::Plain(Op::OrCc)),
+    ("orn", Operation::Plain(Op::Orn)),
+    ("orncc", Operation::Plain(Op::OrnCc)),
+    ("xor", Operation::Plain(Op::Xor)),
+    ("xorcc", Operation::Plain(Op::XorCc)),
+    ("xnor", Operation::Plain(Op::Xnor)),
+    ("xnorcc", Operation::Plain(Op::XnorCc)),
+    ("sll", Operation::Plain(Op::Sll)),
+    ("srl", Operation::Plain(Op::Srl)),
+    ("sra", Operation::Plain(Op::Sra)),
+    ("umul", Operation::Plain(Op::Umul)),
+    ("umulcc", Operation::Plain(Op::UmulCc)),
+    ("smul", Operation::Plain(Op::Smul)),
+    ("smulcc", Operation::Plain(Op::SmulCc)),
+    ("mulscc", Operation::Plain(Op::MulsCc)),
+    ("udiv", Operation::Quotient(Division::Udiv)),
+    ("udivcc", Operation::Quotient(Division::UdivCc)),
+    ("sdiv", Operation::Quotient(Division::Sdiv)),
+    ("sdivcc", Operation::Quotient(Division::SdivCc)),
+    ("taddcc", Operation::Tagged(TaggedOp::TaggedAdd)),
+    ("tsubcc", Operation::Tagged(TaggedOp::TaggedSub)),
+];
+
+/// The operation of this name.
+fn operation(name: &str) -> Option<Operation> {
+    for (known, operation) in &OPERATIONS {
+        if *known == name {
+            return Some(*operation);
+        }
+    }
+    None
 }
 
-fn operation(name: &str) -> Option<Operation> {
-    Some(match name {
-        "udiv" => Operation::Quotient(Division::Udiv),
-        "udivcc" => Operation::Quotient(Division::UdivCc),
-        "sdiv" => Operation::Quotient(Division::Sdiv),
-        "sdivcc" => Operation::Quotient(Division::SdivCc),
-        "taddcc" => Operation::Tagged(TaggedOp::TaggedAdd),
-        "tsubcc" => Operation::Tagged(TaggedOp::TaggedSub),
-        _ => Operation::Plain(plain(name)?),
+/// The condition codes that a field spells.
+fn codes_in(field: &str) -> Option<Icc> {
+    codes(hexadecimal(field)?)
+}
+
+/// What was left, by the last three fields of a line; none if they aren't read.
+fn left(value: &str, icc: &str, y: &str) -> Option<AluOut> {
+    Some(AluOut {
+        value: hexadecimal(value)?,
+        icc: codes_in(icc)?,
+        y: hexadecimal(y)?,
     })
 }
 
@@ -100,13 +116,9 @@ fn case_of(fields: &[&str]) -> Option<Case> {
         operation: operation(name)?,
         a: hexadecimal(a)?,
         b: hexadecimal(b)?,
-        icc: codes(hexadecimal(icc)?)?,
+        icc: codes_in(icc)?,
         y: hexadecimal(y)?,
-        there: AluOut {
-            value: hexadecimal(value)?,
-            icc: codes(hexadecimal(icc_after)?)?,
-            y: hexadecimal(y_after)?,
-        },
+        there: left(value, icc_after, y_after)?,
     })
 }
 
