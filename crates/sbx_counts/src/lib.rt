@@ -20,8 +20,17 @@ macro_rules! on_windows {
         $crate::on_windows!(@ $windows, $call $kinds $given, 25 26 27 28 29 30 31 32)
     };
     ($windows:ident, $call:ident $kinds:tt $given:tt, 4 to 32) => {
-        $crate::on_windows!(@ $windows, $call $kinds $given,
-            4 5 6 7 8 9 10 11 12 13 14 15 16 17 18 19 20 21 22 23 24 25 26 27 28 29 30 31 32)
+        if $windows <= 17 {
+            if $windows <= 10 {
+                $crate::on_windows!($windows, $call $kinds $given, 4 to 10)
+            } else {
+                $crate::on_windows!($windows, $call $kinds $given, 11 to 17)
+            }
+        } else if $windows <= 24 {
+            $crate::on_windows!($windows, $call $kinds $given, 18 to 24)
+        } else {
+            $crate::on_windows!($windows, $call $kinds $given, 25 to 32)
+        }
     };
     (@ $windows:ident, $call:ident [$($kind:ident)*] $given:tt, $last:literal) => {
         $call::<$last $(, $kind)*>$given

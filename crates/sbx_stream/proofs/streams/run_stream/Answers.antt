@@ -1,4 +1,4 @@
-use Rattle.std.proofs.Common.{◌≡◌, ℕ, ◌∙◌, ap, subst}
+use Rattle.std.proofs.Common.{◌≡◌, ℕ, ◌∙◌, ap, arith, subst}
 use Rattle.std.proofs.lemmas.Result.{err_from_is_err_and}
 use Rattle.v8_board.specs.declared.outcome.Outcome.{Outcome}
 use Rattle.sbx_flat.specs.Runs.{budget}
@@ -65,3 +65,12 @@ returns-clause-part g c =
 
 pub returns-in-Ok-clause-output : goal.returns-in-Ok-clause-output
 returns-in-Ok-clause-output g c = assumption
+
+pub ready-requires : goal.ready-requires
+ready-requires g c = grind arith
+
+pub outcome-requires : goal.outcome-requires
+outcome-requires g c = grind arith
+
+pub page_use-requires : goal.page_use-requires
+page_use-requires g c = grind arith
