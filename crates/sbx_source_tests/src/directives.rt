@@ -49,6 +49,16 @@ fn three(range: Range) -> [i128; 5] {
     ]
 }
 
+fn five(name: Name, frame: u32, stack_room: u32, budget: u64) -> [i128; 5] {
+    [
+        name.start as i128,
+        name.stop as i128,
+        frame as i128,
+        stack_room as i128,
+        budget as i128,
+    ]
+}
+
 fn told(directive: Directive) -> Told {
     match directive {
         Directive::Text => ("text", 0, NOTHING),
@@ -62,17 +72,7 @@ fn told(directive: Directive) -> Told {
             frame,
             stack_room,
             budget,
-        } => (
-            kind_name(kind),
-            5,
-            [
-                name.start as i128,
-                name.stop as i128,
-                frame as i128,
-                stack_room as i128,
-                budget as i128,
-            ],
-        ),
+        } => (kind_name(kind), 5, five(name, frame, stack_room, budget)),
         Directive::Param(range) => ("param", 3, three(range)),
         Directive::Result(range) => ("result", 3, three(range)),
         Directive::Depth(depth) => ("depth", 1, one(depth as i128)),
