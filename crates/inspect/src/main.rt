@@ -8,9 +8,10 @@ mod words;
 use commands::{explain_image, run_image, show_image, trace_image};
 use progress::Lines;
 use sbx_command::{Full, Stop};
-use std::alloc::AllocError;
+use sbx_tell::Progress;
+use std::alloc::{AllocError, Global};
 use std::fs::File;
-use std::io::{BufWriter, Write};
+use std::io::{BufWriter, Read, Write};
 use std::process::ExitCode;
 use std::{env, fs, io};
 use words::{Job, USAGE, read_words};
@@ -27,34 +28,24 @@ fn opened(rt: &HostRuntime, path: &str) -> Result<File, Stop> {
 }
 
 /// Does a job on its file, and tells on a writer.
-fn tell<O: Write>(
-    rt: &HostRuntime,
+fn tell<F: Read, I: Read, O: Write, P: Progress>(
+    alloc: Global,
     job: &Job<'_>,
-    file: &mut File,
+    file: &mut F,
+    input: &mut I,
     out: &mut O,
+    progress: &mut P,
 ) -> Result<(), Stop> {
     match *job {
-        Job::Image { .. } => show_image(rt.alloc(), file, out),
-        Job::Run { windows, limit, .. } => run_image(
-            rt.alloc(),
-            windows,
-            limit,
-            file,
-            &mut rt.stdin(),
-            out,
-            &mut Lines::new(rt),
-        ),
-        Job::Trace { windows, limit, .. } => trace_image(
-            rt.alloc(),
-            windows,
-            limit,
-            file,
-            &mut rt.stdin(),
-            out,
-            &mut Lines::new(rt),
-        ),
+        Job::Image { .. } => show_image(alloc, file, out),
+        Job::Run { windows, limit, .. } => {
+            run_image(alloc, windows, limit, file, input, out, progress)
+        }
+        Job::Trace { windows, limit, .. } => {
+            trace_image(alloc, windows, limit, file, input, out, progress)
+        }
         Job::Why { .. } => {
-            explain_image(rt.alloc(), file, out)?;
+            explain_image(alloc, file, out)?;
             Ok(())
         }
     }
@@ -71,7 +62,14 @@ fn perform(rt: &HostRuntime, job: &Job<'_>) -> Result<(), Stop> {
         Ok(out) => out,
         Err(error) => return Err(Stop::of(&error, Stop::Output)),
     };
-    tell(rt, job, &mut file, &mut out)
+    tell(
+        rt.alloc(),
+        job,
+        &mut file,
+        &mut rt.stdin(),
+        &mut out,
+        &mut Lines::new(rt),
+    )
 }
 
 /// The words after the program's name.

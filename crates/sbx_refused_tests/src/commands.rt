@@ -7,7 +7,7 @@ mod streams;
 mod words;
 
 use sbx_command::{
-    Ended, Job, ReadFault, Windows, command, decimal, read_whole, turns, window_count,
+    Ended, Job, ReadFault, Windows, command, decimal, exit_status, read_whole, turns, window_count,
 };
 use std::alloc::Global;
 use std::io::{self, Read, Write};
@@ -201,6 +201,31 @@ struct Told {
     err: Writer,
 }
 
+/// How a job ends. The streams are `dyn` here and below, so that the machines of the counts of windows are compiled once and not for each
+/// reader and writer.
+fn ended_on(
+    alloc: Global,
+    job: &Job<'_>,
+    mut file: &mut dyn Read,
+    mut input: &mut dyn Read,
+    mut out: &mut dyn Write,
+    mut err: &mut dyn Write,
+) -> Ended {
+    command(alloc, job, &mut file, &mut input, &mut out, &mut err)
+}
+
+/// The exit status of a job.
+fn status_on(
+    alloc: Global,
+    job: &Job<'_>,
+    mut file: &mut dyn Read,
+    mut input: &mut dyn Read,
+    mut out: &mut dyn Write,
+    mut err: &mut dyn Write,
+) -> u8 {
+    exit_status(alloc, job, &mut file, &mut input, &mut out, &mut err)
+}
+
 impl Told {
     /// One try of a job on a file and an input, to a writer.
     fn over(
@@ -211,7 +236,7 @@ impl Told {
         mut out: Writer,
     ) -> Told {
         let mut err = Writer::new(0);
-        let ended = command(alloc, job, &mut file, &mut input, &mut out, &mut err);
+        let ended = ended_on(alloc, job, &mut file, &mut input, &mut out, &mut err);
         Told { ended, out, err }
     }
 

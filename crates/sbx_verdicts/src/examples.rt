@@ -2,6 +2,7 @@
 //! status: a source is assembled, its image verified and run. Of an image that is kept beside its source it is told where it is another
 //! than the assembled one.
 use sbx_command::{Job, Windows, exit_status};
+use std::io::{Read, Write};
 use std::{fs, io};
 
 /// Programs, whether there is an input for each, and whether its image is kept. The last six are those of the lessons.
@@ -51,23 +52,23 @@ struct Done {
     err: Vec<u8>,
 }
 
-/// Does a job on the bytes of a file and of an input, and gives its status.
-fn status_of(
+/// Does a job, and gives its status. The types of the streams stay open here: at known ones the contract of `exit_status` takes long.
+fn status_of<F: Read, I: Read, O: Write, E: Write>(
     rt: &HostRuntime,
     job: &Job<'_>,
-    mut file: &[u8],
-    mut input: &[u8],
-    out: &mut Vec<u8>,
-    err: &mut Vec<u8>,
+    file: &mut F,
+    input: &mut I,
+    out: &mut O,
+    err: &mut E,
 ) -> u8 {
-    exit_status(rt.alloc(), job, &mut file, &mut input, out, err)
+    exit_status(rt.alloc(), job, file, input, out, err)
 }
 
 /// Does a job on the bytes of a file and of an input.
-fn performed(rt: &HostRuntime, job: &Job<'_>, file: &[u8], input: &[u8]) -> Done {
+fn performed(rt: &HostRuntime, job: &Job<'_>, mut file: &[u8], mut input: &[u8]) -> Done {
     let mut out = Vec::new(rt.alloc());
     let mut err = Vec::new(rt.alloc());
-    let status = status_of(rt, job, file, input, &mut out, &mut err);
+    let status = status_of(rt, job, &mut file, &mut input, &mut out, &mut err);
     Done { status, out, err }
 }
 

@@ -29,16 +29,24 @@ use examples::tell_programs;
 use faults::LineFault;
 use std::io::{self, BufRead, BufReader};
 
+/// What is told of a line that doesn't agree.
+fn difference(answer: Result<bool, LineFault>) -> Option<&'static str> {
+    match answer {
+        Ok(true) => None,
+        Ok(false) => Some("differs"),
+        Err(LineFault::NotRead) => Some("not read"),
+        Err(LineFault::Memory(_)) => Some("no memory"),
+    }
+}
+
 /// Compares a line, and prints it where it doesn't agree.
 fn compare(rt: &HostRuntime, comparison: &mut Comparison, line: &str) -> io::Result<()> {
     if line.starts_with('#') {
         return Ok(());
     }
-    match comparison.line(rt.alloc(), line) {
-        Ok(true) => Ok(()),
-        Ok(false) => println!(rt; "differs: {line}"),
-        Err(LineFault::NotRead) => println!(rt; "not read: {line}"),
-        Err(LineFault::Memory(_)) => println!(rt; "no memory: {line}"),
+    match difference(comparison.line(rt.alloc(), line)) {
+        Some(told) => println!(rt; "{told}: {line}"),
+        None => Ok(()),
     }
 }
 

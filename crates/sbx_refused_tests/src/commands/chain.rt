@@ -1,6 +1,6 @@
 //! A chain of calls that is deeper than any count of windows, from its source to its run and its trace.
-use super::Writer;
-use sbx_command::{Job, Windows, exit_status};
+use super::{Writer, status_on};
+use sbx_command::{Job, Windows};
 use std::alloc::Global;
 use std::io::{self, Write};
 
@@ -59,7 +59,7 @@ fn done(alloc: Global, job: &Job<'_>, mut file: &[u8]) -> Option<Vec<u8>> {
     let mut input: &[u8] = b"";
     let mut out = Vec::new(alloc);
     let mut err = Writer::new(0);
-    match exit_status(alloc, job, &mut file, &mut input, &mut out, &mut err) {
+    match status_on(alloc, job, &mut file, &mut input, &mut out, &mut err) {
         0 => Some(out),
         _ => None,
     }

@@ -1,6 +1,5 @@
 //! Runs over streams: faults where the program reads and where it writes, an input that answers, and one without end.
-use super::{End, RUN, Writer, has_ends};
-use sbx_command::exit_status;
+use super::{End, RUN, Writer, has_ends, status_on};
 use std::alloc::Global;
 use std::cell::Cell;
 use std::io::{self, Read, Write};
@@ -89,7 +88,7 @@ fn conversed(alloc: Global) -> (u8, usize) {
     };
     let mut out = Ear { heard: &heard };
     let mut err = Writer::new(0);
-    let status = exit_status(alloc, &RUN, &mut file, &mut input, &mut out, &mut err);
+    let status = status_on(alloc, &RUN, &mut file, &mut input, &mut out, &mut err);
     (status, heard.get())
 }
 
