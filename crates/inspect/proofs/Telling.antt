@@ -11,7 +11,7 @@ use Rattle.sbx_tell.specs.declared.run.Run.{Run}
 use Rattle.sbx_tell.specs.Reports.{run_text}
 use Rattle.sbx_tell.specs.Runs.{IsRun}
 use Rattle.sbx_raw.specs.Fronts.{Wrote}
-use Rattle.sbx_watch.specs.Watched.{IsWatched}
+use Rattle.sbx_tell.specs.Watched.{IsWatched}
 use Rattle.inspect.specs.Told.{Explained, IsVerdict, Ran, Shown, Traced}
 
 pub shown_on : (file old new : Option (List ℕ)) (parts : Parts) (text : List ℕ) → IfSome file (λ bytes. reading bytes ≡ Ok parts)

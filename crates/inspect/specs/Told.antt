@@ -11,7 +11,7 @@ use Rattle.sbx_raw.specs.Fronts.{Wrote}
 use Rattle.sbx_tell.specs.declared.run.Run.{Run}
 use Rattle.sbx_tell.specs.Reports.{run_text}
 use Rattle.sbx_tell.specs.Runs.{IsRun}
-use Rattle.sbx_watch.specs.Watched.{IsWatched}
+use Rattle.sbx_tell.specs.Watched.{IsWatched}
 
 -- The output grew by the text of the image that the bytes spell.
 abbrev pub Shown : Option (List ℕ) → Option (List ℕ) → Option (List ℕ) → Type 0

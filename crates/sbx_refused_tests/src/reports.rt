@@ -5,8 +5,7 @@ use crate::images::{FOREVER, HELLO, image_of};
 use crate::sheet::Sheet;
 use sbx_image::Image;
 use sbx_raw::RunFault;
-use sbx_tell::{Progress, push_run, run_windows};
-use sbx_watch::watch_windows;
+use sbx_tell::{Progress, push_run, run_windows, watch_windows};
 use std::alloc::Global;
 
 /// How often a run said how far it had come.

@@ -1,2 +1,5 @@
 pub mod Texts
 pub mod Sliced
+pub mod Found
+pub mod Sizes
+pub mod Told

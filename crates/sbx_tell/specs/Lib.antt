@@ -1,2 +1,5 @@
 pub mod Reports
 pub mod Runs
+pub mod Places
+pub mod Heads
+pub mod Watched

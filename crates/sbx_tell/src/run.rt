@@ -19,21 +19,32 @@ pub struct Run {
     pub trapped_at: u32,
 }
 
+/// What a run is asked for: the image, its input, and the most turns; and where its memory comes from.
+#[derive(Clone, Copy)]
+pub struct Request<'a> {
+    pub alloc: Global,
+    pub image: &'a Image,
+    pub input: &'a [u8],
+    pub limit: u64,
+}
+
 /// What a board tells of a run that stopped there.
 fn told_of<const N: usize>(alloc: Global, board: &Board<N, SlicePort<'_>>) -> Result<Run, RunFault>
     ensures told { IfOk result (IsToldOf N board.now.state) }
     ensures fault { IfErr result (λ fault. fault ≡ RunFault.Memory refused) }
 {
+    let (outcome, pages) = (board.outcome(), board.page_use());
+    let (fault_status, trapped_at) = (board.fault_status(), board.reg(Reg::L1));
     let mut output = Vec::new(alloc);
     match output.extend_from_slice(board.port().output()) {
         Ok(()) => Ok(Run {
             raw: Raw {
-                outcome: board.outcome(),
+                outcome,
                 output,
-                pages: board.page_use(),
-                fault_status: board.fault_status(),
+                pages,
+                fault_status,
             },
-            trapped_at: board.reg(Reg::L1),
+            trapped_at,
         }),
         Err(error) => Err(RunFault::from(error)),
     }
@@ -55,85 +66,70 @@ fn run_board<const N: usize, P: Progress>(
 
 /// The run on `N` windows, which are as many as the number says.
 fn run_on<const N: usize, P: Progress>(
-    alloc: Global,
+    request: &Request<'_>,
     windows: u32,
-    image: &Image,
-    input: &[u8],
-    limit: u64,
     progress: &mut P,
 ) -> Result<Run, RunFault>
     requires range { (4 ≤ N) × (N ≤ 32) }
     requires same { windows ≡ N }
-    ensures run { IfOk result (λ run. IsRun windows image.now input.now limit run) }
+    ensures run { IfOk result (λ run. IsRun windows request.now.image.now request.now.input.now request.now.limit run) }
     ensures fault { IfErr result (λ fault. fault ≡ RunFault.Memory refused) }
 {
     let _ = windows;
-    let mut board = begun::<N>(alloc, image, input)?;
-    run_board(alloc, &mut board, limit, progress)
+    let mut board = begun::<N>(request.alloc, request.image, request.input)?;
+    run_board(request.alloc, &mut board, request.limit, progress)
 }
 
 /// The run on 4 to 10 windows.
 fn run_to_10<P: Progress>(
-    alloc: Global,
+    request: &Request<'_>,
     windows: u32,
-    image: &Image,
-    input: &[u8],
-    limit: u64,
     progress: &mut P,
 ) -> Result<Run, RunFault>
     requires { (4 ≤ windows) × (windows ≤ 10) }
-    ensures run { IfOk result (λ run. IsRun windows image.now input.now limit run) }
+    ensures run { IfOk result (λ run. IsRun windows request.now.image.now request.now.input.now request.now.limit run) }
     ensures fault { IfErr result (λ fault. fault ≡ RunFault.Memory refused) }
 {
-    on_windows!(windows, run_on [P] (alloc, windows, image, input, limit, progress), 4 to 10)
+    on_windows!(windows, run_on [P] (request, windows, progress), 4 to 10)
 }
 
 /// The run on 11 to 17 windows.
 fn run_to_17<P: Progress>(
-    alloc: Global,
+    request: &Request<'_>,
     windows: u32,
-    image: &Image,
-    input: &[u8],
-    limit: u64,
     progress: &mut P,
 ) -> Result<Run, RunFault>
     requires { (11 ≤ windows) × (windows ≤ 17) }
-    ensures run { IfOk result (λ run. IsRun windows image.now input.now limit run) }
+    ensures run { IfOk result (λ run. IsRun windows request.now.image.now request.now.input.now request.now.limit run) }
     ensures fault { IfErr result (λ fault. fault ≡ RunFault.Memory refused) }
 {
-    on_windows!(windows, run_on [P] (alloc, windows, image, input, limit, progress), 11 to 17)
+    on_windows!(windows, run_on [P] (request, windows, progress), 11 to 17)
 }
 
 /// The run on 18 to 24 windows.
 fn run_to_24<P: Progress>(
-    alloc: Global,
+    request: &Request<'_>,
     windows: u32,
-    image: &Image,
-    input: &[u8],
-    limit: u64,
     progress: &mut P,
 ) -> Result<Run, RunFault>
     requires { (18 ≤ windows) × (windows ≤ 24) }
-    ensures run { IfOk result (λ run. IsRun windows image.now input.now limit run) }
+    ensures run { IfOk result (λ run. IsRun windows request.now.image.now request.now.input.now request.now.limit run) }
     ensures fault { IfErr result (λ fault. fault ≡ RunFault.Memory refused) }
 {
-    on_windows!(windows, run_on [P] (alloc, windows, image, input, limit, progress), 18 to 24)
+    on_windows!(windows, run_on [P] (request, windows, progress), 18 to 24)
 }
 
 /// The run on 25 to 32 windows.
 fn run_to_32<P: Progress>(
-    alloc: Global,
+    request: &Request<'_>,
     windows: u32,
-    image: &Image,
-    input: &[u8],
-    limit: u64,
     progress: &mut P,
 ) -> Result<Run, RunFault>
     requires { (25 ≤ windows) × (windows ≤ 32) }
-    ensures run { IfOk result (λ run. IsRun windows image.now input.now limit run) }
+    ensures run { IfOk result (λ run. IsRun windows request.now.image.now request.now.input.now request.now.limit run) }
     ensures fault { IfErr result (λ fault. fault ≡ RunFault.Memory refused) }
 {
-    on_windows!(windows, run_on [P] (alloc, windows, image, input, limit, progress), 25 to 32)
+    on_windows!(windows, run_on [P] (request, windows, progress), 25 to 32)
 }
 
 /// Runs an image that need not be verified on so many windows, 4 to 32, as `sbx_raw::run_raw` does, and tells in between how far it
@@ -151,13 +147,19 @@ pub fn run_windows<P: Progress>(
     ensures run { IfOk result (λ run. IsRun windows image.now input.now limit run) }
     ensures fault { IfErr result (λ fault. fault ≡ RunFault.Memory refused) }
 {
+    let request = Request {
+        alloc,
+        image,
+        input,
+        limit,
+    };
     if windows <= 10 {
-        run_to_10(alloc, windows, image, input, limit, progress)
+        run_to_10(&request, windows, progress)
     } else if windows <= 17 {
-        run_to_17(alloc, windows, image, input, limit, progress)
+        run_to_17(&request, windows, progress)
     } else if windows <= 24 {
-        run_to_24(alloc, windows, image, input, limit, progress)
+        run_to_24(&request, windows, progress)
     } else {
-        run_to_32(alloc, windows, image, input, limit, progress)
+        run_to_32(&request, windows, progress)
     }
 }

@@ -1,0 +1,206 @@
+//! The turns of a run, one after the other.
+ghost use Rattle.std.specs.Prelude.{◌≡◌, ◌≢◌, ◌≤◌, IfErr, OnErr, OnOk};
+ghost use Rattle.sbx_tell.specs.Watched.{Watched, WatchedPart, WatchedRun, WatchedSome, WatchedTurn};
+
+use crate::run::Request;
+use crate::slices::Progress;
+use crate::teller::Teller;
+use sbx_counts::on_windows;
+use sbx_image::{Function, Image};
+use sbx_put::put_all;
+use sbx_raw::{RunFault, SlicePort, begun, fault_of};
+use std::alloc::Global;
+use std::io::Write;
+use v8_board::Board;
+
+/// The turns of a slice, between which it is told how far the run has come: so many that who reads the first pages of a trace isn't
+/// disturbed.
+const SLICE: u64 = 262_144;
+
+/// Tells how far a run has come that goes on, where a slice is done.
+fn tell_slice<P: Progress>(progress: &mut P, done: u64) {
+    if done > 0 && done % SLICE == 0 {
+        progress.made(done);
+    }
+}
+
+/// Makes a turn, and writes its text.
+fn watch_turn<const N: usize, W: Write>(
+    board: &mut Board<N, SlicePort<'_>>,
+    functions: &[Function],
+    number: u64,
+    teller: &mut Teller<N>,
+    out: &mut W,
+) -> Result<(), RunFault>
+    ensures whole { OnOk result (WatchedTurn N functions.now number board.old.state board.new.state (W.contents out.old) (W.contents out.new)) }
+    ensures part { OnErr result (WatchedSome N functions.now number board.old.state (W.contents out.old) (W.contents out.new)) }
+    ensures fault { IfErr result (λ fault. fault ≢ RunFault.Reader) }
+{
+    let turn = match board.step() {
+        Ok(turn) => turn,
+        Err(fault) => return Err(fault_of(board, fault)),
+    };
+    match teller.make_turn(functions, number, &turn, board) {
+        Ok(()) => {}
+        Err(error) => return Err(RunFault::from(error)),
+    }
+    match put_all(out, teller.line.as_bytes()) {
+        Ok(()) => Ok(()),
+        Err(_) => Err(RunFault::Writer),
+    }
+}
+
+/// Runs a board to an end, but at most so many turns, and writes the text of each.
+fn watch_turns<const N: usize, W: Write, P: Progress>(
+    board: &mut Board<N, SlicePort<'_>>,
+    functions: &[Function],
+    limit: u64,
+    teller: &mut Teller<N>,
+    out: &mut W,
+    progress: &mut P,
+) -> Result<(), RunFault>
+    ensures whole { OnOk result (WatchedRun N functions.now limit board.old.state board.new.state (W.contents out.old) (W.contents out.new)) }
+    ensures part { OnErr result (WatchedPart N functions.now limit board.old.state (W.contents out.old) (W.contents out.new)) }
+    ensures fault { IfErr result (λ fault. fault ≢ RunFault.Reader) }
+{
+    for done in 0..limit {
+        let None = board.ending() else {
+            return Ok(());
+        };
+        tell_slice(progress, done);
+        watch_turn(board, functions, done + 1, teller, out)?;
+    }
+    Ok(())
+}
+
+/// Runs a board that was loaded with an image, and writes the text of each turn, through to the end.
+fn watch_board<const N: usize, W: Write, P: Progress>(
+    alloc: Global,
+    board: &mut Board<N, SlicePort<'_>>,
+    functions: &[Function],
+    limit: u64,
+    out: &mut W,
+    progress: &mut P,
+) -> Result<(), RunFault>
+    requires { (4 ≤ N) × (N ≤ 32) }
+    ensures whole { OnOk result (WatchedRun N functions.now limit board.old.state board.new.state (W.contents out.old) (W.contents out.new)) }
+    ensures part { OnErr result (WatchedPart N functions.now limit board.old.state (W.contents out.old) (W.contents out.new)) }
+    ensures fault { IfErr result (λ fault. fault ≢ RunFault.Reader) }
+{
+    let mut teller = Teller::new(alloc, board);
+    watch_turns(board, functions, limit, &mut teller, out, progress)?;
+    match out.flush() {
+        Ok(()) => Ok(()),
+        Err(_) => Err(RunFault::Writer),
+    }
+}
+
+/// The turns on `N` windows, which are as many as the number says.
+fn watch_on<const N: usize, W: Write, P: Progress>(
+    request: &Request<'_>,
+    windows: u32,
+    out: &mut W,
+    progress: &mut P,
+) -> Result<(), RunFault>
+    requires range { (4 ≤ N) × (N ≤ 32) }
+    requires same { windows ≡ N }
+    ensures { Watched windows request.now.image.now request.now.input.now request.now.limit (W.contents out.old) (W.contents out.new) result }
+{
+    let _ = windows;
+    let mut board = begun::<N>(request.alloc, request.image, request.input)?;
+    let functions = request.image.functions();
+    watch_board(
+        request.alloc,
+        &mut board,
+        functions,
+        request.limit,
+        out,
+        progress,
+    )
+}
+
+/// The turns on 4 to 10 windows.
+fn watch_to_10<W: Write, P: Progress>(
+    request: &Request<'_>,
+    windows: u32,
+    out: &mut W,
+    progress: &mut P,
+) -> Result<(), RunFault>
+    requires { (4 ≤ windows) × (windows ≤ 10) }
+    ensures { Watched windows request.now.image.now request.now.input.now request.now.limit (W.contents out.old) (W.contents out.new) result }
+{
+    on_windows!(windows, watch_on [W P] (request, windows, out, progress), 4 to 10)
+}
+
+/// The turns on 11 to 17 windows.
+fn watch_to_17<W: Write, P: Progress>(
+    request: &Request<'_>,
+    windows: u32,
+    out: &mut W,
+    progress: &mut P,
+) -> Result<(), RunFault>
+    requires { (11 ≤ windows) × (windows ≤ 17) }
+    ensures { Watched windows request.now.image.now request.now.input.now request.now.limit (W.contents out.old) (W.contents out.new) result }
+{
+    on_windows!(windows, watch_on [W P] (request, windows, out, progress), 11 to 17)
+}
+
+/// The turns on 18 to 24 windows.
+fn watch_to_24<W: Write, P: Progress>(
+    request: &Request<'_>,
+    windows: u32,
+    out: &mut W,
+    progress: &mut P,
+) -> Result<(), RunFault>
+    requires { (18 ≤ windows) × (windows ≤ 24) }
+    ensures { Watched windows request.now.image.now request.now.input.now request.now.limit (W.contents out.old) (W.contents out.new) result }
+{
+    on_windows!(windows, watch_on [W P] (request, windows, out, progress), 18 to 24)
+}
+
+/// The turns on 25 to 32 windows.
+fn watch_to_32<W: Write, P: Progress>(
+    request: &Request<'_>,
+    windows: u32,
+    out: &mut W,
+    progress: &mut P,
+) -> Result<(), RunFault>
+    requires { (25 ≤ windows) × (windows ≤ 32) }
+    ensures { Watched windows request.now.image.now request.now.input.now request.now.limit (W.contents out.old) (W.contents out.new) result }
+{
+    on_windows!(windows, watch_on [W P] (request, windows, out, progress), 25 to 32)
+}
+
+/// Runs an image on an input, on so many windows, 4 to 32, to an end, but at most so many turns, and writes a text for each: its
+/// number, the window, the mode, PC and the name of the place before it, and the instruction; then a trap by its name, the registers
+/// that it changed, PSR, WIM and Y, pages that it referenced or modified for the first time, the words that it stored, and the byte
+/// that it put out. Lines have at most 100 columns, and those that go on begin with blanks. Where the writer fails, or memory is
+/// refused, it has the first bytes of such a text. It tells in between how far the run has come. Each count is a machine of its own.
+pub fn watch_windows<W: Write, P: Progress>(
+    alloc: Global,
+    windows: u32,
+    image: &Image,
+    input: &[u8],
+    limit: u64,
+    out: &mut W,
+    progress: &mut P,
+) -> Result<(), RunFault>
+    requires { (4 ≤ windows) × (windows ≤ 32) }
+    ensures { Watched windows image.now input.now limit (W.contents out.old) (W.contents out.new) result }
+{
+    let request = Request {
+        alloc,
+        image,
+        input,
+        limit,
+    };
+    if windows <= 10 {
+        watch_to_10(&request, windows, out, progress)
+    } else if windows <= 17 {
+        watch_to_17(&request, windows, out, progress)
+    } else if windows <= 24 {
+        watch_to_24(&request, windows, out, progress)
+    } else {
+        watch_to_32(&request, windows, out, progress)
+    }
+}
