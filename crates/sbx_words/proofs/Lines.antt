@@ -1,12 +1,13 @@
 -- From what `clap` finds to the job that the words ask for.
 use Rattle.std.proofs.Common.{◌∙◌, ◌≡◌, ◌≤◌, ◌≢◌, ℕ, List, [], Option, Some, None, Result, Ok, Err, refl, sym, ap, ap₂, subst, inl, inr, arith, true, false, slice_index}
-use Rattle.std.specs.Prelude.{Box, IfOk, IfSome, IsErr, SomeIff, codes, option_map, unwrap_or}
+use Rattle.std.specs.Prelude.{Box, Bool, IfOk, IfSome, IsErr, SomeIff, ◌||◌, ◌∷◌, ◌++◌, codes, option_map, unwrap_or}
 use Rattle.std.specs.Result.{result_ok}
 use Rattle.std.specs.Borrow.{Bor}
 use Rattle.std.specs.Str.Parse.{IsNumeral, digits_value}
 use Rattle.std.specs.Box.{box_value}
-use Rattle.clap.specs.Words.{AddsSubcommand, App, HasKind, HasMatchesOf, IsAmong, Kinds, Row, Shape, Text, app_of, fault_of, first_of, first_value}
-use Rattle.clap.specs.Words.{is_simple, is_simple_and_free, kind_of, rows_of, subcommand_of, subcommand_rows, subcommand_rows_of, with_subcommand}
+use Rattle.clap.specs.Words.{AddsSubcommand, App, HasKind, HasMatchesOf, IsAmong, Kinds, Row, Rule, Shape, Text, app_of, fault_of, first_of, first_value}
+use Rattle.clap.specs.Words.{is_simple, is_simple_and_free, kind_of, rows_of, rule_of, subcommand_of, subcommand_rows, subcommand_rows_of, with_rule, with_subcommand}
+use Rattle.clap.specs.declared.builder.arg.Arg.{Arg}
 use Rattle.clap.specs.declared.builder.command.Command.{Command}
 use Rattle.clap.proofs.OnLiterals.{clap_on_literals}
 use Rattle.clap.proofs.WalkLemmas.{first_value-rows}
@@ -20,7 +21,7 @@ use Rattle.sbx_command.specs.declared.jobs.Job.{Job}
 use Rattle.sbx_command.specs.declared.jobs.Job.TheVariants.{Asm, Verify, Run, List as Listing, Trace}
 use Rattle.sbx_words.specs.declared.Usage.{Usage}
 use Rattle.sbx_words.specs.declared.Usage.TheVariants.{Text as Told, Memory, NoRoom}
-use Rattle.sbx_words.specs.Lines.{Adds, HasLimit, HasPath, HasWindows, IsAlone, IsGiven, IsText, IsTrueOfWords, Means, MeansJob, sandbox_app}
+use Rattle.sbx_words.specs.Lines.{Adds, HasLimit, HasPath, HasWindows, IsAlone, IsGiven, IsText, IsTrueOfWords, Means, MeansJob, Takes, sandbox_app, shape_with}
 
 -- ---- the command line is one of which `clap` says all
 
@@ -37,10 +38,25 @@ pub grown : (old below new : Command) (app : App) (shape : Shape) → AddsSubcom
     → app_of new ≡ with_subcommand app shape
 grown old below new app shape adds is alone = adds.shape alone.1 ∙ ap₂ with_subcommand is (ap (λ (a : App). a.top) alone.0)
 
-pub grown_by : {E : Type 0} (old new : Command) (below : Result Command E) (app : App) (shape : Shape) → Adds old below new → app_of old ≡ app
-    → IfOk below (IsAlone shape) → app_of new ≡ with_subcommand app shape
-grown_by {E} old new below app shape (made, is, adds) was alone =
-    grown old made new app shape adds was (subst (λ (r : Result Command E). IfOk r (IsAlone shape)) is alone)
+pub grows : {E : Type 0} (old below new : Result Command E) (app : App) (shape : Shape) → IfOk new (Adds old below) → IfOk old (λ c. app_of c ≡ app)
+    → IfOk below (IsAlone shape) → IfOk new (λ c. app_of c ≡ with_subcommand app shape)
+grows old below (Err e) app shape adds was alone = tt
+grows {E} old below (Ok new) app shape (command, made, is, lies, adds) was alone =
+    grown command made new app shape adds (subst (λ (r : Result Command E). IfOk r (λ c. app_of c ≡ app)) is was)
+    (subst (λ (r : Result Command E). IfOk r (IsAlone shape)) lies alone)
+
+-- its first argument
+pub first_is : {E : Type 0} (made : Result Command E) (name : Text) (first : Arg) (rule : Rule) → IfOk made (IsAlone (shape_with name (rule_of first ∷ [])))
+    → rule_of first ≡ rule → IfOk made (IsAlone (shape_with name (rule ∷ [])))
+first_is made name first rule alone is = subst (λ (r : Rule). IfOk made (IsAlone (shape_with name (r ∷ [])))) is alone
+
+-- an argument more
+pub takes : {E : Type 0} (old new : Result Command E) (more : Arg) (shape : Shape) (rule : Rule) → IfOk new (Takes old more) → IfOk old (IsAlone shape)
+    → rule_of more ≡ rule → more.global ≡ false → IfOk new (IsAlone (record shape { rules = shape.rules ++ rule ∷ [] }))
+takes old (Err e) more shape rule has alone is local = tt
+takes {E} old (Ok new) more shape rule (command, made, adds) alone is local =
+    let was : IsAlone shape command = subst (λ (r : Result Command E). IfOk r (IsAlone shape)) made alone in
+    (adds.shape local ∙ ap₂ with_rule was.0 is, adds.globals ∙ ap₂ (λ (a b : Bool). a || b) was.1 local)
 
 -- ---- what `clap` answers by it
 
@@ -185,6 +201,14 @@ no_trace found none (Asm source object) means = let bad : ◌≡◌ {A = ℕ} 11
 no_trace found none (Verify image) means = let bad : ◌≡◌ {A = ℕ} 116 118 = means_letter (codes "trace") found (Verify image) means in absurd (omega arith)
 no_trace found none (Run image windows) means = let bad : ◌≡◌ {A = ℕ} 116 114 = means_letter (codes "trace") found (Run image windows) means in absurd (omega arith)
 no_trace found none (Listing image) means = let bad : ◌≡◌ {A = ℕ} 116 108 = means_letter (codes "trace") found (Listing image) means in absurd (omega arith)
+
+-- a command without the image that it needs
+pub no_image : (name : Text) (found : List Row) → name ≢ codes "asm" → first_of (codes "IMG") found ≡ None → (job : Job) → MeansJob name found job → ⊥
+no_image name found other none (Asm source object) means = other means.0
+no_image name found other none (Verify image) means = let bad : None ≡ Some image.now = sym none ∙ means.1 in cc
+no_image name found other none (Run image windows) means = let bad : None ≡ Some image.now = sym none ∙ means.1 in cc
+no_image name found other none (Listing image) means = let bad : None ≡ Some image.now = sym none ∙ means.1 in cc
+no_image name found other none (Trace image windows limit) means = let bad : None ≡ Some image.now = sym none ∙ means.1 in cc
 
 -- a name that is none of theirs
 pub no_command : (name : Text) (found : List Row) → name ≢ codes "asm" → name ≢ codes "verify" → name ≢ codes "run" → name ≢ codes "list" → name ≢ codes "trace"

@@ -1,7 +1,8 @@
 -- What the words of a command line ask for: the command line as `clap` knows it, and the job that its reading of the words means.
 use Rattle.std.specs.Prelude.{◌≡◌, ◌≤◌, ℕ, true, false, List, [], ◌∷◌, Option, Some, None, Result, Ok, IsSomeAnd, codes}
 use Rattle.std.specs.Str.Parse.{IsNumeral, digits_value}
-use Rattle.clap.specs.Words.{AddsSubcommand, App, Row, Rule, Shape, Text, app_of, fault_of, first_of, new_rule, subcommand_of}
+use Rattle.clap.specs.Words.{AddsArg, AddsSubcommand, App, Row, Rule, Shape, Text, app_of, fault_of, first_of, new_rule, subcommand_of}
+use Rattle.clap.specs.declared.builder.arg.Arg.{Arg}
 use Rattle.clap.specs.declared.builder.command.Command.{Command}
 use Rattle.clap.specs.declared.builder.command.Command.TheViews.{out-Command as fields_of}
 use Rattle.clap.specs.Simple.{new_shape}
@@ -69,9 +70,13 @@ IsAlone shape command = IsMade (record { top = shape; subs = [] }) command
 abbrev pub bare_shape : Shape
 bare_shape = record sandbox_app.top { is_leaf = true }
 
--- the new command is the old one with the one below it, which was made
-abbrev pub Adds : {E : Type 0} → Command → Result Command E → Command → Type 0
-Adds old below new = (made : Command) × (below ≡ Ok made) × AddsSubcommand old made new
+-- the new command is the old one, which was made, with one argument more
+abbrev pub Takes : {E : Type 0} → Result Command E → Arg → Command → Type 0
+Takes old more new = (command : Command) × (old ≡ Ok command) × AddsArg command more new
+
+-- the new command is the old one with the one below it, both of which were made
+abbrev pub Adds : {E : Type 0} → Result Command E → Result Command E → Command → Type 0
+Adds old below new = (command : Command) × (made : Command) × (old ≡ Ok command) × (below ≡ Ok made) × AddsSubcommand command made new
 
 -- ---- what the words mean
 

@@ -6,7 +6,7 @@ ghost use Rattle.clap.specs.Words.{app_of, fault_of, first_of, found_of, kind_of
 ghost use Rattle.sbx_command.specs.declared.jobs.Job.{Job};
 ghost use Rattle.sbx_command.specs.Jobs.{IsInRange};
 ghost use Rattle.want.specs.Wants.{refused};
-ghost use Rattle.sbx_words.specs.Lines.{Adds, AskFor, HasLimit, HasPath, HasWindows, IsAlone, IsText, IsTrueOfWords, Means, MeansJob, asm_shape, bare_shape, image_rule, number_rule, path_rule, run_shape, sandbox_app, shape_with, trace_shape};
+ghost use Rattle.sbx_words.specs.Lines.{Adds, AskFor, HasLimit, HasPath, HasWindows, IsAlone, IsText, IsTrueOfWords, Means, MeansJob, Takes, asm_shape, bare_shape, image_rule, number_rule, path_rule, run_shape, sandbox_app, shape_with, trace_shape};
 
 mod starved;
 
@@ -128,44 +128,60 @@ const LIST: &str = "Prints address, word and text of each word of an image's cod
 const TRACE: &str =
     "Runs an image, accepted or not, on standard input, which is read whole first, and prints a line a turn";
 
+/// A command that has one path or number.
+fn of<'a>(
+    alloc: Global,
+    name: &'a str,
+    about: &'a str,
+    first: Arg<'a>,
+) -> Result<Command<'a>, AllocError>
+    requires { first.global ≡ false }
+    ensures { IfOk result (IsAlone (shape_with name.entry.now (rule_of first.entry ∷ []))) }
+{
+    Command::new(alloc, name).about(about).arg(first)
+}
+
+/// A command that has one path or number more, if there was memory for it.
+fn with<'a>(
+    command: Result<Command<'a>, AllocError>,
+    more: Arg<'a>,
+) -> Result<Command<'a>, AllocError>
+    ensures { IfOk result (λ made. Takes command.entry more.entry made) }
+{
+    command?.arg(more)
+}
+
 /// The command that assembles a source.
 fn asm<'a>(alloc: Global) -> Result<Command<'a>, AllocError>
     ensures { IfOk result (IsAlone asm_shape) }
 {
-    Command::new(alloc, "asm")
-        .about(ASM)
-        .arg(path(alloc, "SRC", "The source file"))?
-        .arg(path(alloc, "OUT", "The image file that is made"))
+    let source = of(alloc, "asm", ASM, path(alloc, "SRC", "The source file"));
+    with(source, path(alloc, "OUT", "The image file that is made"))
 }
 
 /// A command that has the path of an image, and nothing else.
 fn of_image<'a>(alloc: Global, name: &'a str, about: &'a str) -> Result<Command<'a>, AllocError>
     ensures { IfOk result (IsAlone (shape_with name.entry.now (image_rule ∷ []))) }
 {
-    Command::new(alloc, name)
-        .about(about)
-        .arg(path(alloc, "IMG", IMG))
+    of(alloc, name, about, path(alloc, "IMG", IMG))
 }
 
 /// The command that runs an image.
 fn run<'a>(alloc: Global) -> Result<Command<'a>, AllocError>
     ensures { IfOk result (IsAlone run_shape) }
 {
-    Command::new(alloc, "run")
-        .about(RUN)
-        .arg(number(alloc, "windows", "N", WINDOWS))?
-        .arg(path(alloc, "IMG", IMG))
+    let windows = of(alloc, "run", RUN, number(alloc, "windows", "N", WINDOWS));
+    with(windows, path(alloc, "IMG", IMG))
 }
 
 /// The command that traces an image.
 fn trace<'a>(alloc: Global) -> Result<Command<'a>, AllocError>
     ensures { IfOk result (IsAlone trace_shape) }
 {
-    Command::new(alloc, "trace")
-        .about(TRACE)
-        .arg(number(alloc, "windows", "N", WINDOWS))?
-        .arg(number(alloc, "limit", "T", LIMIT))?
-        .arg(path(alloc, "IMG", IMG))
+    let windows = number(alloc, "windows", "N", WINDOWS);
+    let limit = number(alloc, "limit", "T", LIMIT);
+    let limited = with(of(alloc, "trace", TRACE, windows), limit);
+    with(limited, path(alloc, "IMG", IMG))
 }
 
 /// The sandbox without its commands.
@@ -179,24 +195,24 @@ fn bare<'a>(alloc: Global) -> Result<Command<'a>, AllocError>
         .bin_name("sandbox")
 }
 
-/// A command with one more below it, if there was memory for that one.
+/// A command with one more below it, if there was memory for both.
 fn add<'a>(
-    command: Command<'a>,
+    command: Result<Command<'a>, AllocError>,
     below: Result<Command<'a>, AllocError>,
 ) -> Result<Command<'a>, AllocError>
     ensures { IfOk result (λ added. Adds command.entry below.entry added) }
 {
-    command.subcommand(below?)
+    command?.subcommand(below?)
 }
 
 /// The whole command line.
 fn sandbox<'a>(alloc: Global) -> Result<Command<'a>, AllocError>
     ensures { IfOk result (λ c. app_of c ≡ sandbox_app) }
 {
-    let assembling = add(bare(alloc)?, asm(alloc))?;
-    let verifying = add(assembling, of_image(alloc, "verify", VERIFY))?;
-    let running = add(verifying, run(alloc))?;
-    let listing = add(running, of_image(alloc, "list", LIST))?;
+    let assembling = add(bare(alloc), asm(alloc));
+    let verifying = add(assembling, of_image(alloc, "verify", VERIFY));
+    let running = add(verifying, run(alloc));
+    let listing = add(running, of_image(alloc, "list", LIST));
     add(listing, trace(alloc))
 }
 
@@ -224,16 +240,27 @@ fn limit_in(found: &ArgMatches<'_>) -> Result<u64, Lack>
     turns(found.get_str("limit")).ok_or(Lack::Limit)
 }
 
-/// The job of `trace`.
-fn trace_job<'a>(found: &ArgMatches<'a>) -> Result<Job<'a>, Lack>
-    ensures job { IfOk result (MeansJob (codes "trace") (rows_of (found_of found.now))) }
-    ensures none { IsErr result → (job : Job) → MeansJob (codes "trace") (rows_of (found_of found.now)) job → ⊥ }
+/// The job of a command that has an image.
+fn image_job<'a>(name: &str, found: &ArgMatches<'a>) -> Result<Job<'a>, Lack>
+    requires { name.now ≢ codes "asm" }
+    ensures job { IfOk result (MeansJob name.now (rows_of (found_of found.now))) }
+    ensures none { IsErr result → (job : Job) → MeansJob name.now (rows_of (found_of found.now)) job → ⊥ }
 {
-    Ok(Job::Trace {
-        image: path_in("IMG", found)?,
-        windows: windows_in(found)?,
-        limit: limit_in(found)?,
-    })
+    let image = path_in("IMG", found)?;
+    match name {
+        "verify" => Ok(Job::Verify { image }),
+        "run" => Ok(Job::Run {
+            image,
+            windows: windows_in(found)?,
+        }),
+        "list" => Ok(Job::List { image }),
+        "trace" => Ok(Job::Trace {
+            image,
+            windows: windows_in(found)?,
+            limit: limit_in(found)?,
+        }),
+        _ => Err(Lack::Command),
+    }
 }
 
 /// The job of a command with what was found for it.
@@ -246,18 +273,7 @@ fn job_of<'a>(name: &str, found: &ArgMatches<'a>) -> Result<Job<'a>, Lack>
             source: path_in("SRC", found)?,
             object: path_in("OUT", found)?,
         }),
-        "verify" => Ok(Job::Verify {
-            image: path_in("IMG", found)?,
-        }),
-        "run" => Ok(Job::Run {
-            image: path_in("IMG", found)?,
-            windows: windows_in(found)?,
-        }),
-        "list" => Ok(Job::List {
-            image: path_in("IMG", found)?,
-        }),
-        "trace" => trace_job(found),
-        _ => Err(Lack::Command),
+        _ => image_job(name, found),
     }
 }
 
