@@ -1,5 +1,5 @@
 -- What a trace gives, and what it leaves where it stops.
-use Rattle.std.proofs.Common.{◌≡◌, ◌⊎◌, inl, inr, refl, subst, sym, ℕ, List, [], Option, None, Some, IfSome, Result, Ok, Err, IfOk, IfErr}
+use Rattle.std.proofs.Common.{◌≡◌, ◌⊎◌, ◌∙◌, inl, inr, refl, subst, sym, ℕ, List, [], Option, None, Some, IfSome, Result, Ok, Err, IfOk, IfErr, OnOk}
 use Rattle.std.proofs.KnownBytes.{Appends-nil}
 use Rattle.want.specs.Wants.{refused}
 use Rattle.sbx_image.specs.Parts.{Parts}
@@ -11,8 +11,8 @@ use Rattle.sbx_put.specs.Fronts.{Wrote}
 use Rattle.sbx_stream.specs.Traces.{IsTrace, Leaves}
 use Rattle.sbx_command.specs.declared.stops.Stop.{Stop}
 use Rattle.sbx_command.specs.declared.stops.Stop.TheVariants.{Source, Image, Refused, File, Input, Output, Memory, NoRoom}
-use Rattle.sbx_command.specs.Stops.{IsEarly, stop_of_run}
-use Rattle.sbx_command.specs.Verdicts.{TraceGives, TraceLeaves, TraceLeft, Traced}
+use Rattle.sbx_command.specs.Stops.{IsEarly, IsOfFile, IsOfTrace, IsTrueOfImage, stop_of_run}
+use Rattle.sbx_command.specs.Verdicts.{IsImage, OfSpelled, TraceGives, TraceLeaves, TraceLeft, Traced}
 
 -- a trace on as many windows as another number says
 pub trace_at : (n windows : ℕ) (parts : Parts) (input : List ℕ) (limit : ℕ) (old new : Option (List ℕ)) (result : Result Outcome RunFault) → windows ≡ n
@@ -78,3 +78,68 @@ left_in_run windows limit (Some bytes) (Some all) old new parts taken fault stop
       (leaves windows limit bytes all parts fault written read (subst (λ (input : List ℕ). Leaves windows parts input limit fault written) same so)),
   put,
 )
+
+-- ---- of an image alone
+
+-- what was taken of an input is all of it, where it is known
+pub taken_whole : (input : Option (List ℕ)) (taken items : List ℕ) → taken ≡ items → IfSome input (λ all. items ≡ all) → IfSome input (λ all. taken ≡ all)
+taken_whole None taken items same whole = tt
+taken_whole (Some all) taken items same whole = same ∙ whole
+
+pub of_input : (stop : Stop) → (stop ≡ Memory refused) ⊎ (stop ≡ Input) → IsOfTrace stop
+of_input stop (inl is) = subst IsOfTrace (sym is) tt
+of_input stop (inr is) = subst IsOfTrace (sym is) tt
+
+pub of_run : (fault : RunFault) (stop : Stop) → stop ≡ stop_of_run fault → IsOfTrace stop
+of_run (runs.Memory want) stop is = subst IsOfTrace (sym is) tt
+of_run runs.Reader stop is = subst IsOfTrace (sym is) tt
+of_run runs.Writer stop is = subst IsOfTrace (sym is) tt
+
+-- ---- of the image of a file
+
+pub image_of : (P : Type 0) (file : Option (List ℕ)) (parts : Parts) (result : Result (Unit {0}) Stop) → IfSome file (λ bytes. reading bytes ≡ Ok parts)
+    → OnOk result P → OnOk result (IfSome file IsImage)
+image_of P None parts (Ok u) read done = tt
+image_of P (Some bytes) parts (Ok u) read done = (parts, read)
+image_of P file parts (Err stop) read done = tt
+
+pub traced_of : (windows limit : ℕ) (file input old new : Option (List ℕ)) (parts : Parts) (result : Result (Unit {0}) Stop)
+    → IfSome file (λ bytes. reading bytes ≡ Ok parts) → OnOk result (OfSpelled parts (λ known. Traced windows limit known input old new))
+    → OnOk result (Traced windows limit file input old new)
+traced_of windows limit file input old new parts (Ok u) read traced = traced file read
+traced_of windows limit file input old new parts (Err stop) read traced = tt
+
+pub left_of : (windows limit : ℕ) (file input old new : Option (List ℕ)) (parts : Parts) (result : Result (Unit {0}) Stop)
+    → IfSome file (λ bytes. reading bytes ≡ Ok parts) → IfErr result (λ stop. OfSpelled parts (λ known. TraceLeft windows limit known input old new stop))
+    → IfErr result (TraceLeft windows limit file input old new)
+left_of windows limit file input old new parts (Ok u) read left = tt
+left_of windows limit file input old new parts (Err stop) read left = left file read
+
+true_of_image : (stop : Stop) (bytes : List ℕ) → IsOfTrace stop → IsTrueOfImage stop bytes
+true_of_image (Source fault) bytes is = absurd is
+true_of_image (Image fault) bytes is = absurd is
+true_of_image (Refused refusal) bytes is = absurd is
+true_of_image File bytes is = absurd is
+true_of_image Input bytes is = tt
+true_of_image Output bytes is = tt
+true_of_image (Memory want) bytes is = tt
+true_of_image (NoRoom full) bytes is = absurd is
+
+pub stop_of_trace : (file : Option (List ℕ)) (result : Result (Unit {0}) Stop) → IfErr result IsOfTrace → IfErr result (λ stop. IfSome file (IsTrueOfImage stop))
+stop_of_trace file (Ok u) is = tt
+stop_of_trace None (Err stop) is = tt
+stop_of_trace (Some bytes) (Err stop) is = true_of_image stop bytes is
+
+not_of_file : (stop : Stop) → IsOfTrace stop → IsOfFile stop → ⊥
+not_of_file (Source fault) is of_file = absurd is
+not_of_file (Image fault) is of_file = absurd is
+not_of_file (Refused refusal) is of_file = absurd is
+not_of_file File is of_file = absurd is
+not_of_file Input is of_file = of_file
+not_of_file Output is of_file = of_file
+not_of_file (Memory want) is of_file = of_file
+not_of_file (NoRoom full) is of_file = absurd is
+
+pub untouched_by_trace : (P : Type 0) (result : Result (Unit {0}) Stop) → IfErr result IsOfTrace → IfErr result (λ stop. IsOfFile stop → P)
+untouched_by_trace P (Ok u) is = tt
+untouched_by_trace P (Err stop) is = λ of_file. absurd (not_of_file stop is of_file)

@@ -64,6 +64,17 @@ IsOfFile Output = ⊥
 IsOfFile (Memory want) = ⊥
 IsOfFile (NoRoom full) = ⊥
 
+-- what stops a trace whose image is there: its own streams, or want of memory
+abbrev pub IsOfTrace : Stop → Type 0
+IsOfTrace (Source fault) = ⊥
+IsOfTrace (Image fault) = ⊥
+IsOfTrace (Refused refusal) = ⊥
+IsOfTrace File = ⊥
+IsOfTrace Input = Unit {0}
+IsOfTrace Output = Unit {0}
+IsOfTrace (Memory want) = Unit {0}
+IsOfTrace (NoRoom full) = ⊥
+
 -- want of memory that a file or a stream told
 abbrev pub HasNoRoom : Stop → Type 0
 HasNoRoom stop = (full : Full) × (stop ≡ NoRoom full)

@@ -99,6 +99,10 @@ TracedOn windows limit bytes input old new =
 abbrev pub Traced : ℕ → ℕ → Option (List ℕ) → Option (List ℕ) → Option (List ℕ) → Option (List ℕ) → Type 0
 Traced windows limit file input old new = IfSome file (λ bytes. IfSome input (λ all. TracedOn windows limit bytes all old new))
 
+-- it is so of each file whose bytes spell an image, where they are known
+abbrev pub OfSpelled : Parts → (Option (List ℕ) → Type 0) → Type 0
+OfSpelled parts P = (file : Option (List ℕ)) → IfSome file (λ bytes. reading bytes ≡ Ok parts) → P file
+
 -- The output grew by the listing of the image that the bytes of the file spell, where they are known.
 abbrev pub Listed : Option (List ℕ) → Option (List ℕ) → Option (List ℕ) → Type 0
 Listed file old new = IfSome file (λ bytes. (parts : Parts) × (reading bytes ≡ Ok parts) × Appends old new (listing CODE_START parts.words))

@@ -50,7 +50,7 @@ fn store<O: Write>(out: &mut O, bytes: &[u8]) -> Result<(), Stop>
 }
 
 /// Writes the image that the source in a file means.
-#[tactic(auto, using(crate::proofs::Sources::assembled_on, crate::proofs::Fronts::left_early))]
+#[tactic(auto, using(crate::proofs::Sources::assembled_on))]
 pub fn assemble_file<F: Read, O: Write>(
     alloc: Global,
     file: &mut F,

@@ -10,7 +10,7 @@ use std::alloc::Global;
 use std::io::{Read, Write};
 
 /// Lists the code of the image of a file.
-#[tactic(auto, using(crate::proofs::Fronts::listed_on, crate::proofs::Fronts::left_early, crate::proofs::Fronts::listing_begun))]
+#[tactic(auto, using(crate::proofs::Fronts::listed_on, crate::proofs::Fronts::listing_begun))]
 pub fn list_file<F: Read, O: Write>(alloc: Global, file: &mut F, out: &mut O) -> Result<(), Stop>
     ensures image { OnOk result (IfSome (F.remaining file.old) IsImage) }
     ensures listed { OnOk result (Listed (F.remaining file.old) (O.contents out.old) (O.contents out.new)) }

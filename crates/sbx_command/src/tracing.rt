@@ -1,7 +1,7 @@
 //! The command `trace`.
 ghost use Rattle.std.specs.Prelude.{◌≡◌, ◌≤◌, ◌⊎◌, IfErr, IfOk, IfSome, OnOk};
-ghost use Rattle.sbx_command.specs.Stops.{IsOfFile, IsTrueOfImage};
-ghost use Rattle.sbx_command.specs.Verdicts.{IsImage, TraceGives, TraceLeft, Traced};
+ghost use Rattle.sbx_command.specs.Stops.{IsOfFile, IsOfTrace, IsTrueOfImage};
+ghost use Rattle.sbx_command.specs.Verdicts.{IsImage, OfSpelled, TraceGives, TraceLeft, Traced};
 ghost use Rattle.want.specs.Wants.{refused};
 
 use crate::counts::Windows;
@@ -44,68 +44,8 @@ fn trace_on<const N: usize, O: Write>(
     trace::<N, O>(alloc, image, input, limit, out)
 }
 
-/// Writes the trace on 4 to 10 windows.
-fn trace_to_10<O: Write>(
-    alloc: Global,
-    windows: u32,
-    image: &Image,
-    input: &[u8],
-    limit: u64,
-    out: &mut O,
-) -> Result<Outcome, RunFault>
-    requires { (4 ≤ windows) × (windows ≤ 10) }
-    ensures { TraceGives windows image.now input.now limit (O.contents out.old) (O.contents out.new) result }
-{
-    on_windows!(windows, trace_on [O] (alloc, windows, image, input, limit, out), 4 to 10)
-}
-
-/// Writes the trace on 11 to 17 windows.
-fn trace_to_17<O: Write>(
-    alloc: Global,
-    windows: u32,
-    image: &Image,
-    input: &[u8],
-    limit: u64,
-    out: &mut O,
-) -> Result<Outcome, RunFault>
-    requires { (11 ≤ windows) × (windows ≤ 17) }
-    ensures { TraceGives windows image.now input.now limit (O.contents out.old) (O.contents out.new) result }
-{
-    on_windows!(windows, trace_on [O] (alloc, windows, image, input, limit, out), 11 to 17)
-}
-
-/// Writes the trace on 18 to 24 windows.
-fn trace_to_24<O: Write>(
-    alloc: Global,
-    windows: u32,
-    image: &Image,
-    input: &[u8],
-    limit: u64,
-    out: &mut O,
-) -> Result<Outcome, RunFault>
-    requires { (18 ≤ windows) × (windows ≤ 24) }
-    ensures { TraceGives windows image.now input.now limit (O.contents out.old) (O.contents out.new) result }
-{
-    on_windows!(windows, trace_on [O] (alloc, windows, image, input, limit, out), 18 to 24)
-}
-
-/// Writes the trace on 25 to 32 windows.
-fn trace_to_32<O: Write>(
-    alloc: Global,
-    windows: u32,
-    image: &Image,
-    input: &[u8],
-    limit: u64,
-    out: &mut O,
-) -> Result<Outcome, RunFault>
-    requires { (25 ≤ windows) × (windows ≤ 32) }
-    ensures { TraceGives windows image.now input.now limit (O.contents out.old) (O.contents out.new) result }
-{
-    on_windows!(windows, trace_on [O] (alloc, windows, image, input, limit, out), 25 to 32)
-}
-
-/// Writes the trace of an image on an input, on so many windows, up to so many turns. Each count is a machine of its own, and each
-/// function has few of them, since a function costs its proof by its ways out.
+/// Writes the trace of an image on an input, on so many windows, up to so many turns. Each count is a machine of
+/// its own.
 fn trace_windows<O: Write>(
     alloc: Global,
     windows: Windows,
@@ -117,20 +57,33 @@ fn trace_windows<O: Write>(
     ensures { TraceGives windows image.now input.now limit (O.contents out.old) (O.contents out.new) result }
 {
     let count = windows.count();
-    if count <= 10 {
-        trace_to_10(alloc, count, image, input, limit, out)
-    } else if count <= 17 {
-        trace_to_17(alloc, count, image, input, limit, out)
-    } else if count <= 24 {
-        trace_to_24(alloc, count, image, input, limit, out)
-    } else {
-        trace_to_32(alloc, count, image, input, limit, out)
+    on_windows!(count, trace_on [O] (alloc, count, image, input, limit, out), 4 to 32)
+}
+
+/// Writes the trace of an image on the input, which is read whole before the run, on so many windows, up to so many turns.
+fn trace_image<I: Read, O: Write>(
+    alloc: Global,
+    windows: Windows,
+    limit: u64,
+    image: &Image,
+    input: &mut I,
+    out: &mut O,
+) -> Result<(), Stop>
+    ensures traced { OnOk result (OfSpelled image.now (λ file. Traced windows limit file (I.remaining input.old)
+        (O.contents out.old) (O.contents out.new))) }
+    ensures stop { IfErr result IsOfTrace }
+    ensures left { IfErr result (λ stop. OfSpelled image.now (λ file. TraceLeft windows limit file (I.remaining input.old)
+        (O.contents out.old) (O.contents out.new) stop)) }
+{
+    let bytes = input_of(alloc, input)?;
+    match trace_windows(alloc, windows, image, bytes.as_slice(), limit, out) {
+        Ok(_outcome) => Ok(()),
+        Err(fault) => Err(Stop::from(fault)),
     }
 }
 
 /// Writes the trace of the image of a file on the input, on so many windows, up to so many turns. The input is read whole before
 /// the run.
-#[tactic(auto, using(crate::proofs::Traces::traced_on, crate::proofs::Traces::left_before, crate::proofs::Traces::left_by_input, crate::proofs::Traces::left_in_run))]
 pub fn trace_file<F: Read, I: Read, O: Write>(
     alloc: Global,
     windows: Windows,
@@ -149,9 +102,5 @@ pub fn trace_file<F: Read, I: Read, O: Write>(
         (O.contents out.old) (O.contents out.new)) }
 {
     let image = image_in(alloc, file)?;
-    let bytes = input_of(alloc, input)?;
-    match trace_windows(alloc, windows, &image, bytes.as_slice(), limit, out) {
-        Ok(_outcome) => Ok(()),
-        Err(fault) => Err(Stop::from(fault)),
-    }
+    trace_image(alloc, windows, limit, &image, input, out)
 }

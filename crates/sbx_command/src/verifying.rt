@@ -33,7 +33,7 @@ pub fn accepted_in<F: Read>(alloc: Global, file: &mut F) -> Result<Accepted, Sto
 }
 
 /// Verifies the image of a file, and says so where it is accepted.
-#[tactic(auto, using(crate::proofs::Fronts::left_early, crate::proofs::Fronts::verdict_begun))]
+#[tactic(auto, using(crate::proofs::Fronts::verdict_begun))]
 pub fn verify_file<F: Read, O: Write>(alloc: Global, file: &mut F, out: &mut O) -> Result<(), Stop>
     ensures accepted { OnOk result (IfSome (F.remaining file.old) IsAccepted) }
     ensures stop { IfErr result (λ stop. IfSome (F.remaining file.old) (IsTrueOf stop)) }
