@@ -1,5 +1,5 @@
 //! What is done to a board and what it then shows, one act after another.
-use crate::boards::{Tested, board_over, load, put_words, run, step};
+use crate::boards::{Placed, Tested, board_over, has_words, load, put_words, run, step};
 use crate::images::End;
 use crate::ports::{Fault, Probe};
 use std::alloc::{AllocError, Global};
@@ -84,20 +84,10 @@ fn ends(board: &mut Tested, told: &Outcome, status: u32) -> bool {
 }
 
 /// The words below the stack, which are the trap table, the handlers, the page tables, code and data; R and M aside.
-fn words_below_the_stack(board: &Tested, alloc: Global) -> Result<Vec<Option<u32>>, AllocError> {
+fn words_below_the_stack(board: &Tested, alloc: Global) -> Result<Vec<Placed>, AllocError> {
     let mut words = Vec::new(alloc);
     put_words(&mut words, board, 0, 0x2_4000)?;
     Ok(words)
-}
-
-/// Whether the words below the stack are these.
-fn has_below_the_stack(
-    board: &Tested,
-    alloc: Global,
-    words: &[Option<u32>],
-) -> Result<bool, AllocError> {
-    let found = words_below_the_stack(board, alloc)?;
-    Ok(found.as_slice() == words)
 }
 
 /// Whether the next run ends so, and leaves the words below the stack.
@@ -108,7 +98,7 @@ fn ends_aside(
     status: u32,
 ) -> Result<bool, Fail> {
     let words = words_below_the_stack(board, alloc)?;
-    Ok(ends(board, told, status) && has_below_the_stack(board, alloc, &words)?)
+    Ok(ends(board, told, status) && has_words(board, &words))
 }
 
 impl Happening {
@@ -163,12 +153,7 @@ fn steps_on(board: &mut Tested, turns: u32) -> bool {
 }
 
 /// What a board shows: registers of the current window, PSR and WIM, and the pages' use.
-#[derive(Clone, Copy, PartialEq)]
-struct Shown {
-    registers: [u32; 32],
-    state: [u32; 2],
-    pages: PageUse,
-}
+type Shown = ([u32; 32], [u32; 2], PageUse);
 
 /// The registers of the current window.
 fn registers(board: &Tested) -> [u32; 32] {
@@ -182,11 +167,8 @@ fn registers(board: &Tested) -> [u32; 32] {
 }
 
 fn state_of(board: &Tested) -> Shown {
-    Shown {
-        registers: registers(board),
-        state: [board.psr(), board.wim()],
-        pages: board.page_use(),
-    }
+    let state = [board.psr(), board.wim()];
+    (registers(board), state, board.page_use())
 }
 
 /// Whether the next turn fails so, and leaves what a board shows.
@@ -195,43 +177,20 @@ fn is_undone(board: &mut Tested, fault: PortFault) -> bool {
     step(board) == Err(fault) && state_of(board) == before
 }
 
-/// Whether these pages were referenced, and these modified.
-fn has_pages(board: &Tested, referenced: [u64; 3], modified: [u64; 3]) -> bool {
-    let wanted = PageUse {
-        referenced,
-        modified,
-    };
-    board.page_use() == wanted
-}
-
-/// Whether PSR and WIM are these.
-fn has_state(board: &Tested, psr: u32, wim: u32) -> bool {
-    board.psr() == psr && board.wim() == wim
-}
-
-/// Whether this word of RAM is at a place.
-fn has_word(board: &Tested, place: u64, word: u32) -> bool {
-    board.entry(place) == Some(word)
-}
-
-/// Whether the port has kept these bytes.
-fn has_put(board: &Tested, bytes: &[u8]) -> bool {
-    board.port().kept.as_slice() == bytes
-}
-
-/// Whether the port has failed so often.
-fn has_failed(board: &Tested, count: u64) -> bool {
-    board.port().failures == count
-}
-
 /// Whether a board shows this.
 fn shows(board: &Tested, view: &View) -> bool {
     match *view {
-        View::State(psr, wim) => has_state(board, psr, wim),
-        View::Word(place, word) => has_word(board, place, word),
-        View::Pages(referenced, modified) => has_pages(board, referenced, modified),
-        View::Output(bytes) => has_put(board, bytes),
-        View::Failures(count) => has_failed(board, count),
+        View::State(psr, wim) => board.psr() == psr && board.wim() == wim,
+        View::Word(place, word) => board.entry(place) == Some(word),
+        View::Pages(referenced, modified) => {
+            let wanted = PageUse {
+                referenced,
+                modified,
+            };
+            board.page_use() == wanted
+        }
+        View::Output(bytes) => board.port().kept.as_slice() == bytes,
+        View::Failures(count) => board.port().failures == count,
         View::NoEnd => board.ending().is_none(),
     }
 }

@@ -58,9 +58,12 @@ fn unmarked(board: &Tested, place: u64) -> Option<u32> {
     Some(word | marks)
 }
 
-/// Puts so many words of RAM, from a place on, behind others; R and M aside.
+/// A place with its word of RAM, R and M aside.
+pub(crate) type Placed = (u64, Option<u32>);
+
+/// Puts so many words of RAM, from a place on, behind others.
 pub(crate) fn put_words(
-    words: &mut Vec<Option<u32>>,
+    words: &mut Vec<Placed>,
     board: &Tested,
     place: u64,
     count: u64,
@@ -68,7 +71,18 @@ pub(crate) fn put_words(
     requires { place + 4 * count ≤ 0x100000 }
 {
     for number in 0..count {
-        words.push(unmarked(board, place + 4 * number))?;
+        let at = place + 4 * number;
+        words.push((at, unmarked(board, at)))?;
     }
     Ok(())
+}
+
+/// Whether a board has these words at their places.
+pub(crate) fn has_words(board: &Tested, words: &[Placed]) -> bool {
+    for &(place, word) in words {
+        if unmarked(board, place) != word {
+            return false;
+        }
+    }
+    true
 }

@@ -11,16 +11,27 @@ const AFTER_CODE: [u8; 42] = [
     0, 0, 0, 0, 0, 0, 0, 0, 0, 0,
 ];
 
+/// How many words or bytes there are, as an image has it.
+fn count_of(length: usize) -> [u8; 4] {
+    ((length % 0x1_0000) as u32).to_be_bytes()
+}
+
+/// Puts the bytes of words.
+fn put_code(bytes: &mut Vec<u8>, words: &[u32]) -> Result<(), AllocError> {
+    for word in words {
+        bytes.extend_from_slice(&word.to_be_bytes())?;
+    }
+    Ok(())
+}
+
 /// Puts the bytes of an image of version 1.
 fn put_image(bytes: &mut Vec<u8>, words: &[u32], data: &[u8]) -> Result<(), AllocError> {
     // all services and one page of stack
     bytes.extend_from_slice(b"SBX8\x00\x01\x00\x07")?;
-    bytes.extend_from_slice(&((words.len() % 0x1_0000) as u32).to_be_bytes())?;
-    bytes.extend_from_slice(&((data.len() % 0x1_0000) as u32).to_be_bytes())?;
+    bytes.extend_from_slice(&count_of(words.len()))?;
+    bytes.extend_from_slice(&count_of(data.len()))?;
     bytes.extend_from_slice(&[0, 1, 0, 1])?;
-    for word in words {
-        bytes.extend_from_slice(&word.to_be_bytes())?;
-    }
+    put_code(bytes, words)?;
     bytes.extend_from_slice(data)?;
     bytes.extend_from_slice(&AFTER_CODE)
 }
@@ -40,13 +51,10 @@ pub(crate) fn image(alloc: Global, words: &[u32], data: &[u8]) -> Result<Image, 
 /// Puts the bytes of an image of version 2.
 fn put_regions_image(bytes: &mut Vec<u8>, words: &[u32]) -> Result<(), AllocError> {
     bytes.extend_from_slice(b"SBX8\x00\x02\x00\x07")?;
-    bytes.extend_from_slice(&((words.len() % 0x1_0000) as u32).to_be_bytes())?;
+    bytes.extend_from_slice(&count_of(words.len()))?;
     // two regions, one page of stack, one function; then the length and the kind of each region
-    bytes.extend_from_slice(&[0, 2, 0, 1, 0, 1])?;
-    bytes.extend_from_slice(&[0, 0, 0, 8, 0, 0, 0, 0, 0, 8, 0, 1])?;
-    for word in words {
-        bytes.extend_from_slice(&word.to_be_bytes())?;
-    }
+    bytes.extend_from_slice(&[0, 2, 0, 1, 0, 1, 0, 0, 0, 8, 0, 0, 0, 0, 0, 8, 0, 1])?;
+    put_code(bytes, words)?;
     bytes.extend_from_slice(b"readonlywritable")?;
     bytes.extend_from_slice(&AFTER_CODE)
 }

@@ -378,14 +378,19 @@ fn are_in_step_on(alloc: Global, image: &Image, windows: u32, row: &Row) -> bool
 }
 
 /// Whether they stay in step on each count of windows.
-fn are_in_step_everywhere(alloc: Global, row: &Row) -> Result<bool, Fail> {
-    let image = row.image(alloc)?;
+fn are_in_step_on_each(alloc: Global, image: &Image, row: &Row) -> bool {
     for windows in 4..33u32 {
-        if !are_in_step_on(alloc, &image, windows, row) {
-            return Ok(false);
+        if !are_in_step_on(alloc, image, windows, row) {
+            return false;
         }
     }
-    Ok(true)
+    true
+}
+
+/// The same of the row's image.
+fn are_in_step_everywhere(alloc: Global, row: &Row) -> Result<bool, Fail> {
+    let image = row.image(alloc)?;
+    Ok(are_in_step_on_each(alloc, &image, row))
 }
 
 #[test]

@@ -2,7 +2,7 @@
 ghost use Rattle.std.specs.Prelude.{◌≤◌, ℕ};
 
 use crate::images::{EXIT, End, GET, GREETING, LOADS, NOP, PUT, STORES_AFTER_A_LOAD, image};
-use crate::programs::{Shape, chain};
+use crate::programs::Shape;
 use crate::rows::Code;
 use sbx_image::Image;
 use sbx_raw::{Outcome, PageUse, Raw, run_raw};
@@ -178,19 +178,16 @@ fn raw_of(alloc: Global, image: &Image, run: &Run) -> Result<Raw, Fail> {
     }
 }
 
-/// The image of a row.
-fn image_of(alloc: Global, run: &Run) -> Result<Image, Fail> {
-    match run.code {
-        Code::Words(words) => image(alloc, words, run.data),
-        Code::Chain(shape) => image(alloc, chain(alloc, shape)?.as_slice(), run.data),
-    }
+/// Whether the raw run of an image ends as its row says.
+fn ends_so(alloc: Global, image: &Image, run: &Run) -> Result<bool, Fail> {
+    let raw = raw_of(alloc, image, run)?;
+    Ok(is(&raw, run))
 }
 
 /// Whether the raw run of a row ends as it says.
 fn agrees(alloc: Global, run: &Run) -> Result<bool, Fail> {
-    let image = image_of(alloc, run)?;
-    let raw = raw_of(alloc, &image, run)?;
-    Ok(is(&raw, run))
+    let image = run.code.image(alloc, run.data)?;
+    ends_so(alloc, &image, run)
 }
 
 /// Asserts that each row's does.

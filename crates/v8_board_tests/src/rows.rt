@@ -1,8 +1,8 @@
 //! Programs with what they give, worked out by hand or by other programs.
-use crate::images::image_of;
+use crate::images::image;
 use crate::programs::{CALLS, CHECKSUM, ECHO, INCREMENT, MULTIPLY, SIEVE, Shape, chain};
 use sbx_image::Image;
-use std::alloc::{AllocError, Global};
+use std::alloc::Global;
 use std::test::Fail;
 
 /// Words of a program, or a chain.
@@ -10,6 +10,16 @@ use std::test::Fail;
 pub enum Code {
     Words(&'static [u32]),
     Chain(Shape),
+}
+
+impl Code {
+    /// An image of the words and these data.
+    pub(crate) fn image(&self, alloc: Global, data: &[u8]) -> Result<Image, Fail> {
+        match *self {
+            Code::Words(words) => image(alloc, words, data),
+            Code::Chain(shape) => image(alloc, chain(alloc, shape)?.as_slice(), data),
+        }
+    }
 }
 
 /// What a program gives on an input, and what its path comes to: its steps, its weight, its turns where there are windows enough, the
@@ -182,42 +192,8 @@ impl Row {
         (overflows, underflows, turns)
     }
 
-    /// The row's words, behind the bytes that are there.
-    fn spell_words(&self, alloc: Global, bytes: &mut Vec<u8>) -> Result<(), AllocError> {
-        match self.code {
-            Code::Words(words) => spell(bytes, words),
-            Code::Chain(shape) => spell(bytes, chain(alloc, shape)?.as_slice()),
-        }
-    }
-
-    /// The bytes of an image of the row's words.
-    fn spell(&self, alloc: Global, bytes: &mut Vec<u8>) -> Result<(), AllocError> {
-        bytes.extend_from_slice(b"SBX8\x00\x01\x00\x07")?;
-        self.spell_words(alloc, bytes)?;
-        bytes.extend_from_slice(&[0; 1024])?;
-        bytes.extend_from_slice(&AFTER_DATA)
-    }
-
-    /// An image of the row's words: one leaf function of one block, all services, one page of stack, and 1,024 bytes of data.
+    /// An image of the row's words, with 1,024 bytes of data.
     pub(crate) fn image(&self, alloc: Global) -> Result<Image, Fail> {
-        let mut bytes = Vec::new(alloc);
-        self.spell(alloc, &mut bytes)?;
-        image_of(alloc, &bytes)
+        self.code.image(alloc, &[0; 1024])
     }
-}
-
-/// The function and its block.
-const AFTER_DATA: [u8; 42] = [
-    0, 0, 0, 0, 0, 4, 0, 0, 0, 0, 0, 0, 0, 0, 0, 0, 0, 0, 0, 0, 0, 0, 0, 0, 0, 1, 0, 4, 0, 0, 0, 0,
-    0, 0, 0, 0, 0, 0, 0, 0, 0, 0,
-];
-
-/// How many words there are, how much data, stack and functions; and then the words.
-fn spell(bytes: &mut Vec<u8>, words: &[u32]) -> Result<(), AllocError> {
-    bytes.extend_from_slice(&((words.len() % 65536) as u32).to_be_bytes())?;
-    bytes.extend_from_slice(&[0, 0, 4, 0, 0, 1, 0, 1])?;
-    for word in words {
-        bytes.extend_from_slice(&word.to_be_bytes())?;
-    }
-    Ok(())
 }

@@ -1,9 +1,10 @@
 //! Code that nobody wrote: words by chance, whose runs stay contained.
 ghost use Rattle.std.specs.Prelude.{ℕ, ◌<◌, ◌≤◌};
 
-use crate::boards::{Tested, board_over, load_image, put_words, step};
+use crate::boards::{Placed, Tested, board_over, has_words, load_image, put_words, step};
 use crate::images::regions_image;
 use crate::ports::Probe;
+use sbx_image::Image;
 use std::alloc::{AllocError, Global};
 use std::test::Fail;
 use v8_board::Ending;
@@ -141,20 +142,13 @@ fn are_allowed(board: &mut Tested, turns: u32) -> bool {
     true
 }
 
-/// Loads a board with these words.
-fn load(board: &mut Tested, alloc: Global, words: &[u32]) -> Result<(), Fail> {
-    let image = regions_image(alloc, words)?;
-    load_image(board, &image);
-    Ok(())
-}
-
 /// A new board.
 fn board(alloc: Global) -> Result<Tested, AllocError> {
     board_over(alloc, Probe::new(alloc, b"", 0, PortFault::Writer))
 }
 
 /// The trap table, the handlers and the tables, and the first pages of code and of data, R and M aside.
-fn first_pages(board: &Tested, alloc: Global) -> Result<Vec<Option<u32>>, AllocError> {
+fn first_pages(board: &Tested, alloc: Global) -> Result<Vec<Placed>, AllocError> {
     let mut words = Vec::new(alloc);
     put_words(&mut words, board, 0, 0xB80)?;
     put_words(&mut words, board, 0x1_0000, 1024)?;
@@ -162,24 +156,24 @@ fn first_pages(board: &Tested, alloc: Global) -> Result<Vec<Option<u32>>, AllocE
     Ok(words)
 }
 
-/// The same of a new board that is loaded with these words.
-fn loaded_pages(alloc: Global, words: &[u32]) -> Result<Vec<Option<u32>>, Fail> {
+/// The same of a new board that is loaded with an image.
+fn loaded_pages(alloc: Global, image: &Image) -> Result<Vec<Placed>, AllocError> {
     let mut fresh = board(alloc)?;
-    load(&mut fresh, alloc, words)?;
-    Ok(first_pages(&fresh, alloc)?)
+    load_image(&mut fresh, image);
+    first_pages(&fresh, alloc)
 }
 
-/// Whether a board has them so.
-fn has_pages(board: &Tested, alloc: Global, pages: &[Option<u32>]) -> Result<bool, AllocError> {
-    let found = first_pages(board, alloc)?;
-    Ok(found.as_slice() == pages)
+/// Whether a board that runs an image keeps what was loaded, as a new board has it, R and M aside.
+fn keeps_pages(watched: &mut Tested, alloc: Global, image: &Image) -> Result<bool, AllocError> {
+    let pages = loaded_pages(alloc, image)?;
+    load_image(watched, image);
+    Ok(are_allowed(watched, 500) && has_words(watched, &pages))
 }
 
-/// Whether a board that runs these words keeps what was loaded, as a new board has it, R and M aside.
+/// The same of the image of these words.
 fn is_contained(watched: &mut Tested, alloc: Global, words: &[u32]) -> Result<bool, Fail> {
-    let pages = loaded_pages(alloc, words)?;
-    load(watched, alloc, words)?;
-    Ok(are_allowed(watched, 500) && has_pages(watched, alloc, &pages)?)
+    let image = regions_image(alloc, words)?;
+    Ok(keeps_pages(watched, alloc, &image)?)
 }
 
 /// How often runs have ended in each way: by an exit, by a trap, in error mode, or not.
