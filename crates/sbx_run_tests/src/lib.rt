@@ -12,6 +12,8 @@ mod calls;
 #[cfg(test)]
 mod depths;
 #[cfg(test)]
+mod greatest;
+#[cfg(test)]
 mod ports;
 #[cfg(test)]
 mod runs;
