@@ -9,10 +9,10 @@ again:
     add %o1,%o3,%o1
     srl %o1,16,%o4
     or %o4,1,%o4
-    mov 0,%y
+    wr %g0,0,%y
     udiv %o1,%o4,%o5
     sra %o1,31,%o3
-    mov %o3,%y
+    wr %o3,0,%y
     sdiv %o1,%o4,%o3
     smul %o3,%o4,%o3
     sub %o1,%o3,%o3

@@ -8,9 +8,9 @@
 .function loop,leaf,0,0,0
     sethi 512,%o0       ! 00080000
 again:
-    ld [%o0],%o1
+    ld [%o0+0],%o1
     add %o1,1,%o1
-    st %o1,[%o0]
+    st %o1,[%o0+0]
     addcc %g3,-1,%g3
     bne again
     nop
