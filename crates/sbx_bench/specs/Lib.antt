@@ -1,2 +1,1 @@
-pub mod Images
 pub mod Ways

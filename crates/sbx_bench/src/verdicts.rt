@@ -3,10 +3,10 @@ ghost use Rattle.std.specs.Prelude.{◌≡◌, IfOk, MatchOption, length};
 ghost use Rattle.sbx_rules.specs.Verdicts.{Checked};
 ghost use Rattle.sbx_verify.specs.Refusals.{IsRefusal};
 
-use anyhow::Result;
 use sbx_image::Image;
 use sbx_verify::{Refusal, verify};
 use std::alloc::Global;
+use std::io;
 use std::time::Instant;
 
 /// How often an image is verified; the least time counts.
@@ -35,7 +35,7 @@ fn judged(alloc: Global, image: Image) -> (Image, Option<Refusal>)
 }
 
 /// The least time that an image's verification takes, in microseconds.
-fn least_time(rt: &HostRuntime, mut image: Image) -> Result<u128> {
+fn least_time(rt: &HostRuntime, mut image: Image) -> io::Result<u128> {
     let mut least = u128::MAX;
     for _ in 0..ROUNDS {
         let begin = Instant::now(rt)?;
@@ -46,7 +46,7 @@ fn least_time(rt: &HostRuntime, mut image: Image) -> Result<u128> {
 }
 
 /// Verifies an image a few times.
-pub fn timed_verdict(rt: &HostRuntime, image: Image) -> Result<Verdict>
+pub fn timed_verdict(rt: &HostRuntime, image: Image) -> io::Result<Verdict>
     ensures words { IfOk result (λ verdict. verdict.words ≡ length image.words) }
     ensures refusal { IfOk result (λ verdict. MatchOption verdict.refusal (Checked image) (IsRefusal image)) }
 {

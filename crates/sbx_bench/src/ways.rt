@@ -2,16 +2,15 @@
 ghost use Rattle.std.specs.Prelude.{◌≡◌, ℕ, [], IfOk, vec_len};
 ghost use Rattle.v8_board.specs.Seen.{State};
 ghost use Rattle.v8_board.specs.Runs.{IsRun, after};
-ghost use Rattle.sbx_raw.specs.Runs.{IsBegun, IsRaw};
+ghost use Rattle.sbx_raw.specs.Runs.{IsRaw};
 ghost use Rattle.sbx_raw.specs.declared.raw.Raw.{Raw};
 ghost use Rattle.sbx_bench.specs.declared.tally.Tally.{Tally};
 ghost use Rattle.sbx_bench.specs.declared.ways.Told.TheVariants as tells;
 ghost use Rattle.sbx_bench.specs.Ways.{IsToldBy, register_of};
 
 use crate::tally::Tally;
-use anyhow::{Result, anyhow};
 use sbx_image::Image;
-use sbx_raw::{SlicePort, run_raw, trace};
+use sbx_raw::{RunFault, SlicePort, begun, fault_of, run_raw, trace};
 use std::alloc::Global;
 use std::fmt::{self, Formatter, Write};
 use v8_board::Board;
@@ -19,7 +18,7 @@ use v8_plain::Plain;
 use v8_word::Reg;
 
 /// How the board is driven.
-#[derive(Clone, Copy, PartialEq, Eq)]
+#[derive(Clone, Copy)]
 pub enum Way {
     /// Turn by turn.
     Step,
@@ -67,27 +66,28 @@ fn register(board: &Board<8, SlicePort<'_>>) -> Told
     }
 }
 
-fn step(mut board: Board<8, SlicePort<'_>>, turns: u64) -> Result<Told>
+fn step(mut board: Board<8, SlicePort<'_>>, turns: u64) -> Result<Told, RunFault>
     ensures { IfOk result (λ told. told ≡ register_of (after 8 turns board.entry.state)) }
 {
     for _ in 0..turns {
-        if board.step().is_err() {
-            return Err(anyhow!("the port failed"));
+        match board.step() {
+            Ok(_turn) => {}
+            Err(fault) => return Err(fault_of(&board, fault)),
         }
     }
     Ok(register(&board))
 }
 
-fn run(mut board: Board<8, SlicePort<'_>>, turns: u64) -> Result<Told>
+fn run(mut board: Board<8, SlicePort<'_>>, turns: u64) -> Result<Told, RunFault>
     ensures { IfOk result (λ told. (end : State 8) × IsRun 8 turns board.entry.state end × (told ≡ register_of end)) }
 {
     match board.run(turns) {
         Ok(_outcome) => Ok(register(&board)),
-        Err(_fault) => Err(anyhow!("the port failed")),
+        Err(fault) => Err(fault_of(&board, fault)),
     }
 }
 
-fn raw(alloc: Global, image: &Image, turns: u64) -> Result<Told>
+fn raw(alloc: Global, image: &Image, turns: u64) -> Result<Told, RunFault>
     ensures { IfOk result (λ told. (raw : Raw) × IsRaw 8 image.now [] turns raw
         × (told ≡ tells.Output raw.outcome.turns (vec_len raw.output))) }
 {
@@ -96,22 +96,22 @@ fn raw(alloc: Global, image: &Image, turns: u64) -> Result<Told>
             turns: raw.outcome.turns,
             bytes: raw.output.len(),
         }),
-        Err(_fault) => Err(anyhow!("the raw run failed")),
+        Err(fault) => Err(fault),
     }
 }
 
-fn text(alloc: Global, image: &Image, turns: u64) -> Result<Told>
+fn text(alloc: Global, image: &Image, turns: u64) -> Result<Told, RunFault>
     ensures { IfOk result (λ told. (tally : Tally) × (told ≡ tells.Text tally)) }
 {
     let mut tally = Tally::default();
     match trace::<8, Tally>(alloc, image, b"", turns, &mut tally) {
         Ok(_outcome) => Ok(Told::Text(tally)),
-        Err(_fault) => Err(anyhow!("the trace failed")),
+        Err(fault) => Err(fault),
     }
 }
 
 /// Runs the plain interpreter from a board's RAM on.
-fn plain(board: &Board<8, SlicePort<'_>>, alloc: Global, turns: u64) -> Result<Told>
+fn plain(board: &Board<8, SlicePort<'_>>, alloc: Global, turns: u64) -> Result<Told, RunFault>
     ensures { IfOk result (λ told. (made counter : ℕ) × (told ≡ tells.Register made counter)) }
 {
     let mut plain = Plain::new(alloc)?;
@@ -126,26 +126,17 @@ fn plain(board: &Board<8, SlicePort<'_>>, alloc: Global, turns: u64) -> Result<T
     })
 }
 
-/// A new board without input, loaded with an image.
-fn loaded<'a>(alloc: Global, image: &Image) -> Result<Board<8, SlicePort<'a>>>
-    ensures { IfOk result (λ board. IsBegun 8 image.now [] board.state) }
-{
-    let mut board = Board::new(alloc, SlicePort::new(alloc, b""))?;
-    board.load(image);
-    Ok(board)
-}
-
 impl Way {
     /// Drives a new board with this image for so many turns.
-    pub fn drive(self, alloc: Global, image: &Image, turns: u64) -> Result<Told>
+    pub fn drive(self, alloc: Global, image: &Image, turns: u64) -> Result<Told, RunFault>
         ensures { IfOk result (IsToldBy self image.now turns) }
     {
         match self {
-            Way::Step => step(loaded(alloc, image)?, turns),
-            Way::Run => run(loaded(alloc, image)?, turns),
+            Way::Step => step(begun::<8>(alloc, image, b"")?, turns),
+            Way::Run => run(begun::<8>(alloc, image, b"")?, turns),
             Way::Raw => raw(alloc, image, turns),
             Way::Trace => text(alloc, image, turns),
-            Way::Plain => plain(&loaded(alloc, image)?, alloc, turns),
+            Way::Plain => plain(&begun::<8>(alloc, image, b"")?, alloc, turns),
         }
     }
 }

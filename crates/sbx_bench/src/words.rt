@@ -5,7 +5,7 @@ use v8_formats::{decode, encode};
 use v8_word::Icc;
 
 /// What is done with words, those of a linear congruential generator.
-#[derive(Clone, Copy, PartialEq, Eq)]
+#[derive(Clone, Copy)]
 pub enum Work {
     /// Each is decoded, and encoded again.
     Words,

@@ -8,17 +8,17 @@ use Rattle.sbx_bench.specs.Ways.{IsToldBy, register_of}
 use Rattle.sbx_bench.proofs.ways.Way.drive.Goals as goal
 
 -- src/ways.rt:118:5
-pub returns-in_ok-loaded-in-Step : goal.returns-in_ok-loaded-in-Step
-returns-in_ok-loaded-in-Step c =
-    let start = c.in_ok-loaded-in-Step.field-0.state in
+pub returns-in_ok-begun-in-Step : goal.returns-in_ok-begun-in-Step
+returns-in_ok-begun-in-Step c =
+    let start = c.in_ok-begun-in-Step.field-0.state in
     subst (λ way. IfOk c.step.result (IsToldBy way c.args.image.now c.args.turns)) (sym c.in-Step.is)
     (IfOk-weaker c.step.result (λ told. told ≡ register_of (after 8 c.args.turns start)) (IsToldBy ways.Step c.args.image.now c.args.turns)
-    (λ told e. (start, c.in_ok-loaded-in-Step.ensures, e)) c.step.ensures)
+    (λ told e. (start, c.in_ok-begun-in-Step.ensures.begun, e)) c.step.ensures)
 
 -- src/ways.rt:118:5
-pub returns-in_ok-loaded-in-Run : goal.returns-in_ok-loaded-in-Run
-returns-in_ok-loaded-in-Run c =
-    let start = c.in_ok-loaded-in-Run.field-0.state in
+pub returns-in_ok-begun-in-Run : goal.returns-in_ok-begun-in-Run
+returns-in_ok-begun-in-Run c =
+    let start = c.in_ok-begun-in-Run.field-0.state in
     subst (λ way. IfOk c.run.result (IsToldBy way c.args.image.now c.args.turns)) (sym c.in-Run.is)
     (IfOk-weaker c.run.result (λ told. (end : State 8) × IsRun 8 c.args.turns start end × (told ≡ register_of end)) (IsToldBy ways.Run c.args.image.now c.args.turns)
-    (λ told ran. (start, ran.0, c.in_ok-loaded-in-Run.ensures, ran.1, ran.2)) c.run.ensures)
+    (λ told ran. (start, ran.0, c.in_ok-begun-in-Run.ensures.begun, ran.1, ran.2)) c.run.ensures)
