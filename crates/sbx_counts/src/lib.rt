@@ -8,16 +8,16 @@
 #[macro_export]
 macro_rules! on_windows {
     ($windows:ident, $call:ident $kinds:tt $given:tt, 4 to 10) => {
-        $crate::on_windows!(@ $windows, $call $kinds $given, 4 5 6 7 8 9 10)
+        $crate::on_windows!(@ $windows, $call $kinds $given, 4 5 6 7 8 9 _ 10)
     };
     ($windows:ident, $call:ident $kinds:tt $given:tt, 11 to 17) => {
-        $crate::on_windows!(@ $windows, $call $kinds $given, 11 12 13 14 15 16 17)
+        $crate::on_windows!(@ $windows, $call $kinds $given, 11 12 13 14 15 16 _ 17)
     };
     ($windows:ident, $call:ident $kinds:tt $given:tt, 18 to 24) => {
-        $crate::on_windows!(@ $windows, $call $kinds $given, 18 19 20 21 22 23 24)
+        $crate::on_windows!(@ $windows, $call $kinds $given, 18 19 20 21 22 23 _ 24)
     };
     ($windows:ident, $call:ident $kinds:tt $given:tt, 25 to 32) => {
-        $crate::on_windows!(@ $windows, $call $kinds $given, 25 26 27 28 29 30 31 32)
+        $crate::on_windows!(@ $windows, $call $kinds $given, 25 26 27 28 29 30 31 _ 32)
     };
     ($windows:ident, $call:ident $kinds:tt $given:tt, 4 to 32) => {
         if $windows <= 17 {
@@ -32,14 +32,13 @@ macro_rules! on_windows {
             $crate::on_windows!($windows, $call $kinds $given, 25 to 32)
         }
     };
-    (@ $windows:ident, $call:ident [$($kind:ident)*] $given:tt, $last:literal) => {
-        $call::<$last $(, $kind)*>$given
-    };
-    (@ $windows:ident, $call:ident $kinds:tt $given:tt, $count:literal $($more:literal)*) => {
-        if $windows <= $count {
-            $crate::on_windows!(@ $windows, $call $kinds $given, $count)
-        } else {
-            $crate::on_windows!(@ $windows, $call $kinds $given, $($more)*)
+    (@ $windows:ident, $call:ident $kinds:tt $given:tt, $($count:literal)* _ $last:literal) => {
+        match $windows {
+            $($count => $crate::on_windows!(@ $count, $call $kinds $given),)*
+            _ => $crate::on_windows!(@ $last, $call $kinds $given),
         }
+    };
+    (@ $count:literal, $call:ident [$($kind:ident)*] $given:tt) => {
+        $call::<$count $(, $kind)*>$given
     };
 }

@@ -91,8 +91,9 @@ fn push_begins(
     push_cells(out, declared.address, declared.cells.as_slice(), after)
 }
 
-/// Where a way leads to another block, what that begins with, beside what is known after the word.
-fn push_edge(
+/// What a way leads to, beside what is known after the word: what another block begins with, or back in the caller the function's
+/// results.
+fn push_way(
     out: &mut String,
     image: &Image,
     spot: &Spot,
@@ -102,34 +103,12 @@ fn push_edge(
     requires spot { IsSpot image.now spot.now }
     requires well { IfSome course (λ c. IsWell image.now spot.now.function c.going) }
 {
-    match course {
-        Some(
-            Course {
-                going: Going::To(block),
-                ..
-            },
-        ) => push_begins(out, image, spot.function, block, after),
-        _ => Ok(()),
-    }
-}
-
-/// Where a way leads back to the caller, the function's results beside what is known after the word.
-fn push_return(
-    out: &mut String,
-    image: &Image,
-    spot: &Spot,
-    course: Option<Course>,
-    after: &State,
-) -> Result<(), AllocError>
-    requires { IsSpot image.now spot.now }
-{
-    match course {
-        Some(
-            Course {
-                going: Going::Back,
-                ..
-            },
-        ) => {
+    let Some(course) = course else {
+        return Ok(());
+    };
+    match course.going {
+        Going::To(block) => push_begins(out, image, spot.function, block, after),
+        Going::Back => {
             let results = function_at(image, spot.function).results.as_slice();
             push_outs(out, "back in the caller", results, after)
         }
@@ -167,9 +146,8 @@ fn push_ways(
     requires spot { IsSpot image.now spot.now }
     requires well { AreWell image.now spot.now.function courses }
 {
-    push_edge(out, image, spot, courses.first, first)?;
-    push_edge(out, image, spot, courses.second, second)?;
-    push_return(out, image, spot, courses.first, first)
+    push_way(out, image, spot, courses.first, first)?;
+    push_way(out, image, spot, courses.second, second)
 }
 
 /// The parameters, cells or results that the word's ways lead to, beside what is known after the word there.

@@ -117,17 +117,6 @@ fn push_budget(
     push_budget_sides(out, sides.budget, &sides.fuel, beginning)
 }
 
-/// Where the run or the function ends, the turns that the block's fuel has to last for.
-fn push_end(
-    out: &mut String,
-    sides: &FuelSides,
-    beginning: &State,
-    place: &str,
-) -> Result<(), AllocError> {
-    writeln!(out, "\n{place}")?;
-    push_end_sides(out, &sides.fuel, beginning, sides.weight)
-}
-
 /// A way to another block, whose fuel the block's own has to last for besides its turns.
 fn push_edge(
     out: &mut String,
@@ -215,12 +204,13 @@ fn push_ends(
     beginning: &State,
 ) -> Result<(), AllocError> {
     if ends_run(&sight.spot.operation) {
-        push_end(out, sides, beginning, "at the end of the run")?;
+        push_end_sides(out, "\nat the end of the run\n", sides, beginning)?;
     }
-    if !comes_back(sight.courses.first) {
-        return Ok(());
+    if comes_back(sight.courses.first) {
+        push_end_sides(out, "\nback in the caller\n", sides, beginning)
+    } else {
+        Ok(())
     }
-    push_end(out, sides, beginning, "back in the caller")
 }
 
 /// What the fuel of the word's block is asked for at the word itself: of its terms and of the budget where block and function begin,

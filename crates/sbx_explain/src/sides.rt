@@ -4,7 +4,7 @@
 use sbx_domain::State;
 use sbx_form::FormTerm;
 use sbx_image::Range;
-use sbx_inspect::Fuel;
+use sbx_inspect::{Fuel, FuelSides};
 use std::alloc::AllocError;
 
 /// A way from a block to another one: the fuel of the block and what is known where it begins, the fuel of the other block and what
@@ -167,14 +167,16 @@ pub(crate) fn push_edge_sides(
     push_verdict(out, there, asked)
 }
 
-/// The two sides of the rule of fuel where the run or the function ends.
+/// The two sides of the rule of fuel where the run or the function ends, behind a line that says so.
 pub(crate) fn push_end_sides(
     out: &mut String,
-    fuel: &Fuel,
+    place: &str,
+    sides: &FuelSides,
     beginning: &State,
-    weight: u64,
 ) -> Result<(), AllocError> {
-    let there = push_worked(out, AT_WORST, fuel, Numbers::Least(beginning))?;
+    out.push_str(place)?;
+    let there = push_worked(out, AT_WORST, &sides.fuel, Numbers::Least(beginning))?;
+    let weight = sides.weight;
     write!(out, "\n  and asked for are   {weight}")?;
     push_verdict(out, there, i128::from(weight))
 }

@@ -8,11 +8,10 @@ use crate::reads::{Registers, frame_word_read, reads_codes, reads_y, registers_r
 use crate::values::Known;
 use sbx_declare::Location;
 use sbx_domain::State;
-use sbx_image::{Function, Image, Range};
+use sbx_image::{Image, Range};
 use sbx_inspect::Sight;
 use sbx_known::{Course, Going, Spot, block_at, function_at};
 use std::alloc::AllocError;
-use v8_meaning::Operation;
 
 /// The words that begin what is told of a way, with where it leads.
 pub(crate) fn push_going(
@@ -60,18 +59,16 @@ fn push_register(out: &mut String, register: u8, state: &State) -> Result<(), Al
     writeln!(out, "  {location} holds {held}")
 }
 
-fn push_registers(
+/// The registers that are read, and the frame word, if one is.
+fn push_locations(
     out: &mut String,
     registers: &Registers,
+    slot: Option<u16>,
     state: &State,
 ) -> Result<(), AllocError> {
     for register in registers.as_slice() {
         push_register(out, *register, state)?;
     }
-    Ok(())
-}
-
-fn push_slot(out: &mut String, slot: Option<u16>, state: &State) -> Result<(), AllocError> {
     match slot {
         Some(location) => push_known(out, location, state.range(location)),
         None => Ok(()),
@@ -100,25 +97,23 @@ fn push_flags(out: &mut String, codes: bool, y: bool, state: &State) -> Result<(
     }
 }
 
-/// What a word reads, and what is known of it.
+/// What a word reads, and what is known of it. SAVE, CALL and the returns, which read %sp, %i7 or %o7 alone, read nothing that has a
+/// range.
 fn push_reads(out: &mut String, image: &Image, spot: &Spot, state: &State) -> Result<(), AllocError>
     requires { IsSpot image.now spot.now }
 {
     let function = function_at(image, spot.function);
     let registers = registers_read(function, &spot.operation);
-    push_registers(out, &registers, state)?;
-    push_slot(out, frame_word_read(function, &spot.operation), state)?;
+    let slot = frame_word_read(function, &spot.operation);
     let (codes, y) = (reads_codes(&spot.operation), reads_y(&spot.operation));
+    let heading = if registers.is_empty() && slot.is_none() && !codes && !y {
+        " it reads nothing that has a range\n"
+    } else {
+        " it reads what is known so:\n"
+    };
+    out.push_str(heading)?;
+    push_locations(out, &registers, slot, state)?;
     push_flags(out, codes, y, state)
-}
-
-/// Whether an operation reads nothing that has a range, nor the condition codes: so SAVE, CALL and the returns, which read %sp, %i7 or
-/// %o7 alone.
-fn reads_nothing(function: &Function, operation: &Operation) -> bool {
-    registers_read(function, operation).is_empty()
-        && frame_word_read(function, operation).is_none()
-        && !reads_codes(operation)
-        && !reads_y(operation)
 }
 
 /// A way on which a word runs, with what is known before the word of what it reads.
@@ -137,13 +132,10 @@ fn push_course(
     };
     push_going(out, image, spot.function, course.going)?;
     if course.annulled {
-        return out.push_str(" the word is annulled\n");
+        out.push_str(" the word is annulled\n")
+    } else {
+        push_reads(out, image, spot, state)
     }
-    if reads_nothing(function_at(image, spot.function), &spot.operation) {
-        return out.push_str(" it reads nothing that has a range\n");
-    }
-    out.push_str(" it reads what is known so:\n")?;
-    push_reads(out, image, spot, state)
 }
 
 /// The ways on which a word runs, with what is known before it on each.

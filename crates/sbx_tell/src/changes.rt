@@ -1,6 +1,4 @@
 //! What a turn changed.
-ghost use Rattle.std.specs.Prelude.{◌<◌};
-
 use crate::sheet::Sheet;
 use sbx_declare::Location;
 use sbx_raw::PageUse;
@@ -21,29 +19,38 @@ pub struct Shown {
 /// The bits of PSR that are N, Z, V and C.
 const CODES: u32 = 0x00F0_0000;
 
+/// The condition codes by their letters (chapter 4), a dash for each that is 0.
+const LETTERS: [&str; 16] = [
+    " icc=----",
+    " icc=---C",
+    " icc=--V-",
+    " icc=--VC",
+    " icc=-Z--",
+    " icc=-Z-C",
+    " icc=-ZV-",
+    " icc=-ZVC",
+    " icc=N---",
+    " icc=N--C",
+    " icc=N-V-",
+    " icc=N-VC",
+    " icc=NZ--",
+    " icc=NZ-C",
+    " icc=NZV-",
+    " icc=NZVC",
+];
+
 /// Puts a register of the current window by its number.
 pub fn put_register(sheet: &mut Sheet, number: u8, word: u32) -> Result<(), AllocError> {
     let location = Location(u16::from(number));
-    write!(sheet.item, "{location}={word:08X}")?;
-    sheet.put()
+    sheet.put(format_args!("{location}={word:08X}"))
 }
 
 /// Puts a word of memory, where there is one.
 pub fn put_stored(sheet: &mut Sheet, address: u32, word: Option<u32>) -> Result<(), AllocError> {
-    let Some(word) = word else {
-        return Ok(());
-    };
-    write!(sheet.item, "[{address:08X}]={word:08X}")?;
-    sheet.put()
-}
-
-/// The condition codes of PSR (chapter 4), a dash for each that is 0.
-fn push_codes(item: &mut String, psr: u32) -> Result<(), AllocError> {
-    item.push_str(" icc=")?;
-    for (bit, letter) in [(23, "N"), (22, "Z"), (21, "V"), (20, "C")] {
-        item.push_str(if (psr >> bit) & 1 == 1 { letter } else { "-" })?;
+    match word {
+        Some(word) => sheet.put(format_args!("[{address:08X}]={word:08X}")),
+        None => Ok(()),
     }
-    Ok(())
 }
 
 /// Puts PSR where it changed, and its condition codes by their letters where one of them changed.
@@ -51,11 +58,12 @@ fn put_psr(sheet: &mut Sheet, before: u32, now: u32) -> Result<(), AllocError> {
     if before == now {
         return Ok(());
     }
-    write!(sheet.item, "PSR={now:08X}")?;
-    if (before ^ now) & CODES != 0 {
-        push_codes(&mut sheet.item, now)?;
-    }
-    sheet.put()
+    let codes = if (before ^ now) & CODES == 0 {
+        ""
+    } else {
+        LETTERS[((now >> 20) & 15) as usize]
+    };
+    sheet.put(format_args!("PSR={now:08X}{codes}"))
 }
 
 /// Puts a word by its name where it changed.
@@ -63,29 +71,24 @@ fn put_change(sheet: &mut Sheet, name: &str, before: u32, now: u32) -> Result<()
     if before == now {
         Ok(())
     } else {
-        sheet.put_word(name, now)
+        sheet.put(format_args!("{name}{now:08X}"))
     }
 }
 
-/// The letters of a page that was referenced or modified for the first time.
-fn letters(referenced: u64, modified: u64, page: u32) -> &'static str
-    requires { page < 64 }
-{
-    match ((referenced >> page) & 1, (modified >> page) & 1) {
-        (0, 0) => "",
-        (1, 0) => "R",
-        (0, _) => "M",
-        _ => "R M",
-    }
-}
-
-/// Puts a page by its address, if it has letters.
-fn put_page(sheet: &mut Sheet, address: u32, letters: &str) -> Result<(), AllocError> {
-    if letters.is_empty() {
-        return Ok(());
-    }
-    write!(sheet.item, "page {address:08X}: {letters}")?;
-    sheet.put()
+/// Puts a page by its address, if it was referenced or modified for the first time.
+fn put_page(
+    sheet: &mut Sheet,
+    address: u32,
+    referenced: bool,
+    modified: bool,
+) -> Result<(), AllocError> {
+    let letters = match (referenced, modified) {
+        (false, false) => return Ok(()),
+        (true, false) => "R",
+        (false, true) => "M",
+        (true, true) => "R M",
+    };
+    sheet.put(format_args!("page {address:08X}: {letters}"))
 }
 
 /// Puts the pages of a table, whose first page has an address, that were referenced or modified for the first time.
@@ -98,9 +101,15 @@ fn put_table(
     if referenced | modified == 0 {
         return Ok(());
     }
-    for page in 0..64 {
-        let address = start.wrapping_add(PAGE.wrapping_mul(page));
-        put_page(sheet, address, letters(referenced, modified, page))?;
+    let mut address = start;
+    for page in 0u32..64 {
+        put_page(
+            sheet,
+            address,
+            (referenced >> page) & 1 == 1,
+            (modified >> page) & 1 == 1,
+        )?;
+        address = address.wrapping_add(PAGE);
     }
     Ok(())
 }
@@ -115,12 +124,11 @@ fn put_pages(sheet: &mut Sheet, before: &PageUse, now: &PageUse) -> Result<(), A
     Ok(())
 }
 
-/// Puts the bytes that the device put out.
-fn put_output(sheet: &mut Sheet, bytes: &[u8]) -> Result<(), AllocError> {
-    for byte in bytes {
-        let byte = *byte;
-        write!(sheet.item, "puts out {byte:02X}")?;
-        sheet.put()?;
+/// Puts the bytes that the device put out behind so many.
+fn put_output(sheet: &mut Sheet, output: &[u8], told: usize) -> Result<(), AllocError> {
+    for place in told..output.len() {
+        let byte = output[place];
+        sheet.put(format_args!("puts out {byte:02X}"))?;
     }
     Ok(())
 }
@@ -136,8 +144,5 @@ pub fn put_changes(
     put_change(sheet, "WIM=", before.wim, now.wim)?;
     put_change(sheet, "Y=", before.y, now.y)?;
     put_pages(sheet, &before.pages, &now.pages)?;
-    match output.get(before.put_out..) {
-        Some(bytes) => put_output(sheet, bytes),
-        None => Ok(()),
-    }
+    put_output(sheet, output, before.put_out)
 }

@@ -6,40 +6,24 @@ use v8_core::Event;
 use v8_mmu::Stop;
 use v8_word::TrapType;
 
-/// Puts a trap by its name.
-fn put_name(sheet: &mut Sheet, trap: TrapType) -> Result<(), AllocError> {
-    let name = Trap(trap);
-    write!(sheet.item, "trap {name}")?;
-    sheet.put()
-}
-
-/// Puts the fault status of a refused access.
-fn put_status(sheet: &mut Sheet, status: u32) -> Result<(), AllocError> {
-    let status = FaultStatus(status);
-    write!(sheet.item, "fault {status}")?;
-    sheet.put()
-}
-
-/// Puts a trap, and the fault status where an access was refused.
+/// Puts a trap by its name, and the fault status where an access was refused.
 fn put_trap(sheet: &mut Sheet, trap: TrapType, status: u32) -> Result<(), AllocError> {
-    put_name(sheet, trap)?;
+    let name = Trap(trap);
+    sheet.put(format_args!("trap {name}"))?;
     match trap.number() {
-        0x01 | 0x09 => put_status(sheet, status),
+        0x01 | 0x09 => {
+            let status = FaultStatus(status);
+            sheet.put(format_args!("fault {status}"))
+        }
         _ => Ok(()),
     }
 }
 
-/// Puts a trap that was met while traps were disabled.
-fn put_error(sheet: &mut Sheet, trap: TrapType, status: u32) -> Result<(), AllocError> {
-    put_trap(sheet, trap, status)?;
-    sheet.put_text("error mode")
-}
-
 /// Puts how the device stopped the machine.
 fn put_stop(sheet: &mut Sheet, stop: &Stop) -> Result<(), AllocError> {
-    match stop {
-        Stop::Exit(word) => sheet.put_word("exit ", *word),
-        Stop::Trapped => sheet.put_text("stopped"),
+    match *stop {
+        Stop::Exit(word) => sheet.put(format_args!("exit {word:08X}")),
+        Stop::Trapped => sheet.put("stopped"),
     }
 }
 
@@ -48,7 +32,10 @@ pub fn put_event(sheet: &mut Sheet, event: &Event, status: u32) -> Result<(), Al
     match event {
         Event::Ran | Event::Annulled => Ok(()),
         Event::Trapped(trap) => put_trap(sheet, *trap, status),
-        Event::ErrorMode(trap) => put_error(sheet, *trap, status),
+        Event::ErrorMode(trap) => {
+            put_trap(sheet, *trap, status)?;
+            sheet.put("error mode")
+        }
         Event::Stopped(stop) => put_stop(sheet, stop),
     }
 }

@@ -4,6 +4,7 @@ ghost use Rattle.sbx_tell.specs.Heads.{padded_to};
 
 use sbx_lines::{MARGIN, WIDTH};
 use std::alloc::{AllocError, Global};
+use std::fmt::Display;
 
 /// The column from which items stand behind the text that a line begins with.
 const ITEMS: usize = 60;
@@ -14,8 +15,7 @@ pub struct Sheet {
     text: String,
     column: usize,
     items: usize,
-    /// The item that comes next.
-    pub item: String,
+    item: String,
 }
 
 impl Sheet {
@@ -37,41 +37,33 @@ impl Sheet {
     /// Begins anew, behind a text of so many columns.
     pub fn begin(&mut self, column: usize) {
         self.text.clear();
-        self.item.clear();
         self.column = column;
         self.items = ITEMS;
     }
 
-    /// Puts the item that comes next.
-    pub fn put(&mut self) -> Result<(), AllocError> {
+    /// Puts an item.
+    pub fn put<D: Display + Drop>(&mut self, item: D) -> Result<(), AllocError> {
+        self.item.clear();
+        self.item.write(item)?;
+        self.put_item()
+    }
+
+    /// Puts the item that was made.
+    fn put_item(&mut self) -> Result<(), AllocError> {
         let start = self.column.saturating_add(2).max(self.items);
-        if start.saturating_add(self.item.len()) > WIDTH {
-            self.text.push_str("\n")?;
-            self.text.push_str(MARGIN)?;
-            self.column = MARGIN.len();
+        let length = self.item.len();
+        let (end, blanks) = if start.saturating_add(length) > WIDTH {
             self.items = 0;
+            self.column = MARGIN.len();
+            ("\n", MARGIN.len())
         } else {
             let blanks = start.saturating_sub(self.column);
-            let end = self.text.len().saturating_add(blanks);
-            pad(&mut self.text, end)?;
             self.column = start;
-        }
-        self.text.push_str(self.item.as_str())?;
-        self.column = self.column.saturating_add(self.item.len());
-        self.item.clear();
-        Ok(())
-    }
-
-    /// Puts a text as an item.
-    pub fn put_text(&mut self, text: &str) -> Result<(), AllocError> {
-        self.item.push_str(text)?;
-        self.put()
-    }
-
-    /// Puts a word in hexadecimal digits behind a text.
-    pub fn put_word(&mut self, text: &str, word: u32) -> Result<(), AllocError> {
-        write!(self.item, "{text}{word:08X}")?;
-        self.put()
+            ("", blanks)
+        };
+        self.column = self.column.saturating_add(length);
+        let item = self.item.as_str();
+        write!(self.text, "{end}{:blanks$}{item}", "")
     }
 }
 
