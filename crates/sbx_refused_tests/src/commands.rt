@@ -6,9 +6,9 @@ mod stops;
 mod streams;
 mod words;
 
-use sbx_command::{
-    Ended, Job, ReadFault, Windows, command, decimal, exit_status, read_whole, turns, window_count,
-};
+use self::words::{Given, are_read};
+use crate::passing::passes;
+use sbx_command::{Ended, Job, Windows, command, exit_status};
 use std::alloc::Global;
 use std::io::{self, Read, Write};
 use std::process::Abort;
@@ -78,6 +78,11 @@ impl Writer {
     /// What was written.
     fn text(&self) -> &[u8] {
         self.kept.get(..self.count).unwrap_or(&self.kept)
+    }
+
+    /// Whether these bytes were written.
+    fn has(&self, bytes: &[u8]) -> bool {
+        self.text() == bytes
     }
 
     fn call(&mut self) -> io::Result<()> {
@@ -182,17 +187,6 @@ const LISTING: &[u8] = b"00040000 90102048 or %g0,72,%o0
 
 const FIRST_LINE: &[u8] = b"00040000 90102048 or %g0,72,%o0\n";
 
-/// A command, the calls at which its file, its input and its output fail (0: none), and what it has to answer.
-#[derive(Clone, Copy)]
-struct Case<'a> {
-    job: &'a Job<'a>,
-    file: &'a [u8],
-    fails: [usize; 3],
-    status: u8,
-    out: &'a [u8],
-    err: &'a [u8],
-}
-
 /// What a command told: how it ended, and its two outputs.
 #[derive(Clone, Copy)]
 struct Told {
@@ -249,7 +243,7 @@ impl Told {
     }
 
     fn is_want_of_memory(&self) -> bool {
-        self.ended.status == 5 && self.err.text() == MEMORY
+        self.ended.status == 5 && self.err.has(MEMORY)
     }
 }
 
@@ -268,131 +262,106 @@ fn answer_of(alloc: Global, job: &Job<'_>, file: &[u8], fails: [usize; 3]) -> To
     }
 }
 
-/// Whether the command answers as it has to; where its job is done, what it put out has to be flushed.
-fn is_answered(alloc: Global, case: &Case<'_>) -> bool {
-    let told = answer_of(alloc, case.job, case.file, case.fails);
-    let Ended {
-        status,
-        told: is_whole,
-    } = told.ended;
-    status == case.status
-        && is_whole
+/// The calls of the file, the input and the output that fail (0: none), and the status, the output and the line that a job has to end with.
+type End = ([usize; 3], u8, &'static [u8], &'static [u8]);
+
+/// Whether a job on a file ends as it has to; where it is done, what it put out has to be flushed.
+fn is_ended(alloc: Global, job: &Job<'_>, file: &[u8], end: End) -> bool {
+    let (fails, status, out, err) = end;
+    let told = answer_of(alloc, job, file, fails);
+    told.ended.status == status
+        && told.ended.told
         && (status > 1 || told.out.flushed)
-        && told.out.text() == case.out
-        && told.err.text() == case.err
+        && told.out.has(out)
+        && told.err.has(err)
 }
 
-/// What is read of a reader that fails at a call. Where a growth was refused, it is read once more.
-fn read(alloc: Global, bytes: &[u8], most: usize, fails: usize) -> Result<Vec<u8>, ReadFault> {
-    match read_whole(alloc, &mut Reader::new(bytes, fails), most) {
-        Err(ReadFault::Memory(_)) => read_whole(alloc, &mut Reader::new(bytes, fails), most),
-        first => first,
+/// A job on a file has each of these ends. They are handed over as a slice, and stand apart from the job: a table of jobs that is gone
+/// through in a test takes far longer to check.
+fn has_ends<R: Abort>(rt: &R, alloc: Global, job: &Job<'_>, file: &[u8], ends: &[End]) {
+    for end in ends {
+        let [file_fails, input_fails, out_fails] = end.0;
+        assert!(rt;
+            is_ended(alloc, job, file, *end),
+            "at {file_fails}, {input_fails}, {out_fails}"
+        );
     }
 }
-
-/// Bytes, the bound, the call that fails, and what is read.
-type Reading = (
-    &'static [u8],
-    usize,
-    usize,
-    Result<&'static [u8], ReadFault>,
-);
-
-/// Whether the bytes are read as wanted.
-fn is_read(alloc: Global, (bytes, most, fails, wanted): Reading) -> bool {
-    match read(alloc, bytes, most, fails) {
-        Ok(found) => Ok(found.as_slice()) == wanted,
-        Err(fault) => Err(fault) == wanted,
-    }
-}
-
-const READINGS: [Reading; 7] = [
-    (b"", 0, 0, Ok(b"")),
-    (b"abc", 3, 0, Ok(b"abc")),
-    (b"abc", 4, 0, Ok(b"abc")),
-    (b"abc", 2, 0, Err(ReadFault::TooLong)),
-    (b"abc", 3, 1, Err(ReadFault::Reader)),
-    (b"abc", 3, 4, Err(ReadFault::Reader)),
-    (b"abc", 3, 5, Ok(b"abc")),
-];
 
 /// The sample with the bytes from `place` on replaced.
 fn changed(place: usize, bytes: &[u8]) -> [u8; 86] {
     let mut image = HELLO;
-    for (old, new) in image.iter_mut().skip(place).zip(bytes) {
-        *old = *new;
+    let mut at = place;
+    for byte in bytes {
+        if at < 86 {
+            image[at] = *byte;
+        }
+        at = at.wrapping_add(1);
     }
     image
 }
 
+/// Bytes, the bound and the call that fails, and what is read: all of them, or why there are none.
+const READINGS: &str = " 0 0 = all
+abc 3 0 = all
+abc 4 0 = all
+abc 2 0 = too long
+abc 3 1 = the reader
+abc 3 4 = the reader
+abc 3 5 = all
+";
+
 #[test]
 fn reads_within_a_bound(rt: HostRuntime) {
-    for reading in READINGS {
-        let (_, most, fails, _) = reading;
-        assert!(rt; is_read(rt.alloc(), reading), "at {most}, {fails}");
-    }
+    are_read(&rt, rt.alloc(), Given::Bytes, READINGS);
 }
 
 /// Texts, and the number that they spell by digits alone, up to 9.
-const DECIMALS: [(&str, Option<u64>); 10] = [
-    ("0", Some(0)),
-    ("007", Some(7)),
-    ("9", Some(9)),
-    ("10", None),
-    ("", None),
-    ("+8", None),
-    ("-8", None),
-    ("8 ", None),
-    ("0x8", None),
-    ("٨", None),
-];
+const DECIMALS: &str = "0 = 0
+007 = 7
+9 = 9
+10 = none
+ = none
++8 = none
+-8 = none
+8  = none
+0x8 = none
+٨ = none
+";
 
 #[test]
 fn reads_decimal_digits_alone(rt: HostRuntime) {
-    for (text, wanted) in DECIMALS {
-        assert!(rt; decimal(text, 9) == wanted, "at {text}");
-    }
+    are_read(&rt, rt.alloc(), Given::Decimal, DECIMALS);
 }
 
 /// Texts, and the limit of turns that they give.
-const LIMITS: [(Option<&str>, Option<u64>); 6] = [
-    (None, Some(100_000)),
-    (Some("0"), Some(0)),
-    (Some("9999999999"), Some(9_999_999_999)),
-    (Some("10000000000"), None),
-    (Some("+8"), None),
-    (Some(""), None),
-];
+const LIMITS: &str = "left out = 100000
+0 = 0
+9999999999 = 9999999999
+10000000000 = none
++8 = none
+ = none
+";
 
 #[test]
 fn reads_a_limit_of_turns(rt: HostRuntime) {
-    for (text, wanted) in LIMITS {
-        let told = text.unwrap_or("none");
-        assert!(rt; turns(text) == wanted, "at {told}");
-    }
+    are_read(&rt, rt.alloc(), Given::Turns, LIMITS);
 }
 
 /// Texts, and the count of windows that they give.
-const COUNTS: [(Option<&str>, Option<u32>); 8] = [
-    (None, Some(8)),
-    (Some("4"), Some(4)),
-    (Some("32"), Some(32)),
-    (Some("008"), Some(8)),
-    (Some("3"), None),
-    (Some("33"), None),
-    (Some("+8"), None),
-    (Some("abc"), None),
-];
+const COUNTS: &str = "left out = 8
+4 = 4
+32 = 32
+008 = 8
+3 = none
+33 = none
++8 = none
+abc = none
+";
 
 #[test]
 fn reads_a_count_of_windows(rt: HostRuntime) {
-    for (text, wanted) in COUNTS {
-        let told = text.unwrap_or("none");
-        assert!(rt;
-            window_count(text).map(Windows::count) == wanted,
-            "at {told}"
-        );
-    }
+    are_read(&rt, rt.alloc(), Given::Windows, COUNTS);
 }
 
 /// The sample and a byte after it.
@@ -400,18 +369,6 @@ fn longer() -> [u8; 87] {
     let mut image = [0; 87];
     image[..86].copy_from_slice(&HELLO);
     image
-}
-
-/// A command on whole bytes that has to answer with status 2 and a line.
-fn refused<'a>(job: &'a Job<'a>, file: &'a [u8], err: &'a [u8]) -> Case<'a> {
-    Case {
-        job,
-        file,
-        fails: [0, 0, 0],
-        status: 2,
-        out: b"",
-        err,
-    }
 }
 
 /// The sample with one param, whose range is from 5 to 4.
@@ -424,17 +381,22 @@ const RANGE: [u8; 95] = [
     0x04, 0x00, 0x00, 0x00, 0x00, 0x00, 0x00, 0x00, 0x00, 0x00, 0x00, 0x00, 0x00, 0x00, 0x10,
 ];
 
-/// The jobs that ask for an image.
+/// The jobs that ask for an image; the first two hold it to the rules.
 const IMAGE_JOBS: [Job<'static>; 3] = [VERIFY, RUN, LIST];
 
-/// Whether `verify`, `run` and `list` all answer with status 2 and the line.
-fn are_refused<'a>(alloc: Global, file: &'a [u8], line: &'a [u8]) -> bool {
-    for job in &IMAGE_JOBS {
-        if !is_answered(alloc, &refused(job, file, line)) {
+/// Whether these jobs all answer with status 2 and the line.
+fn all_refuse(alloc: Global, jobs: &[Job<'_>], file: &[u8], line: &'static [u8]) -> bool {
+    for job in jobs {
+        if !is_ended(alloc, job, file, ([0, 0, 0], 2, b"", line)) {
             return false;
         }
     }
     true
+}
+
+/// Whether `verify`, `run` and `list` all answer with status 2 and the line.
+fn are_refused(alloc: Global, file: &[u8], line: &'static [u8]) -> bool {
+    all_refuse(alloc, &IMAGE_JOBS, file, line)
 }
 
 #[test]
@@ -447,74 +409,36 @@ fn refuses_an_image_that_is_cut(rt: HostRuntime) {
     }
 }
 
+/// Whether the sample and a byte after it are refused.
+fn is_longer_refused(alloc: Global) -> bool {
+    are_refused(alloc, &longer(), b"image I6\n")
+}
+
+/// Whether the sample with a param of no number is refused.
+fn is_range_refused(alloc: Global) -> bool {
+    are_refused(alloc, &RANGE, b"image I8\n")
+}
+
 #[test]
 fn refuses_what_is_longer(rt: HostRuntime) {
-    let alloc = rt.alloc();
-    assert!(rt; are_refused(alloc, &longer(), b"image I6\n"), "a byte more");
-    assert!(rt; are_refused(alloc, &RANGE, b"image I8\n"), "a param 5 to 4");
+    passes(&rt, "a byte more", is_longer_refused(rt.alloc()));
+    passes(&rt, "a param 5 to 4", is_range_refused(rt.alloc()));
 }
 
-/// Bytes of the sample that are replaced from a place on, and the line that tells of it.
-type Change = (usize, &'static [u8], &'static [u8]);
+/// Bytes of the sample that are replaced from a place on, the line that tells of it, and how many bytes the sample has up to the end of
+/// its bad field.
+type Change = (usize, &'static [u8], &'static [u8], usize);
 
-/// Samples that are no image, and how many bytes each has up to the end of its bad field.
-const BAD: [(Change, usize); 5] = [
-    ((0, &[0x54], b"image I2\n"), 4),
-    ((4, &[0, 4], b"image I3\n"), 6),
-    ((6, &[0, 8], b"image I4\n"), 8),
-    ((60, &[0, 0, 1, 0, 0, 0, 0, 0], b"image I5\n"), 68),
-    ((48, &[0, 4, 0, 4], b"image I7\n"), 52),
+/// Samples that are no image.
+const BAD: [Change; 5] = [
+    (0, &[0x54], b"image I2\n", 4),
+    (4, &[0, 4], b"image I3\n", 6),
+    (6, &[0, 8], b"image I4\n", 8),
+    (60, &[0, 0, 1, 0, 0, 0, 0, 0], b"image I5\n", 68),
+    (48, &[0, 4, 0, 4], b"image I7\n", 52),
 ];
 
-/// Whether `verify`, `run` and `list` all refuse the changed sample.
-fn is_change_refused(alloc: Global, (place, bytes, line): Change) -> bool {
-    are_refused(alloc, &changed(place, bytes), line)
-}
-
-#[test]
-fn refuses_what_is_bad(rt: HostRuntime) {
-    for (change, told) in BAD {
-        assert!(rt; is_change_refused(rt.alloc(), change), "after {told} bytes");
-    }
-}
-
-/// A job on a file whose reader fails at a call, and the status and the line that it has to end with.
-fn stopped<'a>(
-    job: &'a Job<'a>,
-    file: &'a [u8],
-    fails: usize,
-    status: u8,
-    err: &'a [u8],
-) -> Case<'a> {
-    Case {
-        job,
-        file,
-        fails: [fails, 0, 0],
-        status,
-        out: b"",
-        err,
-    }
-}
-
-/// Whether the changed sample is refused once so many bytes were read, and no sooner.
-fn is_told_after(alloc: Global, (place, bytes, line): Change, told: usize) -> bool {
-    let image = changed(place, bytes);
-    let late = told.wrapping_add(1);
-    is_answered(alloc, &stopped(&VERIFY, &image, late, 2, line))
-        && is_answered(alloc, &stopped(&VERIFY, &image, told, 4, b"file\n"))
-}
-
-#[test]
-fn reads_no_further_than_the_bad_field(rt: HostRuntime) {
-    for (change, told) in BAD {
-        assert!(rt;
-            is_told_after(rt.alloc(), change, told),
-            "after {told} bytes"
-        );
-    }
-}
-
-/// Samples that break a rule.
+/// Samples that break a rule, which is told of whole images.
 const RULES: [Change; 4] = [
     // fuel and budget 15
     (
@@ -523,35 +447,75 @@ const RULES: [Change; 4] = [
             0, 0, 0, 0, 0, 0, 0, 15, 0, 1, 0, 4, 0, 0, 0, 0, 0, 0, 0, 0, 0, 0, 0, 0, 0, 15,
         ],
         b"refused V14 in function 0 at 00040014\n",
+        86,
     ),
     // put alone, exit alone
-    (6, &[0, 4], b"refused V12 in function 0 at 00040014\n"),
-    (6, &[0, 1], b"refused V12 in function 0 at 00040004\n"),
+    (6, &[0, 4], b"refused V12 in function 0 at 00040014\n", 86),
+    (6, &[0, 1], b"refused V12 in function 0 at 00040004\n", 86),
     // restore %g0,%g0,%g0 with an unused bit set
     (
         20,
         &[0x81, 0xE8, 0, 0x20],
         b"refused V1 in function 0 at 00040000\n",
+        86,
     ),
 ];
 
-/// Whether `verify` and `run` both refuse the changed sample.
-fn is_rule_named(alloc: Global, (place, bytes, line): Change) -> bool {
+/// What is asked of a changed sample.
+#[derive(Clone, Copy)]
+enum Asked {
+    /// Whether `verify`, `run` and `list` all refuse it.
+    Refused,
+    /// Whether `verify` refuses it once its bad field was read, and no sooner.
+    AtOnce,
+    /// Whether `verify` and `run` both refuse it.
+    Rule,
+}
+
+/// Whether a file is refused once so many bytes were read, and no sooner.
+fn is_told_after(alloc: Global, file: &[u8], line: &'static [u8], told: usize) -> bool {
+    let late = told.wrapping_add(1);
+    is_ended(alloc, &VERIFY, file, ([late, 0, 0], 2, b"", line))
+        && is_ended(alloc, &VERIFY, file, ([told, 0, 0], 4, b"", b"file\n"))
+}
+
+/// Whether a changed sample is as it is asked.
+fn is_told(alloc: Global, asked: Asked, change: &Change) -> bool {
+    let (place, bytes, line, told) = *change;
     let image = changed(place, bytes);
-    is_answered(alloc, &refused(&VERIFY, &image, line))
-        && is_answered(alloc, &refused(&RUN, &image, line))
+    match asked {
+        Asked::Refused => are_refused(alloc, &image, line),
+        Asked::AtOnce => is_told_after(alloc, &image, line, told),
+        Asked::Rule => all_refuse(alloc, &IMAGE_JOBS[..2], &image, line),
+    }
+}
+
+/// Each changed sample is as it is asked.
+fn are_told<R: Abort>(rt: &R, alloc: Global, asked: Asked, changes: &[Change]) {
+    for change in changes {
+        assert!(rt;
+            is_told(alloc, asked, change),
+            "at {}, after {} bytes",
+            change.0,
+            change.3
+        );
+    }
+}
+
+#[test]
+fn refuses_what_is_bad(rt: HostRuntime) {
+    are_told(&rt, rt.alloc(), Asked::Refused, &BAD);
+}
+
+#[test]
+fn reads_no_further_than_the_bad_field(rt: HostRuntime) {
+    are_told(&rt, rt.alloc(), Asked::AtOnce, &BAD);
 }
 
 #[test]
 fn refuses_what_breaks_a_rule(rt: HostRuntime) {
-    for change in RULES {
-        let (place, _, _) = change;
-        assert!(rt; is_rule_named(rt.alloc(), change), "at {place}");
-    }
+    are_told(&rt, rt.alloc(), Asked::Rule, &RULES);
 }
-
-/// The calls that fail, and the status, the output and the line that a job has to end with.
-type End = ([usize; 3], u8, &'static [u8], &'static [u8]);
 
 const LISTS: [End; 8] = [
     ([0, 0, 0], 0, LISTING, b""),
@@ -598,32 +562,6 @@ const TRACES_OF_NONE: [End; 3] = [
 
 const TRACES: [End; 1] = [([0, 0, 1], 4, b"", b"output\n")];
 
-/// Whether a job on a file ends as it has to.
-fn is_ended(alloc: Global, job: &Job<'_>, file: &[u8], end: &End) -> bool {
-    let (fails, status, out, err) = *end;
-    let case = Case {
-        job,
-        file,
-        fails,
-        status,
-        out,
-        err,
-    };
-    is_answered(alloc, &case)
-}
-
-/// A job on a file has each of these ends. They are handed over as a slice, and stand apart from the job: a table of jobs that is gone
-/// through in a test takes far longer to check.
-fn has_ends<R: Abort>(rt: &R, alloc: Global, job: &Job<'_>, file: &[u8], ends: &[End]) {
-    for end in ends {
-        let [file_fails, input_fails, out_fails] = end.0;
-        assert!(rt;
-            is_ended(alloc, job, file, end),
-            "at {file_fails}, {input_fails}, {out_fails}"
-        );
-    }
-}
-
 #[test]
 fn lists_and_verifies_up_to_a_fault(rt: HostRuntime) {
     has_ends(&rt, rt.alloc(), &LIST, &HELLO, &LISTS);
@@ -642,18 +580,15 @@ fn traces_up_to_a_fault(rt: HostRuntime) {
     has_ends(&rt, rt.alloc(), &TRACE, &HELLO, &TRACES);
 }
 
+/// Whether the sample with the exit word 1 ends with it.
+fn is_exit_told(alloc: Global) -> bool {
+    let one = changed(36, &[0x90, 0x10, 0x20, 0x01]);
+    is_ended(alloc, &RUN, &one, ([0, 0, 0], 1, b"Hi", b""))
+}
+
 #[test]
 fn ends_with_the_exit_word(rt: HostRuntime) {
-    let one = changed(36, &[0x90, 0x10, 0x20, 0x01]);
-    let case = Case {
-        job: &RUN,
-        file: &one,
-        fails: [0, 0, 0],
-        status: 1,
-        out: b"Hi",
-        err: b"",
-    };
-    assert!(rt; is_answered(rt.alloc(), &case), "exit word 1");
+    passes(&rt, "exit word 1", is_exit_told(rt.alloc()));
 }
 
 /// Whether a whole trace of the image in the file is written, and nothing else.
@@ -663,14 +598,18 @@ fn is_traced_to_the_end(alloc: Global, file: &[u8]) -> bool {
     told.ended.status == 0
         && lines.starts_with(TWO_TURNS)
         && lines.ends_with(LAST_TURN)
-        && told.err.text().is_empty()
+        && told.err.has(b"")
+}
+
+/// The sample with a budget of 15, which is not accepted.
+fn is_little_traced(alloc: Global) -> bool {
+    let little = changed(60, &[0, 0, 0, 0, 0, 0, 0, 0x0F]);
+    is_traced_to_the_end(alloc, &little)
 }
 
 /// A whole trace ends with the exit; the image need not be one that is accepted.
 #[test]
 fn traces_to_the_end(rt: HostRuntime) {
-    let little = changed(60, &[0, 0, 0, 0, 0, 0, 0, 0x0F]);
-    for file in [&HELLO, &little] {
-        assert!(rt; is_traced_to_the_end(rt.alloc(), file));
-    }
+    passes(&rt, "the sample", is_traced_to_the_end(rt.alloc(), &HELLO));
+    passes(&rt, "a budget of 15", is_little_traced(rt.alloc()));
 }

@@ -8,6 +8,8 @@ mod commands;
 #[cfg(test)]
 mod images;
 #[cfg(test)]
+mod passing;
+#[cfg(test)]
 mod reports;
 #[cfg(test)]
 mod runs;

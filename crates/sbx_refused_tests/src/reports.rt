@@ -2,19 +2,31 @@
 ghost use Rattle.std.specs.Prelude.{◌≤◌};
 
 use crate::images::{FOREVER, HELLO, image_of};
+use crate::passing::passes;
 use crate::sheet::Sheet;
 use sbx_image::Image;
 use sbx_raw::RunFault;
-use sbx_tell::{Progress, push_run, run_windows, watch_windows};
+use sbx_tell::{Progress, Run, push_run, run_windows, watch_windows};
 use std::alloc::Global;
 
 /// How often a run said how far it had come.
-#[derive(Drop)]
+#[derive(Clone, Copy)]
 struct Count(u32);
 
 impl Progress for Count {
     fn made(&mut self, _turns: u64) {
         self.0 = self.0.wrapping_add(1);
+    }
+}
+
+/// The report of a run; nothing where memory was refused.
+fn report_of(alloc: Global, windows: u32, limit: u64, run: &Run) -> Option<String>
+    requires { (4 ≤ windows) × (windows ≤ 32) }
+{
+    let mut text = String::new(alloc);
+    match push_run(&mut text, windows, limit, run) {
+        Ok(()) => Some(text),
+        Err(_) => None,
     }
 }
 
@@ -28,10 +40,10 @@ fn told_once(
 ) -> Option<String>
     requires { (4 ≤ windows) × (windows ≤ 32) }
 {
-    let run = run_windows(alloc, windows, image, b"", limit, count).ok()?;
-    let mut text = String::new(alloc);
-    push_run(&mut text, windows, limit, &run).ok()?;
-    Some(text)
+    match run_windows(alloc, windows, image, b"", limit, count) {
+        Ok(run) => report_of(alloc, windows, limit, &run),
+        Err(_) => None,
+    }
 }
 
 /// The same; where memory was refused, it is asked for once more, and counted anew.
@@ -83,13 +95,10 @@ const TURNS: &str =
     16 07 s F0000804 vector 80+4  st %i0,[%l3+8]            exit 00000000
 ";
 
-/// Whether the run of HELLO is told as it has to be, which is too short to say how far it has come.
-fn is_told(alloc: Global) -> bool {
+/// Whether the run of an image is told as that of HELLO has to be, which is too short to say how far it has come.
+fn is_told(alloc: Global, image: &Image) -> bool {
     let mut count = Count(0);
-    let Some(image) = image_of(alloc, HELLO) else {
-        return false;
-    };
-    match told(alloc, 8, &image, 100_000, &mut count) {
+    match told(alloc, 8, image, 100_000, &mut count) {
         Some(text) => text.as_str() == REPORT && count.0 == 0,
         None => false,
     }
@@ -97,27 +106,42 @@ fn is_told(alloc: Global) -> bool {
 
 #[test]
 fn a_run_is_told(rt: HostRuntime) {
-    assert!(rt; is_told(rt.alloc()));
+    passes(&rt, "the report", holds(rt.alloc(), HELLO, Asked::Report));
 }
 
 /// How the report of 3 MiB of output begins.
 const LONG_REPORT: &str = "output: 3145728 bytes\n  AAAAAAAAAAAAAAAAAAAAAAAA\n  AAAA";
 
-/// Whether a run that puts out 3 MiB is told, and says how far it has come.
-fn is_told_at_length(alloc: Global) -> bool {
+/// Whether the run of an image is told as one that puts out 3 MiB, and says how far it has come.
+fn is_told_at_length(alloc: Global, image: &Image) -> bool {
     let mut count = Count(0);
-    let Some(image) = image_of(alloc, FOREVER) else {
-        return false;
-    };
-    match told(alloc, 32, &image, 22_020_096, &mut count) {
-        Some(text) => { text.len() == 3_539_410 && text.starts_with(LONG_REPORT) && count.0 == 5 }
+    match told(alloc, 32, image, 22_020_096, &mut count) {
+        Some(text) => text.len() == 3_539_410 && text.starts_with(LONG_REPORT) && count.0 == 5,
         None => false,
     }
 }
 
 #[test]
 fn three_mebibytes_are_told(rt: HostRuntime) {
-    assert!(rt; is_told_at_length(rt.alloc()));
+    passes(
+        &rt,
+        "the long report",
+        holds(rt.alloc(), FOREVER, Asked::LongReport),
+    );
+}
+
+/// Tells the turns of an image's run on no input.
+fn watch(
+    alloc: Global,
+    windows: u32,
+    image: &Image,
+    limit: u64,
+    sheet: &mut Sheet,
+    count: &mut Count,
+) -> Result<(), RunFault>
+    requires { (4 ≤ windows) × (windows ≤ 32) }
+{
+    watch_windows(alloc, windows, image, b"", limit, sheet, count)
 }
 
 /// Whether the turns of an image's run on no input are told. Where memory was refused, they are asked for once more, and counted anew;
@@ -132,53 +156,75 @@ fn is_watched(
 ) -> bool
     requires { (4 ≤ windows) × (windows ≤ 32) }
 {
-    match watch_windows(alloc, windows, image, b"", limit, sheet, count) {
+    match watch(alloc, windows, image, limit, sheet, count) {
         Ok(()) => true,
         Err(RunFault::Memory(_)) => {
             *sheet = Sheet::new(usize::MAX);
             count.0 = 0;
-            watch_windows(alloc, windows, image, b"", limit, sheet, count).is_ok()
+            watch(alloc, windows, image, limit, sheet, count).is_ok()
         }
         Err(_) => false,
     }
 }
 
-/// Whether the turns of HELLO are told as they have to be, and flushed; they are too few to say how far the run has come.
-fn are_turns_told(alloc: Global) -> bool {
+/// Whether the turns of an image's run are told as those of HELLO have to be, and flushed; they are too few to say how far the run has
+/// come.
+fn are_turns_told(alloc: Global, image: &Image) -> bool {
     let mut sheet = Sheet::new(usize::MAX);
     let mut count = Count(0);
-    match image_of(alloc, HELLO) {
-        Some(image) => {
-            is_watched(alloc, 8, &image, 100_000, &mut sheet, &mut count)
-                && sheet.front() == TURNS.as_bytes()
-                && sheet.flushed
-                && count.0 == 0
-        }
-        None => false,
-    }
+    is_watched(alloc, 8, image, 100_000, &mut sheet, &mut count)
+        && sheet.front() == TURNS.as_bytes()
+        && sheet.flushed
+        && count.0 == 0
 }
 
 #[test]
 fn turns_are_told(rt: HostRuntime) {
-    assert!(rt; are_turns_told(rt.alloc()));
+    passes(&rt, "the turns", holds(rt.alloc(), HELLO, Asked::Turns));
 }
 
-/// Whether 524,289 turns have as many lines or more, none longer than 100 columns, and say twice how far they have come.
-fn has_lines_that_fit(alloc: Global) -> bool {
+/// Whether 524,289 turns of an image's run have as many lines or more, none longer than 100 columns, and say twice how far they have come.
+fn has_lines_that_fit(alloc: Global, image: &Image) -> bool {
     let mut sheet = Sheet::new(usize::MAX);
     let mut count = Count(0);
-    match image_of(alloc, FOREVER) {
-        Some(image) => {
-            is_watched(alloc, 32, &image, 524_289, &mut sheet, &mut count)
-                && sheet.longest <= 100
-                && sheet.lines >= 524_289
-                && count.0 == 2
-        }
-        None => false,
-    }
+    is_watched(alloc, 32, image, 524_289, &mut sheet, &mut count)
+        && sheet.longest <= 100
+        && sheet.lines >= 524_289
+        && count.0 == 2
 }
 
 #[test]
 fn a_long_trace_has_lines_that_fit(rt: HostRuntime) {
-    assert!(rt; has_lines_that_fit(rt.alloc()));
+    passes(&rt, "the lines", holds(rt.alloc(), FOREVER, Asked::Lines));
+}
+
+/// What is asked of an image.
+#[derive(Clone, Copy)]
+enum Asked {
+    /// Whether its run is told as that of HELLO.
+    Report,
+    /// Whether its run is told as one that puts out 3 MiB.
+    LongReport,
+    /// Whether its turns are told as those of HELLO.
+    Turns,
+    /// Whether the lines of many turns fit.
+    Lines,
+}
+
+/// Whether what is asked of an image is so.
+fn is_so(alloc: Global, image: &Image, asked: Asked) -> bool {
+    match asked {
+        Asked::Report => is_told(alloc, image),
+        Asked::LongReport => is_told_at_length(alloc, image),
+        Asked::Turns => are_turns_told(alloc, image),
+        Asked::Lines => has_lines_that_fit(alloc, image),
+    }
+}
+
+/// Whether it is so of the image of these bytes. All questions go through here, since what owns an image takes long to check.
+fn holds(alloc: Global, bytes: &[u8], asked: Asked) -> bool {
+    match image_of(alloc, bytes) {
+        Some(image) => is_so(alloc, &image, asked),
+        None => false,
+    }
 }

@@ -3,7 +3,7 @@ use std::io::{self, Write};
 
 /// Takes so many bytes, one a call, and then fails. Keeps the first of them, and counts lines and the columns of the longest, and knows
 /// whether it was flushed behind the last write. Its room is its own, so that no refused growth is its.
-#[derive(Drop)]
+#[derive(Clone, Copy)]
 pub(crate) struct Sheet {
     kept: [u8; 4096],
     count: usize,

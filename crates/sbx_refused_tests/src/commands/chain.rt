@@ -91,10 +91,14 @@ fn answer(alloc: Global, job: &Job<'_>) -> Option<Vec<u8>> {
 }
 
 /// How many lines end so.
-fn count(text: &[u8], end: &[u8]) -> usize {
-    text.split(|byte| *byte == b'\n')
-        .filter(|line| line.ends_with(end))
-        .count()
+fn count(text: &str, end: &str) -> usize {
+    let mut count = 0usize;
+    for line in text.lines() {
+        if line.ends_with(end) {
+            count = count.wrapping_add(1);
+        }
+    }
+    count
 }
 
 /// A count of windows, and the turns, overflows and underflows of the chain on so many.
@@ -115,11 +119,19 @@ fn is_run(alloc: Global, windows: Windows) -> bool {
 }
 
 /// Whether the lines of a trace are those of such traffic, the last of them the exit.
-fn has_traffic(text: &[u8], (_, turns, overflows, underflows): Traffic) -> bool {
-    text.ends_with(b" exit 00000000\n")
-        && count(text, b"").checked_sub(1) == Some(turns)
-        && count(text, b" trap 05") == overflows
-        && count(text, b" trap 06") == underflows
+fn has_traffic(text: &str, (_, turns, overflows, underflows): Traffic) -> bool {
+    text.ends_with(" exit 00000000\n")
+        && count(text, "") == turns
+        && count(text, " trap 05") == overflows
+        && count(text, " trap 06") == underflows
+}
+
+/// The same of bytes, which are text.
+fn is_traffic(bytes: &[u8], traffic: Traffic) -> bool {
+    match str::from_utf8(bytes) {
+        Ok(text) => has_traffic(text, traffic),
+        Err(_) => false,
+    }
 }
 
 /// Whether the chain's trace on so many windows has its traffic.
@@ -130,7 +142,7 @@ fn is_traced(alloc: Global, windows: Windows, traffic: Traffic) -> bool {
         limit: 9_999_999_999,
     };
     match answer(alloc, &job) {
-        Some(text) => has_traffic(text.as_slice(), traffic),
+        Some(text) => is_traffic(text.as_slice(), traffic),
         None => false,
     }
 }

@@ -1,7 +1,9 @@
 //! Sources that mean an image, and others.
 use super::{End, HELLO, Reader, Told, Writer, has_ends};
+use crate::passing::passes;
 use sbx_command::Job;
 use std::alloc::Global;
+use std::process::Abort;
 
 pub(super) const ASM: Job<'static> = Job::Asm {
     source: "a.s",
@@ -78,20 +80,25 @@ const ENDS: [End; 5] = [
     ([0, 0, 2], 4, &HELLO, b"output\n"),
 ];
 
-/// Sources that mean nothing, and the one end of each.
-const FAULTS: [(&[u8], [End; 1]); 4] = [
-    (b"", [([0, 0, 1], 2, b"", b"line 1: A2\n")]),
-    (b"x: nop", [([0, 0, 0], 2, b"", b"line 1: A2\n")]),
-    (b"\n\n add %o0\n $", [([0, 0, 0], 2, b"", b"line 3: S2\n")]),
-    (b" $\n add %o0\n", [([0, 0, 0], 2, b"", b"line 1: X2\n")]),
+/// Sources that mean nothing, the call of the output that fails, which isn't made, and the line of each.
+const FAULTS: [(&[u8], usize, &[u8]); 4] = [
+    (b"", 1, b"line 1: A2\n"),
+    (b"x: nop", 0, b"line 1: A2\n"),
+    (b"\n\n add %o0\n $", 0, b"line 3: S2\n"),
+    (b" $\n add %o0\n", 0, b"line 1: X2\n"),
 ];
+
+/// Each source is told by its line.
+fn are_faults<R: Abort>(rt: &R, alloc: Global, faults: &[(&[u8], usize, &'static [u8])]) {
+    for (source, fails, line) in faults {
+        has_ends(rt, alloc, &ASM, source, &[([0, 0, *fails], 2, b"", *line)]);
+    }
+}
 
 #[test]
 fn assembles(rt: HostRuntime) {
     has_ends(&rt, rt.alloc(), &ASM, SOURCE, &ENDS);
-    for (source, ends) in &FAULTS {
-        has_ends(&rt, rt.alloc(), &ASM, source, ends);
-    }
+    are_faults(&rt, rt.alloc(), &FAULTS);
 }
 
 #[test]
@@ -117,5 +124,5 @@ fn is_full_told(alloc: Global) -> bool {
 
 #[test]
 fn tells_an_object_without_room_as_memory(rt: HostRuntime) {
-    assert!(rt; is_full_told(rt.alloc()));
+    passes(&rt, "no room", is_full_told(rt.alloc()));
 }

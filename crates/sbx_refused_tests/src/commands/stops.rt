@@ -12,6 +12,14 @@ const LONGEST: Stop = Stop::Refused(Refusal {
 
 const LINE: &[u8] = b"refused V11 in function 65535 at FFFFFFFF\n";
 
+/// What is there of the line at the call that fails.
+fn front_at(fails: usize) -> &'static [u8] {
+    match fails.checked_sub(1) {
+        None => LINE,
+        Some(count) => LINE.get(..count).unwrap_or(LINE),
+    }
+}
+
 /// Whether a stop is told up to the call that fails, with the same status.
 fn is_told(fails: usize) -> bool {
     let mut err = Writer {
@@ -19,12 +27,9 @@ fn is_told(fails: usize) -> bool {
         ..Writer::new(fails)
     };
     let ended = LONGEST.report(&mut err);
-    let front = match fails.checked_sub(1) {
-        None => LINE,
-        Some(count) => LINE.get(..count).unwrap_or(LINE),
-    };
+    let front = front_at(fails);
     let told = front.len() == LINE.len();
-    ended.status == 2 && ended.told == told && err.text() == front
+    ended.status == 2 && ended.told == told && err.has(front)
 }
 
 #[test]

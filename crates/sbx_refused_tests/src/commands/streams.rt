@@ -1,5 +1,6 @@
 //! Runs over streams: faults where the program reads and where it writes, an input that answers, and one without end.
 use super::{End, RUN, Writer, has_ends, status_on};
+use crate::passing::passes;
 use std::alloc::Global;
 use std::cell::Cell;
 use std::io::{self, Read, Write};
@@ -100,8 +101,14 @@ fn answer(alloc: Global) -> (u8, usize) {
     }
 }
 
+/// Whether a partner hears as many bytes as the program takes.
+fn is_heard(alloc: Global) -> bool {
+    let (status, heard) = answer(alloc);
+    status == 0 && heard == 1000
+}
+
 /// Each byte is put out before the next one is asked for, and no more are asked for than the program takes.
 #[test]
 fn converses_on_an_input_without_end(rt: HostRuntime) {
-    assert!(rt; answer(rt.alloc()) == (0, 1000));
+    passes(&rt, "the talk", is_heard(rt.alloc()));
 }

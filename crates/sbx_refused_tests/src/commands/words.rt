@@ -1,6 +1,8 @@
-//! Command lines and what they ask for.
+//! Command lines and what they ask for, by tables that are one text each; also of what is read alone: numbers, and bytes up to a bound.
 use super::sources::ASM;
-use super::{LIST, RUN, VERIFY};
+use super::{LIST, RUN, Reader, TRACE, VERIFY};
+use crate::passing::passes;
+use sbx_command::{ReadFault, decimal, read_whole, turns, window_count};
 use sbx_words::{Job, Usage, Windows, read_words};
 use std::alloc::Global;
 use std::process::Abort;
@@ -13,12 +15,19 @@ fn is_wanted(found: &Job<'_>, job: Option<&Job<'_>>) -> bool {
     }
 }
 
+/// Whether it is told, by a text, that words ask for nothing, where they do; none where a growth was refused.
+fn is_none_told(usage: &Usage, asks_nothing: bool) -> Option<bool> {
+    match usage {
+        Usage::Text(text) => Some(asks_nothing && !text.is_empty()),
+        Usage::Memory(_) | Usage::NoRoom(_) => None,
+    }
+}
+
 /// Whether words are read as the job, or as words that ask for nothing; none where a growth was refused.
 fn answer_to(alloc: Global, words: &[&str], job: Option<&Job<'_>>) -> Option<bool> {
     match read_words(alloc, words) {
         Ok(found) => Some(is_wanted(&found, job)),
-        Err(Usage::Text(text)) => Some(job.is_none() && !text.is_empty()),
-        Err(Usage::Memory(_) | Usage::NoRoom(_)) => None,
+        Err(usage) => is_none_told(&usage, job.is_none()),
     }
 }
 
@@ -143,12 +152,13 @@ trace --windows 3 --limit 8 a.img = none
 ";
 
 /// The job of a name.
-fn job_named(name: &str) -> Option<Job<'static>> {
+pub(super) fn job_named(name: &str) -> Option<Job<'static>> {
     match name {
         "asm" => Some(ASM),
         "run" => Some(RUN),
         "verify" => Some(VERIFY),
         "list" => Some(LIST),
+        "trace" => Some(TRACE),
         _ => None,
     }
 }
@@ -156,47 +166,136 @@ fn job_named(name: &str) -> Option<Job<'static>> {
 /// A count of windows and a limit.
 fn numbers_in(text: &str) -> Option<(u32, u64)> {
     let (count, limit) = text.split_once(' ')?;
-    Some((count.parse().ok()?, limit.parse().ok()?))
+    match (count.parse(), limit.parse()) {
+        (Ok(count), Ok(limit)) => Some((count, limit)),
+        _ => None,
+    }
 }
 
-/// What the rows of a table tell of their lines.
-#[derive(Clone, Copy)]
-enum Told {
-    Job,
-    Count,
-    Numbers,
+/// What is read of a reader that fails at a call. Where a growth was refused, it is read once more.
+fn read(alloc: Global, bytes: &[u8], most: usize, fails: usize) -> Result<Vec<u8>, ReadFault> {
+    match read_whole(alloc, &mut Reader::new(bytes, fails), most) {
+        Err(ReadFault::Memory(_)) => read_whole(alloc, &mut Reader::new(bytes, fails), most),
+        first => first,
+    }
 }
 
-/// Whether a row's line is read as the row tells.
-fn is_row_read(alloc: Global, told: Told, row: &str) -> bool {
-    let Some((line, wanted)) = row.split_once(" = ") else {
+/// What is told of the bytes that were read: whether they are all.
+fn name_of(is_all: bool) -> &'static str {
+    if is_all { "all" } else { "others" }
+}
+
+/// What a fault of a reading is called.
+fn fault_name(fault: ReadFault) -> &'static str {
+    match fault {
+        ReadFault::TooLong => "too long",
+        ReadFault::Reader => "the reader",
+        ReadFault::Memory(_) => "memory",
+    }
+}
+
+/// What reading bytes, within a bound and up to the call that fails, gives.
+fn reading(alloc: Global, bytes: &[u8], most: usize, fails: usize) -> &'static str {
+    match read(alloc, bytes, most, fails) {
+        Ok(found) => name_of(found.as_slice() == bytes),
+        Err(fault) => fault_name(fault),
+    }
+}
+
+/// Whether the bytes of a row, within its bound and up to the call that fails, are read as wanted.
+fn are_bytes_read(alloc: Global, row: &str, wanted: &str) -> bool {
+    let Some((bytes, numbers)) = row.split_once(' ') else {
         return false;
     };
-    match told {
-        Told::Job => is_read(alloc, line, job_named(wanted).as_ref()),
-        Told::Count => is_run_read(alloc, line, wanted.parse().ok()),
-        Told::Numbers => is_trace_read(alloc, line, numbers_in(wanted)),
+    match numbers_in(numbers) {
+        Some((most, fails)) => {
+            reading(alloc, bytes.as_bytes(), most as usize, fails as usize) == wanted
+        }
+        None => false,
+    }
+}
+
+/// The text of an option, where it isn't left out.
+fn option_in(text: &str) -> Option<&str> {
+    match text {
+        "left out" => None,
+        _ => Some(text),
+    }
+}
+
+/// What stands before the `=` of a table's rows.
+#[derive(Clone, Copy)]
+pub(super) enum Given {
+    /// The words of any job; then its name.
+    Job,
+    /// The words of a run; then its count of windows.
+    Run,
+    /// The words of a trace; then its count of windows and its limit.
+    Trace,
+    /// The text of a number up to 9; then the number.
+    Decimal,
+    /// The text of a limit of turns; then the limit.
+    Turns,
+    /// The text of a count of windows; then the count.
+    Windows,
+    /// Bytes, the bound and the call that fails; then `all`, where all bytes are read, or why none are.
+    Bytes,
+}
+
+/// The count of windows that a text gives.
+fn count_in(text: Option<&str>) -> Option<u64> {
+    match window_count(text) {
+        Some(windows) => Some(u64::from(windows.count())),
+        None => None,
+    }
+}
+
+/// The number that a text gives.
+fn number_in(given: Given, text: &str) -> Option<u64> {
+    match given {
+        Given::Decimal => decimal(text, 9),
+        Given::Turns => turns(option_in(text)),
+        _ => count_in(option_in(text)),
+    }
+}
+
+/// Whether a text, which the row gives so, is read as wanted.
+fn is_given_read(alloc: Global, given: Given, text: &str, wanted: &str) -> bool {
+    match given {
+        Given::Job => is_read(alloc, text, job_named(wanted).as_ref()),
+        Given::Run => is_run_read(alloc, text, wanted.parse().ok()),
+        Given::Trace => is_trace_read(alloc, text, numbers_in(wanted)),
+        Given::Bytes => are_bytes_read(alloc, text, wanted),
+        _ => number_in(given, text) == wanted.parse().ok(),
+    }
+}
+
+/// Whether a row is read as it tells.
+fn is_row_read(alloc: Global, given: Given, row: &str) -> bool {
+    match row.split_once(" = ") {
+        Some((text, wanted)) => is_given_read(alloc, given, text, wanted),
+        None => false,
     }
 }
 
 /// Each row of a table, a line each, is read so.
-fn are_read<R: Abort>(rt: &R, alloc: Global, told: Told, rows: &str) {
+pub(super) fn are_read<R: Abort>(rt: &R, alloc: Global, given: Given, rows: &str) {
     for row in rows.lines() {
-        assert!(rt; is_row_read(alloc, told, row), "at {row}");
+        passes(rt, row, is_row_read(alloc, given, row));
     }
 }
 
 #[test]
 fn reads_the_words(rt: HostRuntime) {
-    are_read(&rt, rt.alloc(), Told::Job, LINES);
+    are_read(&rt, rt.alloc(), Given::Job, LINES);
 }
 
 #[test]
 fn reads_a_count_of_windows(rt: HostRuntime) {
-    are_read(&rt, rt.alloc(), Told::Count, RUNS);
+    are_read(&rt, rt.alloc(), Given::Run, RUNS);
 }
 
 #[test]
 fn reads_a_limit(rt: HostRuntime) {
-    are_read(&rt, rt.alloc(), Told::Numbers, TRACES);
+    are_read(&rt, rt.alloc(), Given::Trace, TRACES);
 }
