@@ -12,51 +12,59 @@ use Rattle.sbx_tell.specs.Reports.{run_text}
 use Rattle.sbx_tell.specs.Runs.{IsRun}
 use Rattle.sbx_raw.specs.Fronts.{Wrote}
 use Rattle.sbx_tell.specs.Watched.{IsWatched}
-use Rattle.inspect.specs.Told.{Explained, IsVerdict, Ran, Shown, Traced}
+use Rattle.inspect.specs.Told.{Explained, IsVerdict, Ran, Shown, TellsRun, Traced}
 
-pub shown_on : (file old new : Option (List ℕ)) (parts : Parts) (text : List ℕ) → IfSome file (λ bytes. reading bytes ≡ Ok parts)
-    → text ≡ image_text parts → Appends old new text → Shown file old new
-shown_on None old new parts text read same grown = tt
-shown_on (Some bytes) old new parts text read same grown = (parts, read, subst (λ (t : List ℕ). Appends old new t) same grown)
+-- where the text was written
+pub shown_if : (file old new : Option (List ℕ)) (parts : Parts) {E : Type 0} (r : Result (Unit {0}) E) → IfSome file (λ bytes. reading bytes ≡ Ok parts)
+    → OnOk r (Appends old new (image_text parts)) → OnOk r (Shown file old new)
+shown_if None old new parts (Ok u) read grown = tt
+shown_if (Some bytes) old new parts (Ok u) read grown = (parts, read, grown)
+shown_if file old new parts (Err e) read grown = grown
 
 -- what was written is the report
 pub told_on : (old new : Option (List ℕ)) (start text shown report : List ℕ) → start ≡ [] → text ≡ start ++ report → shown ≡ text → Appends old new shown → Appends old new report
 told_on old new start text shown report empty told same grown =
     subst (λ (t : List ℕ). Appends old new t) (same ∙ told ∙ ap (λ (s : List ℕ). s ++ report) empty) grown
 
--- the report of a run of the file's image
-reported : (windows limit : ℕ) (parts : Parts) (input all : List ℕ) (run : Run) → input ≡ all → IsRun windows parts input limit run → IsRun windows parts all limit run
-reported windows limit parts input all run same is = subst (λ (i : List ℕ). IsRun windows parts i limit run) same is
-
-pub ran_on : (count windows limit : ℕ) (file input old new : Option (List ℕ)) (parts : Parts) (items slice : List ℕ) (run : Run)
-    → IfSome file (λ bytes. reading bytes ≡ Ok parts) → IfSome input (λ all. items ≡ all) → slice ≡ items → count ≡ windows
-    → IsRun count parts slice limit run → Appends old new (run_text count limit run) → Ran windows limit file input old new
-ran_on count windows limit None input old new parts items slice run read whole same many is grown = tt
-ran_on count windows limit (Some bytes) None old new parts items slice run read whole same many is grown = tt
-ran_on count windows limit (Some bytes) (Some all) old new parts items slice run read whole same many is grown = (
-  parts,
+-- the report of a run on a count of windows is that on as many windows
+pub told_run : (count windows limit : ℕ) (parts : Parts) (input : List ℕ) (old new : Option (List ℕ)) (run : Run) {E : Type 0} (r : Result (Unit {0}) E)
+    → count ≡ windows → IsRun count parts input limit run → OnOk r (Appends old new (run_text count limit run)) → OnOk r (TellsRun windows limit parts input old new)
+told_run count windows limit parts input old new run (Ok u) many is grown = (
   run,
-  read,
-  subst (λ (n : ℕ). IsRun n parts all limit run) many (reported count limit parts slice all run (same ∙ whole) is),
+  subst (λ (n : ℕ). IsRun n parts input limit run) many is,
   subst (λ (n : ℕ). Appends old new (run_text n limit run)) many grown,
 )
+told_run count windows limit parts input old new run (Err e) many is grown = grown
 
--- where the report was written
-pub ran_if : (count windows limit : ℕ) (file input old new : Option (List ℕ)) (parts : Parts) (items slice : List ℕ) (run : Run) {E : Type 0} (r : Result (Unit {0}) E)
-    → IfSome file (λ bytes. reading bytes ≡ Ok parts) → IfSome input (λ all. items ≡ all) → slice ≡ items → count ≡ windows
-    → IsRun count parts slice limit run → OnOk r (Appends old new (run_text count limit run)) → OnOk r (Ran windows limit file input old new)
-ran_if count windows limit file input old new parts items slice run (Ok u) read whole same many is grown =
-    ran_on count windows limit file input old new parts items slice run read whole same many is grown
-ran_if count windows limit file input old new parts items slice run (Err e) read whole same many is grown = grown
+-- where it was told of the bytes read, it is told of all of the input
+pub on_all : (P : List ℕ → Type 0) (input : Option (List ℕ)) (items slice : List ℕ) {E : Type 0} (r : Result (Unit {0}) E) → IfSome input (λ all. items ≡ all)
+    → slice ≡ items → OnOk r (P slice) → OnOk r (IfSome input P)
+on_all P None items slice (Ok u) whole same told = tt
+on_all P (Some all) items slice (Ok u) whole same told = subst P (same ∙ whole) told
+on_all P input items slice (Err e) whole same told = told
 
-pub traced_on : (count windows limit : ℕ) (file input old new : Option (List ℕ)) (parts : Parts) (items slice : List ℕ)
-    → IfSome file (λ bytes. reading bytes ≡ Ok parts) → IfSome input (λ all. items ≡ all) → slice ≡ items → count ≡ windows
-    → Wrote old new (IsWatched count parts slice limit) → Traced windows limit file input old new
-traced_on count windows limit None input old new parts items slice read whole same many wrote = tt
-traced_on count windows limit (Some bytes) None old new parts items slice read whole same many wrote = tt
-traced_on count windows limit (Some bytes) (Some all) old new parts items slice read whole same many (text, watched, grown) =
-    let there : IsWatched windows parts slice limit text = subst (λ (n : ℕ). IsWatched n parts slice limit text) many watched in
-    (parts, read, (text, subst (λ (i : List ℕ). IsWatched windows parts i limit text) (same ∙ whole) there, grown))
+-- where the report was written, of the file's image
+pub ran_if : (windows limit : ℕ) (file input old new : Option (List ℕ)) (parts : Parts) {E : Type 0} (r : Result (Unit {0}) E)
+    → IfSome file (λ bytes. reading bytes ≡ Ok parts) → OnOk r (IfSome input (λ all. TellsRun windows limit parts all old new))
+    → OnOk r (Ran windows limit file input old new)
+ran_if windows limit None input old new parts (Ok u) read told = tt
+ran_if windows limit (Some bytes) None old new parts (Ok u) read told = tt
+ran_if windows limit (Some bytes) (Some all) old new parts (Ok u) read (run, is, grown) = (parts, run, read, is, grown)
+ran_if windows limit file input old new parts (Err e) read told = told
+
+-- where each turn was told, of the file's image
+pub traced_if : (windows limit : ℕ) (file input old new : Option (List ℕ)) (parts : Parts) {E : Type 0} (r : Result (Unit {0}) E)
+    → IfSome file (λ bytes. reading bytes ≡ Ok parts) → OnOk r (IfSome input (λ all. Wrote old new (IsWatched windows parts all limit)))
+    → OnOk r (Traced windows limit file input old new)
+traced_if windows limit None input old new parts (Ok u) read told = tt
+traced_if windows limit (Some bytes) None old new parts (Ok u) read told = tt
+traced_if windows limit (Some bytes) (Some all) old new parts (Ok u) read told = (parts, read, told)
+traced_if windows limit file input old new parts (Err e) read told = told
+
+-- the turns told on a count of windows are those on as many windows
+pub wrote_on : (count windows limit : ℕ) (parts : Parts) (input : List ℕ) (old new : Option (List ℕ)) → count ≡ windows
+    → Wrote old new (IsWatched count parts input limit) → Wrote old new (IsWatched windows parts input limit)
+wrote_on count windows limit parts input old new many wrote = subst (λ (n : ℕ). Wrote old new (IsWatched n parts input limit)) many wrote
 
 verdict_of : (parts : Parts) (found : Option Refusal) → (found ≡ None → Checked parts) → IfSome found (IsFirst parts) → IsVerdict parts found
 verdict_of parts None accepted refused = accepted refl

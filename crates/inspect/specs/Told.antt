@@ -17,6 +17,10 @@ use Rattle.sbx_tell.specs.Watched.{IsWatched}
 abbrev pub Shown : Option (List ℕ) → Option (List ℕ) → Option (List ℕ) → Type 0
 Shown file old new = IfSome file (λ bytes. (parts : Parts) × (reading bytes ≡ Ok parts) × Appends old new (image_text parts))
 
+-- The output grew by the report of a run of an image on an input.
+abbrev pub TellsRun : ℕ → ℕ → Parts → List ℕ → Option (List ℕ) → Option (List ℕ) → Type 0
+TellsRun windows limit parts input old new = (run : Run) × IsRun windows parts input limit run × Appends old new (run_text windows limit run)
+
 -- The output grew by the report of a run of the image that the bytes spell, on all of the input.
 abbrev pub Ran : ℕ → ℕ → Option (List ℕ) → Option (List ℕ) → Option (List ℕ) → Option (List ℕ) → Type 0
 Ran windows limit file input old new = IfSome file (λ bytes. IfSome input (λ all. (parts : Parts) × (run : Run)

@@ -1,14 +1,18 @@
 //! What is told of the image of a file.
 ghost use Rattle.std.specs.Prelude.{◌≡◌, ◌⊎◌, IfErr, IfOk, IfSome, OnOk};
 ghost use Rattle.std.specs.Io.KnownBytes.{Appends};
-ghost use Rattle.sbx_command.specs.Stops.{IsTrueOfImage};
+ghost use Rattle.sbx_command.specs.Stops.{IsOfTrace, IsTrueOfImage};
+ghost use Rattle.sbx_declare.specs.Images.{image_text};
+ghost use Rattle.sbx_raw.specs.Fronts.{Wrote};
 ghost use Rattle.sbx_tell.specs.Reports.{run_text};
-ghost use Rattle.inspect.specs.Told.{Explained, Ran, Shown, Traced};
+ghost use Rattle.sbx_tell.specs.Watched.{IsWatched};
+ghost use Rattle.inspect.specs.Told.{Explained, Ran, Shown, TellsRun, Traced};
 ghost use Rattle.want.specs.Wants.{refused};
 
 use sbx_command::{ReadFault, Stop, Windows, image_in, read_whole};
 use sbx_declare::push_image;
 use sbx_explain::push_why;
+use sbx_image::Image;
 use sbx_put::put_through;
 use sbx_rules::Refusal;
 use sbx_tell::{Progress, Run, push_run, run_windows, watch_windows};
@@ -42,18 +46,26 @@ fn put_out<O: Write>(out: &mut O, text: &[u8]) -> Result<(), Stop>
     }
 }
 
+/// Tells what an image declares.
+#[tactic(auto, using(crate::proofs::Telling::told_on))]
+fn show<O: Write>(alloc: Global, image: &Image, out: &mut O) -> Result<(), Stop>
+    ensures shown { OnOk result (Appends (O.contents out.old) (O.contents out.new) (image_text image.now)) }
+    ensures stop { IfErr result (λ stop. (stop ≡ Stop.Memory refused) ⊎ (stop ≡ Stop.Output)) }
+{
+    let mut text = String::new(alloc);
+    match push_image(&mut text, image) {
+        Ok(()) => put_out(out, text.as_bytes()),
+        Err(error) => Err(Stop::Memory(Want::from(error))),
+    }
+}
+
 /// Tells what the image of a file declares.
-#[tactic(auto, using(crate::proofs::Telling::shown_on))]
 pub fn show_image<F: Read, O: Write>(alloc: Global, file: &mut F, out: &mut O) -> Result<(), Stop>
     ensures shown { OnOk result (Shown (F.remaining file.old) (O.contents out.old) (O.contents out.new)) }
     ensures stop { IfErr result (λ stop. IfSome (F.remaining file.old) (IsTrueOfImage stop)) }
 {
     let image = image_in(alloc, file)?;
-    let mut text = String::new(alloc);
-    match push_image(&mut text, &image) {
-        Ok(()) => put_out(out, text.as_bytes()),
-        Err(error) => Err(Stop::Memory(Want::from(error))),
-    }
+    show(alloc, &image, out)
 }
 
 /// Tells a run.
@@ -75,6 +87,49 @@ fn tell_run<O: Write>(
     }
 }
 
+/// Runs an image on an input, on so many windows, up to so many turns, and tells its run.
+fn run_on<O: Write, P: Progress>(
+    alloc: Global,
+    windows: Windows,
+    limit: u64,
+    image: &Image,
+    input: &[u8],
+    out: &mut O,
+    progress: &mut P,
+) -> Result<(), Stop>
+    ensures told { OnOk result (TellsRun windows limit image.now input.now (O.contents out.old) (O.contents out.new)) }
+    ensures stop { IfErr result (λ stop. (stop ≡ Stop.Memory refused) ⊎ (stop ≡ Stop.Output)) }
+{
+    let count = windows.count();
+    let run = run_windows(alloc, count, image, input, limit, progress)?;
+    tell_run(alloc, count, limit, &run, out)
+}
+
+/// Runs an image on the input, which is read whole first, on so many windows, up to so many turns, and tells its run.
+fn run_read<I: Read, O: Write, P: Progress>(
+    alloc: Global,
+    windows: Windows,
+    limit: u64,
+    image: &Image,
+    input: &mut I,
+    out: &mut O,
+    progress: &mut P,
+) -> Result<(), Stop>
+    ensures told { OnOk result (IfSome (I.remaining input.old) (λ all. TellsRun windows limit image.now all (O.contents out.old) (O.contents out.new))) }
+    ensures stop { IfErr result (λ stop. (stop ≡ Stop.Memory refused) ⊎ (stop ≡ Stop.Input) ⊎ (stop ≡ Stop.Output)) }
+{
+    let bytes = input_of(alloc, input)?;
+    run_on(
+        alloc,
+        windows,
+        limit,
+        image,
+        bytes.as_slice(),
+        out,
+        progress,
+    )
+}
+
 /// Runs the image of a file on the input, which is read whole first, on so many windows, up to so many turns, and tells its run.
 pub fn run_image<F: Read, I: Read, O: Write, P: Progress>(
     alloc: Global,
@@ -89,10 +144,51 @@ pub fn run_image<F: Read, I: Read, O: Write, P: Progress>(
     ensures stop { IfErr result (λ stop. IfSome (F.remaining file.old) (IsTrueOfImage stop)) }
 {
     let image = image_in(alloc, file)?;
+    run_read(alloc, windows, limit, &image, input, out, progress)
+}
+
+/// Runs an image on an input, on so many windows, up to so many turns, and tells each turn.
+fn trace_on<O: Write, P: Progress>(
+    alloc: Global,
+    windows: Windows,
+    limit: u64,
+    image: &Image,
+    input: &[u8],
+    out: &mut O,
+    progress: &mut P,
+) -> Result<(), Stop>
+    ensures told { OnOk result (Wrote (O.contents out.old) (O.contents out.new) (IsWatched windows image.now input.now limit)) }
+    ensures stop { IfErr result IsOfTrace }
+{
+    match watch_windows(alloc, windows.count(), image, input, limit, out, progress) {
+        Ok(()) => Ok(()),
+        Err(fault) => Err(Stop::from(fault)),
+    }
+}
+
+/// Runs an image on the input, which is read whole first, on so many windows, up to so many turns, and tells each turn.
+fn trace_read<I: Read, O: Write, P: Progress>(
+    alloc: Global,
+    windows: Windows,
+    limit: u64,
+    image: &Image,
+    input: &mut I,
+    out: &mut O,
+    progress: &mut P,
+) -> Result<(), Stop>
+    ensures told { OnOk result (IfSome (I.remaining input.old) (λ all. Wrote (O.contents out.old) (O.contents out.new) (IsWatched windows image.now all limit))) }
+    ensures stop { IfErr result IsOfTrace }
+{
     let bytes = input_of(alloc, input)?;
-    let count = windows.count();
-    let run = run_windows(alloc, count, &image, bytes.as_slice(), limit, progress)?;
-    tell_run(alloc, count, limit, &run, out)
+    trace_on(
+        alloc,
+        windows,
+        limit,
+        image,
+        bytes.as_slice(),
+        out,
+        progress,
+    )
 }
 
 /// Runs the image of a file on the input, which is read whole first, on so many windows, up to so many turns, and tells each turn.
@@ -109,17 +205,7 @@ pub fn trace_image<F: Read, I: Read, O: Write, P: Progress>(
     ensures stop { IfErr result (λ stop. IfSome (F.remaining file.old) (IsTrueOfImage stop)) }
 {
     let image = image_in(alloc, file)?;
-    let bytes = input_of(alloc, input)?;
-    watch_windows(
-        alloc,
-        windows.count(),
-        &image,
-        bytes.as_slice(),
-        limit,
-        out,
-        progress,
-    )?;
-    Ok(())
+    trace_read(alloc, windows, limit, &image, input, out, progress)
 }
 
 /// Tells why the image of a file is refused, and gives the refusal; none of an image that breaks no rule, of which it says so.

@@ -108,6 +108,32 @@ fn options_of<S: AsStr>(words: &[S]) -> Option<Options<'_>> {
     }
 }
 
+/// The job of a command that has numbers.
+fn numbered<'a>(
+    command: &str,
+    image: &'a str,
+    windows: Option<&'a str>,
+    limit: Option<&'a str>,
+) -> Option<Job<'a>>
+    ensures { IfSome result IsInRange }
+{
+    let windows = window_count(windows)?;
+    let limit = turns(limit)?;
+    match command {
+        "run" => Some(Job::Run {
+            image,
+            windows,
+            limit,
+        }),
+        "trace" => Some(Job::Trace {
+            image,
+            windows,
+            limit,
+        }),
+        _ => None,
+    }
+}
+
 /// The job of a command on an image.
 fn job_of<'a>(command: &str, image: &'a str, options: &Options<'a>) -> Option<Job<'a>>
     ensures { IfSome result IsInRange }
@@ -115,17 +141,7 @@ fn job_of<'a>(command: &str, image: &'a str, options: &Options<'a>) -> Option<Jo
     match (command, options.windows, options.limit) {
         ("image", None, None) => Some(Job::Image { image }),
         ("why", None, None) => Some(Job::Why { image }),
-        ("run", windows, limit) => Some(Job::Run {
-            image,
-            windows: window_count(windows)?,
-            limit: turns(limit)?,
-        }),
-        ("trace", windows, limit) => Some(Job::Trace {
-            image,
-            windows: window_count(windows)?,
-            limit: turns(limit)?,
-        }),
-        _ => None,
+        (_, windows, limit) => numbered(command, image, windows, limit),
     }
 }
 

@@ -48,6 +48,13 @@ fn accepted_of(verdict: Verdict) -> Option<Accepted> {
     }
 }
 
+/// Whether the verdict on the image whose bytes a field has is the one that a text spells, and the image, where it is accepted.
+fn judged(alloc: Global, field: &str, wanted: &str) -> Result<(bool, Option<Accepted>), LineFault> {
+    let verdict = verdict_in(alloc, field)?;
+    let agrees = is_spelled(alloc, &verdict, wanted)?;
+    Ok((agrees, accepted_of(verdict)))
+}
+
 /// Whether the runs of an image on a board and on the flat machine are a line's.
 fn runs_so(alloc: Global, accepted: &Accepted, run: &Run) -> Result<bool, LineFault> {
     Ok(runs_on_board(alloc, accepted, run)? && runs_flat(alloc, accepted.image(), run)?)
@@ -72,15 +79,19 @@ impl Comparison {
         }
     }
 
+    /// Keeps an image, or none, for the runs that follow.
+    fn keep(&mut self, accepted: Option<Accepted>) {
+        self.accepted = accepted;
+    }
+
     /// Whether the verdict on an image is the one that the line spells. The image is kept for the runs that follow.
     fn image(&mut self, alloc: Global, text: &str) -> Result<bool, LineFault> {
-        self.accepted = None;
+        self.keep(None);
         let Some((field, wanted)) = text.split_once(' ') else {
             return Err(LineFault::NotRead);
         };
-        let verdict = verdict_in(alloc, field)?;
-        let agrees = is_spelled(alloc, &verdict, wanted)?;
-        self.accepted = accepted_of(verdict);
+        let (agrees, accepted) = judged(alloc, field, wanted)?;
+        self.keep(accepted);
         Ok(agrees)
     }
 

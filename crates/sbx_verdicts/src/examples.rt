@@ -6,7 +6,7 @@ use std::io::{Read, Write};
 use std::{fs, io};
 
 /// Programs, whether there is an input for each, and whether its image is kept. The last six are those of the lessons.
-const PROGRAMS: [(&str, bool, bool); 17] = [
+static PROGRAMS: [(&str, bool, bool); 17] = [
     ("hello", false, true),
     ("echo", true, true),
     ("countdown", false, true),
@@ -27,7 +27,7 @@ const PROGRAMS: [(&str, bool, bool); 17] = [
 ];
 
 /// The sources that are refused, by the rule of their name.
-const REFUSED: [&str; 18] = [
+static REFUSED: [&str; 18] = [
     "V2", "V3", "V4", "V5", "V6", "V7", "V8", "V9", "V10", "V11", "V12", "V13", "V14", "V15",
     "V16", "V17", "V18", "V20",
 ];
@@ -81,19 +81,23 @@ fn tell(rt: &HostRuntime, text: &[u8]) -> io::Result<()> {
     }
 }
 
+/// Prints what a command told, and its status.
+fn tell_end(rt: &HostRuntime, out: &[u8], done: &Done) -> io::Result<()> {
+    tell(rt, out)?;
+    tell(rt, done.err.as_slice())?;
+    println!(rt; "status {}", done.status)
+}
+
 /// Prints an assembly but for its image.
 fn tell_assembly(rt: &HostRuntime, name: &str, done: &Done) -> io::Result<()> {
     println!(rt; "$ sandbox asm {name}.s {name}.img")?;
-    tell(rt, done.err.as_slice())?;
-    println!(rt; "status {}", done.status)
+    tell_end(rt, b"", done)
 }
 
 /// Prints a command on an image, and what it gave.
 fn tell_done(rt: &HostRuntime, word: &str, name: &str, done: &Done) -> io::Result<()> {
     println!(rt; "$ sandbox {word} {name}.img")?;
-    tell(rt, done.out.as_slice())?;
-    tell(rt, done.err.as_slice())?;
-    println!(rt; "status {}", done.status)
+    tell_end(rt, done.out.as_slice(), done)
 }
 
 /// The bytes of the file of a program that ends so.
@@ -102,14 +106,9 @@ fn file_of(rt: &HostRuntime, name: &str, ending: &str) -> io::Result<Vec<u8>> {
     fs::read(rt, path.as_str())
 }
 
-/// Verifies an image.
-fn tell_verdict(rt: &HostRuntime, name: &str, image: &[u8]) -> io::Result<()> {
-    tell_done(rt, "verify", name, &performed(rt, &VERIFY, image, b""))
-}
-
 /// Verifies an image, and runs it on an input.
 fn tell_image(rt: &HostRuntime, name: &str, image: &[u8], input: &[u8]) -> io::Result<()> {
-    tell_verdict(rt, name, image)?;
+    tell_done(rt, "verify", name, &performed(rt, &VERIFY, image, b""))?;
     tell_done(rt, "run", name, &performed(rt, &RUN, image, input))
 }
 
@@ -166,14 +165,25 @@ fn tell_first_refused(rt: &HostRuntime) -> io::Result<()> {
     tell_image(rt, "V1", image.as_slice(), b"")
 }
 
-/// Does with each program what the commands do.
-pub fn tell_programs(rt: &HostRuntime) -> io::Result<()> {
-    for (name, there, is_kept) in PROGRAMS {
-        tell_program(rt, name, there, is_kept)?;
+/// Does with each of these programs what the commands do.
+fn tell_all(rt: &HostRuntime, programs: &[(&str, bool, bool)]) -> io::Result<()> {
+    for (name, there, is_kept) in programs {
+        tell_program(rt, name, *there, *is_kept)?;
     }
-    tell_first_refused(rt)?;
-    for name in REFUSED {
+    Ok(())
+}
+
+/// Does the same with sources that are refused.
+fn tell_refused(rt: &HostRuntime, names: &[&str]) -> io::Result<()> {
+    for name in names {
         tell_program(rt, name, false, false)?;
     }
     Ok(())
+}
+
+/// Does with each program what the commands do.
+pub fn tell_programs(rt: &HostRuntime) -> io::Result<()> {
+    tell_all(rt, &PROGRAMS)?;
+    tell_first_refused(rt)?;
+    tell_refused(rt, &REFUSED)
 }

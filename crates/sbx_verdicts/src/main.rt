@@ -27,7 +27,7 @@ mod verdicts;
 use comparison::Comparison;
 use examples::tell_programs;
 use faults::LineFault;
-use std::io::{self, BufRead, BufReader};
+use std::io::{self, BufRead};
 
 /// What is told of a line that doesn't agree.
 fn difference(answer: Result<bool, LineFault>) -> Option<&'static str> {
@@ -50,12 +50,22 @@ fn compare(rt: &HostRuntime, comparison: &mut Comparison, line: &str) -> io::Res
     }
 }
 
-/// Compares the lines of standard input, and tells how many agree.
-fn compare_lines(rt: &HostRuntime) -> io::Result<()> {
-    let mut comparison = Comparison::new();
-    for line in BufReader::new(rt.alloc(), rt.reader())?.lines(rt.alloc()) {
-        compare(rt, &mut comparison, line?.as_str())?;
+/// Compares the lines of a reader. Its type stays open here, so that what stands in it takes no part in the proof.
+fn compare_lines<R: BufRead + Drop>(
+    rt: &HostRuntime,
+    comparison: &mut Comparison,
+    reader: R,
+) -> io::Result<()> {
+    for line in reader.lines(rt.alloc()) {
+        compare(rt, comparison, line?.as_str())?;
     }
+    Ok(())
+}
+
+/// Compares the lines of standard input, and tells how many agree.
+fn compare_input(rt: &HostRuntime) -> io::Result<()> {
+    let mut comparison = Comparison::new();
+    compare_lines(rt, &mut comparison, rt.reader())?;
     println!(rt;
         "{} images and {} runs agree",
         comparison.images, comparison.runs
@@ -63,6 +73,6 @@ fn compare_lines(rt: &HostRuntime) -> io::Result<()> {
 }
 
 fn main(rt: HostRuntime) -> io::Result<()> {
-    compare_lines(&rt)?;
+    compare_input(&rt)?;
     tell_programs(&rt)
 }

@@ -25,21 +25,25 @@ pub struct Run {
 
 /// The counts of three fields.
 fn counts_in(turns: &str, overflows: &str, underflows: &str) -> Result<Counts, LineFault> {
-    Ok(Counts {
-        turns: count(turns)?,
-        overflows: count(overflows)?,
-        underflows: count(underflows)?,
-    })
+    match (count(turns), count(overflows), count(underflows)) {
+        (Ok(turns), Ok(overflows), Ok(underflows)) => Ok(Counts {
+            turns,
+            overflows,
+            underflows,
+        }),
+        _ => Err(LineFault::NotRead),
+    }
 }
 
-/// The run of these fields.
-fn run_of(alloc: Global, fields: &[&str]) -> Result<Run, LineFault> {
-    let [windows, input, status, output, turns, overflows, underflows] = fields else {
-        return Err(LineFault::NotRead);
-    };
-    let windows = word(windows, 10)?;
-    let status = word(status, 16)?;
-    let counts = counts_in(turns, overflows, underflows)?;
+/// The run of its numbers, and of the fields of its bytes.
+fn run_with(
+    alloc: Global,
+    windows: u32,
+    input: &str,
+    status: u32,
+    output: &str,
+    counts: Counts,
+) -> Result<Run, LineFault> {
     let input = bytes(alloc, input)?;
     let output = bytes(alloc, output)?;
     Ok(Run {
@@ -49,6 +53,18 @@ fn run_of(alloc: Global, fields: &[&str]) -> Result<Run, LineFault> {
         output,
         counts,
     })
+}
+
+/// The run of these fields.
+fn run_of(alloc: Global, fields: &[&str]) -> Result<Run, LineFault> {
+    let [windows, input, status, output, turns, overflows, underflows] = fields else {
+        return Err(LineFault::NotRead);
+    };
+    let counts = counts_in(turns, overflows, underflows)?;
+    match (word(windows, 10), word(status, 16)) {
+        (Ok(windows), Ok(status)) => run_with(alloc, windows, input, status, output, counts),
+        _ => Err(LineFault::NotRead),
+    }
 }
 
 /// The run that stands in a text: `WINDOWS INPUT STATUS OUTPUT TURNS OVERFLOWS UNDERFLOWS`.

@@ -1,9 +1,11 @@
-use Rattle.std.proofs.Common.{◌≡◌}
-use Rattle.inspect.proofs.Telling.{traced_on}
+use Rattle.sbx_command.proofs.Traces.{stop_of_trace}
+use Rattle.inspect.proofs.Telling.{traced_if}
 use Rattle.inspect.proofs.commands.trace_image.Goals as goal
 
 pub returns-clause-traced : goal.returns-clause-traced
 returns-clause-traced g c =
-    traced_on c.count.result c.args.windows c.args.limit (g.F.Read.remaining c.args.file.now) (g.I.Read.remaining c.args.input.now)
-    (g.O.Write.contents c.args.out.now) (g.O.Write.contents c.watch_windows.new.out) c.in_ok-image.image c.in_ok-bytes.bytes.items c.as_slice.result.now
-    c.in_ok-image.ensures.image c.in_ok-bytes.ensures.whole c.as_slice.ensures.value c.count.ensures.value c.in_ok-watch_windows.ensures
+    traced_if c.args.windows c.args.limit (g.F.Read.remaining c.args.file.now) (g.I.Read.remaining c.args.input.now) (g.O.Write.contents c.args.out.now)
+    (g.O.Write.contents c.trace_read.new.out) c.in_ok-image.image c.trace_read.result c.in_ok-image.ensures.image c.trace_read.ensures.told
+
+pub returns-clause-stop : goal.returns-clause-stop
+returns-clause-stop g c = stop_of_trace (g.F.Read.remaining c.args.file.now) c.trace_read.result c.trace_read.ensures.stop
