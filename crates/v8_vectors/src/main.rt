@@ -16,7 +16,7 @@ mod words;
 
 use results::{Case, Operation};
 use std::alloc::{AllocError, Global};
-use std::io;
+use std::io::{self, BufRead};
 use v8_alu::{AluOut, Division, Op, TaggedOp};
 use v8_word::{Icc, flag_at};
 use words::is_spelled_again;
@@ -100,11 +100,10 @@ fn codes_in(field: &str) -> Option<Icc> {
 
 /// What was left, by the last three fields of a line; none if they aren't read.
 fn left(value: &str, icc: &str, y: &str) -> Option<AluOut> {
-    Some(AluOut {
-        value: hexadecimal(value)?,
-        icc: codes_in(icc)?,
-        y: hexadecimal(y)?,
-    })
+    match (hexadecimal(value), codes_in(icc), hexadecimal(y)) {
+        (Some(value), Some(icc), Some(y)) => Some(AluOut { value, icc, y }),
+        _ => None,
+    }
 }
 
 /// The case of a line's eight fields; none if they aren't read.
@@ -112,14 +111,24 @@ fn case_of(fields: &[&str]) -> Option<Case> {
     let [name, a, b, icc, y, value, icc_after, y_after] = fields else {
         return None;
     };
-    Some(Case {
-        operation: operation(name)?,
-        a: hexadecimal(a)?,
-        b: hexadecimal(b)?,
-        icc: codes_in(icc)?,
-        y: hexadecimal(y)?,
-        there: left(value, icc_after, y_after)?,
-    })
+    let there = left(value, icc_after, y_after)?;
+    let operation = operation(name)?;
+    match (
+        hexadecimal(a),
+        hexadecimal(b),
+        codes_in(icc),
+        hexadecimal(y),
+    ) {
+        (Some(a), Some(b), Some(icc), Some(y)) => Some(Case {
+            operation,
+            a,
+            b,
+            icc,
+            y,
+            there,
+        }),
+        _ => None,
+    }
 }
 
 /// Whether each word is an instruction that is spelled so; none if one isn't read, or there is none.
@@ -148,24 +157,45 @@ fn pieces(alloc: Global, text: &str) -> Result<Vec<&str>, AllocError>
     Ok(found)
 }
 
+/// Whether the case of a line's fields holds; none if they aren't read.
+fn case_agrees(fields: &[&str]) -> Option<bool> {
+    Some(case_of(fields)?.holds())
+}
+
+/// Whether a line agrees; none if it isn't read.
 fn agrees(alloc: Global, line: &str) -> Result<Option<bool>, AllocError> {
     match line.split_once('\t') {
         Some((spelled, _)) => Ok(words_agree(&pieces(alloc, spelled)?)),
-        None => Ok(case_of(&pieces(alloc, line)?).map(|case| case.holds())),
+        None => Ok(case_agrees(&pieces(alloc, line)?)),
     }
 }
 
-fn main(rt: HostRuntime) -> io::Result<()> {
+/// Whether a line agrees. One that doesn't is printed.
+fn compare(rt: &HostRuntime, line: &str) -> io::Result<bool> {
+    let told = match agrees(rt.alloc(), line)? {
+        Some(true) => return Ok(true),
+        Some(false) => "differs",
+        None => "not read",
+    };
+    println!(rt; "{told}: {line}")?;
+    Ok(false)
+}
+
+/// Compares the lines of a reader, and gives how many agree, and how many there are. The reader's type stays open here, so that what
+/// stands in it takes no part in the proof.
+fn compare_lines<R: BufRead + Drop>(rt: &HostRuntime, reader: R) -> io::Result<(u64, u64)> {
     let mut agreed = 0u64;
     let mut lines = 0u64;
-    for line in rt.lines(rt.alloc()) {
-        let line = line?;
+    for line in reader.lines(rt.alloc()) {
         lines = lines.saturating_add(1);
-        match agrees(rt.alloc(), line.as_str())? {
-            Some(true) => agreed = agreed.saturating_add(1),
-            Some(false) => println!(rt; "differs: {line}")?,
-            None => println!(rt; "not read: {line}")?,
+        if compare(rt, line?.as_str())? {
+            agreed = agreed.saturating_add(1);
         }
     }
+    Ok((agreed, lines))
+}
+
+fn main(rt: HostRuntime) -> io::Result<()> {
+    let (agreed, lines) = compare_lines(&rt, rt.reader())?;
     println!(rt; "{agreed} of {lines} lines agree")
 }
