@@ -28,7 +28,7 @@ pub struct Sight {
 }
 
 /// Why nothing is known at an address.
-#[derive(Clone, Copy, Debug, PartialEq, Eq)]
+#[derive(Clone, Copy, PartialEq, Eq)]
 pub enum NotKnown {
     /// The image has no function of that number.
     NoFunction,

@@ -46,14 +46,14 @@ pub struct BudgetSides {
 }
 
 /// What stack room is asked for: there has to be at least what is needed. In bytes.
-#[derive(Clone, Copy, Debug, PartialEq, Eq)]
+#[derive(Clone, Copy)]
 pub struct RoomSides {
     pub room: u64,
     pub needed: u64,
 }
 
 /// What call depth is asked for: there has to be declared at least what is needed. In frames.
-#[derive(Clone, Copy, Debug, PartialEq, Eq)]
+#[derive(Clone, Copy)]
 pub struct DepthSides {
     pub depth: u32,
     pub needed: u32,
