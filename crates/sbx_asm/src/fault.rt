@@ -11,7 +11,7 @@ use v8_syntax::SyntaxFault;
 use want::Want;
 
 /// What is wrong at a line. Shown as `X1` to `X4`, `S1` to `S5`, or `A1` to `A5`, the last five in this order.
-#[derive(Clone, Copy, Debug, PartialEq, Eq)]
+#[derive(Clone, Copy)]
 pub enum Cause {
     /// The line has no tokens.
     Text(TextFault),
@@ -30,7 +30,7 @@ pub enum Cause {
 }
 
 /// A cause, and the line where it is told, from 1; 0 for want of memory.
-#[derive(Clone, Copy, Debug, PartialEq, Eq)]
+#[derive(Clone, Copy)]
 pub struct AsmFault {
     pub line: usize,
     pub cause: Cause,

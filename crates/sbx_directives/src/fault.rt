@@ -7,7 +7,7 @@ use std::alloc::{AllocError, AllocFailed};
 use want::Want;
 
 /// Why the values of a data directive have no bytes. An unknown symbol is told before a value that does not fit.
-#[derive(Clone, Copy, PartialEq, Eq, Debug)]
+#[derive(Clone, Copy, PartialEq, Eq)]
 pub enum DataFault {
     UnknownSymbol,
     /// The list is none of expressions, or a value does not fit the width.

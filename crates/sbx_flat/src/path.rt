@@ -19,7 +19,7 @@ pub struct Traffic {
 }
 
 /// Why a state is wrong.
-#[derive(Clone, Copy, PartialEq, Eq, Debug)]
+#[derive(Clone, Copy)]
 pub enum Wrong {
     /// PC is not in the code.
     OutsideCode,

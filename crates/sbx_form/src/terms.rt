@@ -7,7 +7,7 @@ ghost use Rattle.sbx_form.specs.Forms.{AreWithin, add_term, add_terms, keep};
 use arrayvec::ArrayVec;
 
 /// A multiple of the number that one location starts with.
-#[derive(Clone, Copy, Debug, PartialEq, Eq, Default)]
+#[derive(Clone, Copy, PartialEq, Eq, Default)]
 pub struct FormTerm {
     /// As in an image's cell.
     pub location: u16,

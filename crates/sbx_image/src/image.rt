@@ -8,7 +8,7 @@ use sbx_parts::{Function, ImageFault, Parts, Region, Services, byte_count, holds
 use std::marker::Model;
 
 /// An image: parts that keep every limit and order of the format. Contracts see the parts.
-#[derive(Debug, Drop)]
+#[derive(Drop)]
 pub struct Image {
     parts: Parts,
 }

@@ -4,7 +4,7 @@ ghost use Rattle.std.specs.Prelude.{◌≡◌, List, length};
 use std::marker::Model;
 
 /// A list of an image: made of a `Vec`, which it gives back without taking memory. Contracts see the list alone.
-#[derive(Debug, Drop)]
+#[derive(Drop)]
 pub struct Items<T> {
     items: Vec<T>,
 }

@@ -3,7 +3,7 @@ use crate::items::Items;
 use crate::services::Services;
 
 /// Words that, read as signed, lie from `lo` to `hi` and are multiples of 2 to the power `alignment`.
-#[derive(Clone, Copy, Debug, PartialEq, Eq)]
+#[derive(Clone, Copy, PartialEq, Eq)]
 pub struct Range {
     pub lo: i32,
     pub hi: i32,
@@ -12,14 +12,14 @@ pub struct Range {
 }
 
 /// Whether a function has a register window of its own.
-#[derive(Clone, Copy, Debug, PartialEq, Eq)]
+#[derive(Clone, Copy, PartialEq, Eq)]
 pub enum Kind {
     Leaf,
     Framed,
 }
 
 /// The range of one location where a block starts.
-#[derive(Clone, Copy, Debug, PartialEq, Eq)]
+#[derive(Clone, Copy)]
 pub struct Cell {
     /// 1 to 31 is a register, 32 + k is frame word k, k at most 1,007.
     pub location: u16,
@@ -27,7 +27,7 @@ pub struct Cell {
 }
 
 /// A multiple of one location in a block's fuel.
-#[derive(Clone, Copy, Debug, PartialEq, Eq)]
+#[derive(Clone, Copy)]
 pub struct Term {
     /// As in a cell.
     pub location: u16,
@@ -36,7 +36,7 @@ pub struct Term {
 }
 
 /// A block of code with what is known where it starts.
-#[derive(Debug, Drop)]
+#[derive(Drop)]
 pub struct Block {
     /// The address of its first word, in bytes.
     pub address: u32,
@@ -49,7 +49,7 @@ pub struct Block {
 }
 
 /// A function: its entry, what it promises, and its blocks by address.
-#[derive(Debug, Drop)]
+#[derive(Drop)]
 pub struct Function {
     pub kind: Kind,
     /// At most 6.
@@ -71,7 +71,7 @@ pub struct Function {
 }
 
 /// Data that lie on pages of their own.
-#[derive(Debug, Drop)]
+#[derive(Drop)]
 pub struct Region {
     /// In an image 1 or more, up to 262,144, and a multiple of 8.
     pub bytes: Items<u8>,
@@ -80,7 +80,7 @@ pub struct Region {
 }
 
 /// The fields of an image, whatever they hold.
-#[derive(Debug, Drop)]
+#[derive(Drop)]
 pub struct Parts {
     /// The format's version, 1 to 3 in an image.
     pub version: u16,

@@ -5,7 +5,7 @@ ghost use Rattle.std.specs.Int.RustNames.{bit_and};
 use bitflags::{Flag, Flags, bitflag_items};
 
 /// A set of services, by its bits: 1 exit, 2 get, 4 put.
-#[derive(Clone, Copy, PartialEq, Eq, Debug)]
+#[derive(Clone, Copy, PartialEq, Eq)]
 pub struct Services(pub u16);
 
 bitflag_items! {

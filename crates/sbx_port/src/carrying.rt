@@ -14,7 +14,7 @@ use v8_board::Board;
 const SLICE: u64 = 4096;
 
 /// Which stream ended a run before its end.
-#[derive(Clone, Copy, PartialEq, Eq, Debug)]
+#[derive(Clone, Copy)]
 pub enum StreamFault {
     /// The input can't be read.
     Reader,

@@ -6,7 +6,7 @@ use std::fmt;
 use want::Want;
 
 /// The rule that an image breaks. It is shown by its number, as `V14`.
-#[derive(Clone, Copy, Debug, PartialEq, Eq)]
+#[derive(Clone, Copy, PartialEq, Eq)]
 pub enum Cause {
     /// A word is undefined or has an unused bit set.
     NotAnInstruction,
@@ -110,7 +110,7 @@ impl fmt::Display for Cause {
 }
 
 /// The first fault of an image: the function that holds it, the address of its word in bytes, and the rule.
-#[derive(Clone, Copy, Debug, PartialEq, Eq)]
+#[derive(Clone, Copy, PartialEq, Eq)]
 pub struct Refusal {
     pub function: u16,
     pub address: u32,

@@ -9,7 +9,7 @@ use std::fmt;
 use want::Want;
 
 /// Why a line has no tokens. Shown as `X1` to `X5`, in this order.
-#[derive(Clone, Copy, PartialEq, Eq, Debug)]
+#[derive(Clone, Copy)]
 pub enum TextFault {
     NotAscii,
     BadCharacter,

@@ -16,7 +16,7 @@ use std::marker::Model;
 use want::Want;
 
 /// An image that breaks no rule. Contracts see its parts.
-#[derive(Debug, Drop)]
+#[derive(Drop)]
 pub struct Accepted {
     image: Image,
 }

@@ -6,7 +6,7 @@ use v8_core::Event;
 use v8_word::TrapType;
 
 /// How a run of a board ends.
-#[derive(Clone, Copy, PartialEq, Eq, Debug)]
+#[derive(Clone, Copy, PartialEq, Eq)]
 pub enum Ending {
     /// The program stored this word as its exit status.
     Exit(u32),
@@ -20,7 +20,7 @@ pub enum Ending {
 
 /// What was counted since an image was loaded, or the board was made: turns, window overflows and window underflows, each up to
 /// 2^64 - 1, where a count stays.
-#[derive(Clone, Copy, PartialEq, Eq, Debug)]
+#[derive(Clone, Copy)]
 pub struct Counts {
     pub turns: u64,
     pub overflows: u64,
@@ -28,7 +28,7 @@ pub struct Counts {
 }
 
 /// The end of a run, with the counts.
-#[derive(Clone, Copy, PartialEq, Eq, Debug)]
+#[derive(Clone, Copy, PartialEq, Eq)]
 pub struct Outcome {
     pub ending: Ending,
     pub turns: u64,

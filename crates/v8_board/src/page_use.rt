@@ -8,7 +8,7 @@ use v8_map::{CODE_TABLE, DATA_TABLE, STACK_TABLE};
 
 /// Which pages of code, data and stack were referenced and modified: bit i of each word is R or M of the entry i of that table
 /// (appendix H).
-#[derive(Clone, Copy, PartialEq, Eq, Debug)]
+#[derive(Clone, Copy, PartialEq, Eq)]
 pub struct PageUse {
     pub referenced: [u64; 3],
     pub modified: [u64; 3],

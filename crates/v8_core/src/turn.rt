@@ -3,7 +3,7 @@ use v8_formats::{Size, TrapType};
 use v8_mmu::Stop;
 
 /// What happened in a turn.
-#[derive(Clone, Copy, PartialEq, Eq, Debug)]
+#[derive(Clone, Copy, PartialEq, Eq)]
 pub enum Event {
     /// An instruction ran.
     Ran,
@@ -17,7 +17,7 @@ pub enum Event {
 }
 
 /// A data access that completed: virtual and physical address, size, and whether it was of a store kind.
-#[derive(Clone, Copy, PartialEq, Eq, Debug)]
+#[derive(Clone, Copy, PartialEq, Eq)]
 pub struct DataAccess {
     pub va: u32,
     pub pa: u64,
@@ -27,7 +27,7 @@ pub struct DataAccess {
 
 /// A turn: what happened, and the current window, the mode and the place before it. `word` is there where a fetch completed,
 /// `access` where a data access did.
-#[derive(Clone, Copy, PartialEq, Eq, Debug)]
+#[derive(Clone, Copy, PartialEq, Eq)]
 pub struct Turn {
     pub event: Event,
     pub cwp: u8,

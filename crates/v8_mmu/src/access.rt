@@ -3,7 +3,7 @@ ghost use Rattle.std.specs.Prelude.{◌≡◌, ℕ, ◌<◌};
 ghost use Rattle.v8_mmu.specs.Permissions.{allows, rights_of, access_type};
 
 /// What an access is for. `StoreCode` is a store to an instruction space.
-#[derive(Clone, Copy, PartialEq, Eq, Debug)]
+#[derive(Clone, Copy, PartialEq, Eq)]
 pub enum AccessKind {
     Load,
     Fetch,
@@ -12,7 +12,7 @@ pub enum AccessKind {
 }
 
 /// An access in user or supervisor mode.
-#[derive(Clone, Copy, PartialEq, Eq, Debug)]
+#[derive(Clone, Copy, PartialEq, Eq)]
 pub struct Access {
     pub user: bool,
     pub kind: AccessKind,

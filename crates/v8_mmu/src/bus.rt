@@ -3,7 +3,7 @@ use v8_word::Size;
 use want::Want;
 
 /// What a port that failed ran out of.
-#[derive(Clone, Copy, PartialEq, Eq, Debug)]
+#[derive(Clone, Copy, PartialEq, Eq)]
 pub enum PortFault {
     Memory(Want),
     Reader,
@@ -11,14 +11,14 @@ pub enum PortFault {
 }
 
 /// Why an access didn't complete: nothing answers there, or a port failed.
-#[derive(Clone, Copy, PartialEq, Eq, Debug)]
+#[derive(Clone, Copy, PartialEq, Eq)]
 pub enum BusFault {
     Unanswered,
     Port(PortFault),
 }
 
 /// What stopped the machine: a word written as its exit status, or a trap that the handlers gave up on.
-#[derive(Clone, Copy, PartialEq, Eq, Debug)]
+#[derive(Clone, Copy, PartialEq, Eq)]
 pub enum Stop {
     Exit(u32),
     Trapped,

@@ -3,7 +3,7 @@ ghost use Rattle.std.specs.Prelude.{◌≡◌, ℕ, ◌%◌, ◌^◌, ◌<◌, �
 
 /// The registers that name the context table and the context in it: a physical address, a multiple of 4 below 2^36, and a
 /// number.
-#[derive(Clone, Copy, PartialEq, Eq, Debug)]
+#[derive(Clone, Copy)]
 pub struct MmuRegs {
     pub table: u64,
     pub context: u32,
@@ -34,7 +34,7 @@ pub struct PageEntry {
 
 /// Why there is no translation: fault type, level of the entry where the path ended, and access type (appendix H, "fault
 /// status register").
-#[derive(Clone, Copy, PartialEq, Eq, Debug)]
+#[derive(Clone, Copy, PartialEq, Eq)]
 pub struct MmuFault {
     pub ft: u8,
     pub level: usize,

@@ -5,7 +5,7 @@ ghost use Rattle.v8_syntax.specs.Faults.{code_of};
 use std::fmt;
 
 /// Why a statement means nothing. Shown as `S1` to `S5`, in this order.
-#[derive(Clone, Copy, PartialEq, Eq, Debug)]
+#[derive(Clone, Copy)]
 pub enum SyntaxFault {
     UnknownMnemonic,
     Shape,

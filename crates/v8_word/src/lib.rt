@@ -11,7 +11,7 @@ ghost use Rattle.v8_word.specs.Sizes.{bytes_in};
 use std::marker::Model;
 
 /// An integer register of the current window, by its number 0 to 31 (chapter 4, "IU r Registers"). Contracts see the number.
-#[derive(Clone, Copy, PartialEq, Eq, Debug)]
+#[derive(Clone, Copy, PartialEq, Eq)]
 pub struct Reg {
     number: u8,
 }
@@ -69,7 +69,7 @@ impl Reg {
 }
 
 /// The type of a trap, the number that the field tt of TBR shows (chapter 7, table 7-1). Contracts see the number.
-#[derive(Clone, Copy, PartialEq, Eq, Debug)]
+#[derive(Clone, Copy, PartialEq, Eq)]
 pub struct TrapType {
     number: u8,
 }
@@ -133,7 +133,7 @@ impl TrapType {
 }
 
 /// How many bytes an access moves: 1, 2, 4 or 8 (chapter 5).
-#[derive(Clone, Copy, PartialEq, Eq, Debug)]
+#[derive(Clone, Copy, PartialEq, Eq)]
 pub enum Size {
     Byte,
     Half,
@@ -216,7 +216,7 @@ pub enum Cond {
 }
 
 /// The integer condition codes of PSR: negative, zero, overflow, carry (chapter 4, "Processor State Register").
-#[derive(Clone, Copy, PartialEq, Eq, Debug, Default)]
+#[derive(Clone, Copy, PartialEq, Eq, Default)]
 pub struct Icc {
     pub n: bool,
     pub z: bool,

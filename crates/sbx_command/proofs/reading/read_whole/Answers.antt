@@ -13,3 +13,6 @@ returns-in-Ok-eq0-clause-whole g c = search rules
 
 pub returns-in-Ok-eq0-clause-end : goal.returns-in-Ok-eq0-clause-end
 returns-in-Ok-eq0-clause-end g c = search rules
+
+pub returns-then-count-most-clause-fault : goal.returns-then-count-most-clause-fault
+returns-then-count-most-clause-fault g c = grind (arith, common_steps)
