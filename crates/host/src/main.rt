@@ -3,7 +3,8 @@
 //!
 //! Its arguments are the images' paths; standard input is the input of each image, and standard output takes their outputs in turn.
 //! Standard error tells of the images. Where one is denied, none is run. The status is 0 where each has run and its exit word is 0, 1
-//! where one of these is another, 2 where one is denied, 3 where no path is given, and 4 where a file or a stream fails, or memory.
+//! where one of these is another, 2 where one is denied, also for want of memory in its check (I9, V19), 3 where no path is given, and 4
+//! where a file or a stream fails, or memory.
 #![tactic(auto)]
 
 mod policy;
@@ -69,7 +70,7 @@ fn run(rt: &HostRuntime, images: &[Accepted]) -> io::Result<u8> {
     match run_batch::<8>(rt.alloc(), list.as_slice()) {
         Ok(answers) => tell(rt, answers.as_slice()),
         Err(_fault) => {
-            writeln!(rt.stderr(), "memory")?;
+            writeln!(rt.stderr(), "host: memory")?;
             Ok(4)
         }
     }
@@ -124,8 +125,13 @@ fn host(rt: &HostRuntime) -> io::Result<u8> {
 fn main(rt: HostRuntime) -> ExitCode {
     match host(&rt) {
         Ok(status) => ExitCode::from(status),
-        Err(_error) => {
-            let _ = writeln!(rt.stderr(), "host: a file or a stream failed");
+        Err(error) => {
+            let what = if error.kind() == io::ErrorKind::OutOfMemory {
+                "memory"
+            } else {
+                "a file or a stream failed"
+            };
+            let _ = writeln!(rt.stderr(), "host: {what}");
             ExitCode::from(4)
         }
     }
