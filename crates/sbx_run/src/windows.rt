@@ -1,5 +1,5 @@
 //! Runs of accepted images, by a count of windows that is a number.
-ghost use Rattle.std.specs.Prelude.{◌≡◌, ◌≤◌};
+ghost use Rattle.std.specs.Prelude.{◌≤◌};
 ghost use Rattle.sbx_run.specs.Answer.{AnswersOn};
 
 use crate::runner::{Finished, run_accepted};
@@ -8,18 +8,15 @@ use sbx_raw::RunFault;
 use sbx_verify::Accepted;
 use std::alloc::Global;
 
-/// A run on `N` windows, which are as many as the number says.
+/// A run on `N` windows.
 fn run_on<const N: usize>(
     alloc: Global,
-    windows: u32,
     accepted: &Accepted,
     input: &[u8],
 ) -> Option<Result<Finished, RunFault>>
-    requires range { (4 ≤ N) × (N ≤ 32) }
-    requires same { windows ≡ N }
-    ensures { AnswersOn accepted.now windows input.now result }
+    requires { (4 ≤ N) × (N ≤ 32) }
+    ensures { AnswersOn accepted.now N input.now result }
 {
-    let _ = windows;
     Some(run_accepted::<N>(alloc, accepted, input))
 }
 
@@ -33,7 +30,7 @@ fn run_within(
     requires { (4 ≤ windows) × (windows ≤ 32) }
     ensures { AnswersOn accepted.now windows input.now result }
 {
-    on_windows!(windows, run_on [] (alloc, windows, accepted, input), 4 to 32)
+    on_windows!(windows, run_on [] (alloc, accepted, input), 4 to 32)
 }
 
 /// Runs an accepted image on an input to its end on so many windows, as `run_accepted` does; None exactly below 4 and above 32.
