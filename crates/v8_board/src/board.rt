@@ -153,6 +153,8 @@ impl<const N: usize, P: Port> Board<N, P> {
     /// One turn, which is counted unless the machine has ended. On a fault of the port nothing has changed, page bits included, and
     /// the port's count of failures rose by one, as it does nowhere else. A loaded image stays contained, so no word of the page tables changes but in R and M, and
     /// addresses translate as before: that is the law `v8_layout::laws::tables_stay`.
+    // The compiler would put it, and with it the machine, into its one caller, that into its own, and so on, and optimize it anew in each.
+    #[inline(never)]
     pub fn step(&mut self) -> Result<Turn, PortFault>
         ensures turn { IfOk result (λ turn. turned N self.old.state ≡ (turn, self.new.state)) }
         ensures contained { Keeps N self.old.state self.new.state }
