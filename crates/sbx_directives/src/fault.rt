@@ -3,7 +3,7 @@ ghost use Rattle.std.specs.Prelude.{◌≡◌};
 ghost use Rattle.sbx_directives.specs.declared.fault.DataFault.TheVariants.{Memory};
 ghost use Rattle.want.specs.Wants.{refused};
 
-use std::alloc::{AllocError, AllocFailed};
+use std::alloc::AllocError;
 use want::Want;
 
 /// Why the values of a data directive have no bytes. An unknown symbol is told before a value that does not fit.
@@ -21,13 +21,5 @@ impl From<AllocError> for DataFault {
 
     fn from(error: AllocError) -> DataFault {
         DataFault::Memory(Want::from(error))
-    }
-}
-
-impl<T: Drop> From<AllocFailed<T>> for DataFault {
-    ghost from_gives = { λ _ e. e ≡ Memory refused };
-
-    fn from(failed: AllocFailed<T>) -> DataFault {
-        DataFault::Memory(Want::from(failed))
     }
 }

@@ -1,9 +1,9 @@
 // Numbers, ranges and locations among the operands of a directive.
-ghost use Rattle.std.specs.Prelude.{◌≡◌, ◌≤◌, ◌+◌, ℕ, pos, negsuc, ◌≤ℤ◌, IfSome};
+ghost use Rattle.std.specs.Prelude.{◌≡◌, ◌≤◌, ◌+◌, ℕ, pos, negsuc, ◌≤ℤ◌, IfSome, [], ◌∷◌};
 ghost use Rattle.sbx_directives.specs.Directives.{integer_in, natural_in, range_of, coefficient, plain_name, slot, location, behind};
 
 use crate::directive::{Name, text_of};
-use crate::operand::{Operand, next_operand, none};
+use crate::operand::{Operand, next_operand, one};
 use sbx_image::Range;
 use sbx_text::Token;
 use v8_syntax::is_same;
@@ -45,6 +45,17 @@ pub fn signed_word(operand: Operand) -> Option<i32>
     Some(number as i32)
 }
 
+/// The range that `LO,HI,AL` are, `LO` at most `HI`.
+#[tactic(auto, unfolding(crate::specs::Directives::range_of))]
+fn range_with(low: Operand, high: Operand, alignment: Operand) -> Option<Range>
+    ensures { result ≡ range_of (low ∷ high ∷ alignment ∷ []) }
+{
+    let lo = signed_word(low)?;
+    let hi = signed_word(high)?;
+    let alignment = natural_in(0, 3, alignment)? as u8;
+    (lo <= hi).then_some(Range { lo, hi, alignment })
+}
+
 /// `LO,HI,AL` behind a first token, `LO` at most `HI`.
 #[tactic(auto, unfolding(crate::specs::Directives::range_of))]
 pub fn range_of(line: &[u8], tokens: &[Token]) -> Option<Range>
@@ -56,14 +67,7 @@ pub fn range_of(line: &[u8], tokens: &[Token]) -> Option<Range>
     let Some((high, rest)) = next_operand(line, rest) else {
         return None;
     };
-    let Some((alignment, rest)) = next_operand(line, rest) else {
-        return None;
-    };
-    none(line, rest)?;
-    let lo = signed_word(low)?;
-    let hi = signed_word(high)?;
-    let alignment = natural_in(0, 3, alignment)? as u8;
-    (lo <= hi).then_some(Range { lo, hi, alignment })
+    range_with(low, high, one(line, rest)?)
 }
 
 /// Any number of 32 bits but 0, signed.

@@ -121,6 +121,32 @@ pub fn value_count(line: &[u8], tokens: &[Token]) -> Option<usize>
     if count == 0 { None } else { Some(count) }
 }
 
+/// The function that `NAME,KIND,FRAME,STACK,BUDGET` are.
+#[tactic(auto, unfolding(crate::specs::Directives::directive_of))]
+fn function_with(
+    line: &[u8],
+    name: Operand,
+    kind: Operand,
+    frame: Operand,
+    stack_room: Operand,
+    budget: Operand,
+) -> Option<Directive>
+    ensures { result ≡ directive_of line.now keywords.Function (name ∷ kind ∷ frame ∷ stack_room ∷ budget ∷ []) }
+{
+    let name = plain_name(name)?;
+    let kind = frames_of(line, kind)?;
+    let frame = natural_in(0, 4096, frame)? as u32;
+    let stack_room = natural_in(0, 65536, stack_room)? as u32;
+    let budget = natural_in(0, 0xff_ffff_ffff, budget)?;
+    Some(Directive::Function {
+        name,
+        kind,
+        frame,
+        stack_room,
+        budget,
+    })
+}
+
 /// `NAME,KIND,FRAME,STACK,BUDGET`
 #[tactic(auto, unfolding(crate::specs::Directives::directive_of))]
 fn function_of(line: &[u8], tokens: &[Token]) -> Option<Directive>
@@ -138,22 +164,7 @@ fn function_of(line: &[u8], tokens: &[Token]) -> Option<Directive>
     let Some((stack_room, rest)) = next_operand(line, rest) else {
         return None;
     };
-    let Some((budget, rest)) = next_operand(line, rest) else {
-        return None;
-    };
-    none(line, rest)?;
-    let name = plain_name(name)?;
-    let kind = frames_of(line, kind)?;
-    let frame = natural_in(0, 4096, frame)? as u32;
-    let stack_room = natural_in(0, 65536, stack_room)? as u32;
-    let budget = natural_in(0, 0xff_ffff_ffff, budget)?;
-    Some(Directive::Function {
-        name,
-        kind,
-        frame,
-        stack_room,
-        budget,
-    })
+    function_with(line, name, kind, frame, stack_room, one(line, rest)?)
 }
 
 /// `LOC,LO,HI,AL`
@@ -177,10 +188,7 @@ fn term_of(line: &[u8], tokens: &[Token]) -> Option<Directive>
     let Some((place, rest)) = next_operand(line, tokens) else {
         return None;
     };
-    let Some((number, rest)) = next_operand(line, rest) else {
-        return None;
-    };
-    none(line, rest)?;
+    let number = one(line, rest)?;
     let location = location(line, place)?;
     let coefficient = coefficient(number)?;
     Some(Directive::Term(Term {
