@@ -12,6 +12,7 @@
 //! `words` or `results` for these alone, or `all`; and the paths of the images.
 #![tactic(auto)]
 
+mod plain;
 mod tally;
 mod verdicts;
 mod ways;
