@@ -12,13 +12,14 @@
 //! `words` or `results` for these alone, or `all`; and the paths of the images.
 #![tactic(auto)]
 
+mod plain;
 mod tally;
 mod verdicts;
 mod ways;
 mod words;
 
-use anyhow::{Result, anyhow};
-use sbx_image::{Image, parse};
+use anyhow::{Context, Result, anyhow};
+use sbx_image::{Image, ImageFault, parse};
 use std::time::Instant;
 use std::{env, fs, io};
 use verdicts::{Verdict, timed_verdict};
@@ -58,7 +59,8 @@ fn image_at(rt: &HostRuntime, path: &str) -> Result<Image> {
     let bytes = fs::read(rt, path)?;
     match parse(rt.alloc(), bytes.as_slice()) {
         Ok(image) => Ok(image),
-        Err(_fault) => Err(anyhow!("a file is no image")),
+        Err(ImageFault::Memory(_)) => Err(anyhow!("memory was refused")),
+        Err(fault) => Err(anyhow!("{path}: image {fault}")),
     }
 }
 
@@ -170,14 +172,17 @@ fn measure_named(rt: &HostRuntime, only: &str, turns: u64, paths: &[String]) -> 
     if is_known {
         Ok(())
     } else {
-        Err(anyhow!("nothing that is measured has that name"))
+        Err(anyhow!("none of step, run, raw, trace, plain, verify, words, results and all: {only}"))
     }
 }
 
 /// Measures what the program's words ask for, the first of which is its name.
 fn measure_by(rt: &HostRuntime, words: &[String]) -> Result<()> {
     let turns = match words.get(1) {
-        Some(word) => word.as_str().parse()?,
+        Some(word) => word
+            .as_str()
+            .parse::<u64>()
+            .context(format_args!("number of turns {word}"))?,
         None => TURNS,
     };
     let only = match words.get(2) {

@@ -8,13 +8,13 @@ ghost use Rattle.sbx_bench.specs.declared.tally.Tally.{Tally};
 ghost use Rattle.sbx_bench.specs.declared.ways.Told.TheVariants as tells;
 ghost use Rattle.sbx_bench.specs.Ways.{IsToldBy, register_of};
 
+use crate::plain::Plain;
 use crate::tally::Tally;
 use sbx_image::Image;
 use sbx_raw::{RunFault, SlicePort, begun, fault_of, run_raw, trace};
 use std::alloc::Global;
 use std::fmt::{self, Formatter, Write};
 use v8_board::Board;
-use v8_plain::Plain;
 use v8_word::Reg;
 
 /// How the board is driven.

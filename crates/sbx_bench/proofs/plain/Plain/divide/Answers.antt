@@ -1,5 +1,5 @@
 use Rattle.std.proofs.Common.{rules}
-use Rattle.v8_plain.proofs.plain.Plain.divide.Goals as goal
+use Rattle.sbx_bench.proofs.plain.Plain.divide.Goals as goal
 
 pub quotient-value-requires : goal.quotient-value-requires
 quotient-value-requires c = search rules

@@ -1,9 +1,9 @@
 //! What instructions do.
 
-use crate::plain::{Modes, Plain};
-use crate::results::{
+use super::results::{
     difference, logic_codes, product, quotient, shifted_right, signed_field, sum,
 };
+use super::{Modes, Plain};
 
 /// The two operands, the destination and the minor opcode of an instruction of three registers.
 #[derive(Clone, Copy)]
@@ -39,7 +39,7 @@ fn holds(condition: u32, codes: u32) -> bool {
 impl Plain {
     /// Executes an instruction, and gives what nPC becomes, or the number of the trap.
     #[inline(always)]
-    pub(crate) fn execute(&mut self, word: u32) -> Result<u32, u32> {
+    pub(super) fn execute(&mut self, word: u32) -> Result<u32, u32> {
         let next = self.npc.wrapping_add(4);
         match word >> 30 {
             0 => self.branch_or_set(word, next),

@@ -1,40 +1,46 @@
-//! The processor's state, windows, traps and turns.
+//! A plain interpreter of a board of eight windows: each turn fetches, translates, decodes and executes, with the translation cache of
+//! the machine that is proved and, of the four pages that stand in front of it there, the two that each mode fetched from last; nothing is
+//! decoded beforehand. Nothing is proved of it but that it is safe; how fast it is says how fast the proved machine could be.
+//!
+//! Here are the processor's state, windows, traps and turns.
 
-use crate::pages::{Kind, Pages};
-use crate::ram::Ram;
+mod execute;
+mod pages;
+mod ram;
+mod results;
+
+use pages::{Kind, Pages};
+use ram::Ram;
 use std::alloc::{AllocError, Global};
-
-/// How many windows there are.
-pub const WINDOWS: usize = 8;
 
 /// Where the device's registers lie.
 const DEVICE: u64 = 1 << 32;
 
 /// The bits of PSR that this machine has.
 #[derive(Clone, Copy)]
-pub struct Modes {
-    pub supervisor: bool,
-    pub previous: bool,
-    pub traps: bool,
+struct Modes {
+    supervisor: bool,
+    previous: bool,
+    traps: bool,
 }
 
 /// The machine. The current window's registers stand together; those of the other windows as halves of outs and locals.
 #[derive(Drop)]
 pub struct Plain {
-    pub(crate) ram: Ram,
-    pub(crate) pages: Pages,
-    pub(crate) registers: [u32; 32],
+    ram: Ram,
+    pages: Pages,
+    registers: [u32; 32],
     outs: [[u32; 8]; 8],
     locals: [[u32; 8]; 8],
-    pub(crate) window: usize,
-    pub(crate) mask: u32,
-    pub(crate) codes: u32,
-    pub(crate) modes: Modes,
-    pub(crate) base: u32,
-    pub(crate) y: u32,
-    pub(crate) pc: u32,
-    pub(crate) npc: u32,
-    pub(crate) annul: bool,
+    window: usize,
+    mask: u32,
+    codes: u32,
+    modes: Modes,
+    base: u32,
+    y: u32,
+    pc: u32,
+    npc: u32,
+    annul: bool,
     stopped: bool,
 }
 
@@ -78,14 +84,14 @@ impl Plain {
     }
 
     #[inline(always)]
-    pub(crate) fn set(&mut self, number: u32, word: u32) {
+    fn set(&mut self, number: u32, word: u32) {
         if number & 31 != 0 {
             self.registers[(number & 31) as usize] = word;
         }
     }
 
     /// Goes to another window.
-    pub(crate) fn enter(&mut self, window: usize) {
+    fn enter(&mut self, window: usize) {
         let (old, new) = (self.window & 7, window & 7);
         for k in 0..8 {
             self.outs[old][k] = self.registers[8 + k];
@@ -100,21 +106,21 @@ impl Plain {
         self.window = new;
     }
 
-    pub(crate) fn below(&self) -> usize {
+    fn below(&self) -> usize {
         (self.window & 7) + 7 & 7
     }
 
-    pub(crate) fn above(&self) -> usize {
+    fn above(&self) -> usize {
         (self.window & 7) + 1 & 7
     }
 
-    pub(crate) fn is_invalid(&self, window: usize) -> bool {
+    fn is_invalid(&self, window: usize) -> bool {
         (self.mask >> (window & 7)) & 1 == 1
     }
 
     /// The number in so many bytes.
     #[inline(always)]
-    pub(crate) fn load(&mut self, va: u32, size: u32) -> Option<u64> {
+    fn load(&mut self, va: u32, size: u32) -> Option<u64> {
         let user = !self.modes.supervisor;
         let pa = self.pages.translate(&mut self.ram, va, user, Kind::Load)?;
         if pa >= DEVICE {
@@ -126,7 +132,7 @@ impl Plain {
 
     /// Writes a number to so many bytes. What is put out is let go.
     #[inline(always)]
-    pub(crate) fn store(&mut self, va: u32, size: u32, number: u64) -> Option<()> {
+    fn store(&mut self, va: u32, size: u32, number: u64) -> Option<()> {
         let user = !self.modes.supervisor;
         let pa = self.pages.translate(&mut self.ram, va, user, Kind::Store)?;
         if pa >= DEVICE {
