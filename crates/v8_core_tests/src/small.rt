@@ -164,15 +164,10 @@ impl<const M: usize> Small<M> {
             return None;
         }
         let at = pa as usize;
-        let a = self.bytes[at];
-        let b = self.bytes[at + 1];
-        let c = self.bytes[at + 2];
-        let d = self.bytes[at + 3];
-        let e = self.bytes[at + 4];
-        let f = self.bytes[at + 5];
-        let g = self.bytes[at + 6];
-        let h = self.bytes[at + 7];
-        Some(u64::from_be_bytes([a, b, c, d, e, f, g, h]))
+        let bytes = &self.bytes[..];
+        let mut number = [0; 8];
+        number.copy_from_slice(&bytes[at..at + 8]);
+        Some(u64::from_be_bytes(number))
     }
 
     fn number(&self, pa: u64, size: Size) -> Option<u64>

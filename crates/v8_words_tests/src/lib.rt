@@ -6,4 +6,6 @@ mod cache;
 #[cfg(test)]
 mod meaning;
 #[cfg(test)]
+mod rows;
+#[cfg(test)]
 mod tests;

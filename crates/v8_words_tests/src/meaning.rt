@@ -1,11 +1,10 @@
 //! Worked examples of the manual's rules, and the words of GNU as (binutils 2.40) for the statements in the comments.
-use std::process::Abort;
-use v8_alu::{Division, Op, TaggedOp};
+use crate::rows::each_holds;
 use v8_formats::{Branch, decode};
 use v8_meaning::{
-    Exchange, Loading, Operation, Space, StateRegister, Transfer, address, annuls, bytes_in,
-    following, is_admitted, is_always, is_code_space, is_missing, is_never, is_normal, is_taken,
-    is_unknown, is_user_space, odd_of, operation_of, software_trap, splits_pair, target,
+    Exchange, Loading, Operation, Space, Transfer, address, annuls, bytes_in, following,
+    is_admitted, is_always, is_code_space, is_missing, is_never, is_normal, is_taken, is_unknown,
+    is_user_space, odd_of, operation_of, software_trap, splits_pair, target,
 };
 use v8_word::{Cond, Icc, Reg, Size};
 
@@ -56,9 +55,7 @@ fn is_slot(slot: &Slot) -> bool {
 
 #[test]
 fn delay_slots(rt: HostRuntime) {
-    for slot in &SLOTS {
-        assert!(rt; is_slot(slot), "{:?} {}", slot.0, slot.1);
-    }
+    each_holds(&rt, &SLOTS, is_slot);
     assert!(rt; is_always(Cond::Always) && is_never(Cond::Never));
 }
 
@@ -124,21 +121,19 @@ const REFUSED: [u32; 16] = [
 ];
 
 /// Whether a word may stand in an image.
-fn is_word_admitted(word: u32) -> bool {
-    is_admitted(&operation_of(&decode(word)))
+fn is_word_admitted(word: &u32) -> bool {
+    is_admitted(&operation_of(&decode(*word)))
 }
 
-/// Asserts that each of these words may stand in an image, or that none may.
-fn are_admitted(rt: &impl Abort, words: &[u32], wanted: bool) {
-    for word in words {
-        assert!(rt; is_word_admitted(*word) == wanted, "{word:x}");
-    }
+/// Whether a word may stand in no image.
+fn is_word_refused(word: &u32) -> bool {
+    !is_word_admitted(word)
 }
 
 #[test]
 fn admitted_words(rt: HostRuntime) {
-    are_admitted(&rt, &ADMITTED, true);
-    are_admitted(&rt, &REFUSED, false);
+    each_holds(&rt, &ADMITTED, is_word_admitted);
+    each_holds(&rt, &REFUSED, is_word_refused);
 }
 
 #[test]
@@ -148,80 +143,45 @@ fn spaces(rt: HostRuntime) {
     assert!(rt; is_user_space(10) && is_code_space(9));
 }
 
-/// The name of a result's operation (appendix B).
-fn computed(op: Op) -> &'static str {
-    match op {
-        Op::Add => "add",
-        Op::AddCc => "addcc",
-        Op::Addx => "addx",
-        Op::AddxCc => "addxcc",
-        Op::Sub => "sub",
-        Op::SubCc => "subcc",
-        Op::Subx => "subx",
-        Op::SubxCc => "subxcc",
-        Op::And => "and",
-        Op::AndCc => "andcc",
-        Op::Andn => "andn",
-        Op::AndnCc => "andncc",
-        Op::Or => "or",
-        Op::OrCc => "orcc",
-        Op::Orn => "orn",
-        Op::OrnCc => "orncc",
-        Op::Xor => "xor",
-        Op::XorCc => "xorcc",
-        Op::Xnor => "xnor",
-        Op::XnorCc => "xnorcc",
-        Op::Sll => "sll",
-        Op::Srl => "srl",
-        Op::Sra => "sra",
-        Op::Umul => "umul",
-        Op::UmulCc => "umulcc",
-        Op::Smul => "smul",
-        Op::SmulCc => "smulcc",
-        Op::TaddCc => "taddcc",
-        Op::TsubCc => "tsubcc",
-        Op::MulsCc => "mulscc",
-    }
-}
+/// The names of results (appendix B), in the order of `Op`.
+const COMPUTED: [&str; 30] = [
+    "add", "addcc", "addx", "addxcc", "sub", "subcc", "subx", "subxcc", "and", "andcc", "andn",
+    "andncc", "or", "orcc", "orn", "orncc", "xor", "xorcc", "xnor", "xnorcc", "sll", "srl", "sra",
+    "umul", "umulcc", "smul", "smulcc", "taddcc", "tsubcc", "mulscc",
+];
 
-/// The name of a load, a store or an exchange.
-fn moved(transfer: Transfer) -> &'static str {
-    match transfer {
-        Transfer::Load(Loading::Word) => "ld",
-        Transfer::Load(Loading::UnsignedByte) => "ldub",
-        Transfer::Load(Loading::SignedByte) => "ldsb",
-        Transfer::Load(Loading::UnsignedHalf) => "lduh",
-        Transfer::Load(Loading::SignedHalf) => "ldsh",
-        Transfer::Load(Loading::Double) => "ldd",
-        Transfer::Store(Size::Word) => "st",
-        Transfer::Store(Size::Byte) => "stb",
-        Transfer::Store(Size::Half) => "sth",
-        Transfer::Store(Size::Double) => "std",
-        Transfer::Exchange(Exchange::Ones) => "ldstub",
-        Transfer::Exchange(Exchange::Register) => "swap",
-    }
-}
+/// Those of quotients, in the order of `Division`.
+const DIVIDED: [&str; 4] = ["udiv", "udivcc", "sdiv", "sdivcc"];
+
+/// Those of the forms that trap, in the order of `TaggedOp`.
+const TAGGED: [&str; 2] = ["taddcctv", "tsubcctv"];
+
+/// Those of reads and writes of state, in the order of `StateRegister`.
+const READ: [&str; 3] = ["rd %psr", "rd %wim", "rd %tbr"];
+
+const WRITTEN: [&str; 3] = ["wr %psr", "wr %wim", "wr %tbr"];
+
+/// Those of loads, stores and exchanges, in the order of `Loading`, `Size` and `Exchange`.
+const LOADED: [&str; 6] = ["ldub", "ldsb", "lduh", "ldsh", "ld", "ldd"];
+
+const STORED: [&str; 4] = ["stb", "sth", "st", "std"];
+
+const EXCHANGED: [&str; 2] = ["ldstub", "swap"];
 
 /// The name of what an operation asks for.
 fn name(operation: &Operation) -> &'static str {
     match operation {
-        Operation::Compute(op, _) => computed(*op),
-        Operation::Divide(Division::Udiv, _) => "udiv",
-        Operation::Divide(Division::UdivCc, _) => "udivcc",
-        Operation::Divide(Division::Sdiv, _) => "sdiv",
-        Operation::Divide(Division::SdivCc, _) => "sdivcc",
-        Operation::TaggedTrap(TaggedOp::TaggedAdd, _) => "taddcctv",
-        Operation::TaggedTrap(TaggedOp::TaggedSub, _) => "tsubcctv",
+        Operation::Compute(op, _) => COMPUTED[*op as usize],
+        Operation::Divide(division, _) => DIVIDED[*division as usize],
+        Operation::TaggedTrap(op, _) => TAGGED[*op as usize],
         Operation::SetHigh(_) => "sethi",
         Operation::ReadY(_) => "rd %y",
         Operation::WriteY(_) => "wr %y",
-        Operation::ReadState(StateRegister::Psr, _) => "rd %psr",
-        Operation::ReadState(StateRegister::Wim, _) => "rd %wim",
-        Operation::ReadState(StateRegister::Tbr, _) => "rd %tbr",
-        Operation::WriteState(StateRegister::Psr, _) => "wr %psr",
-        Operation::WriteState(StateRegister::Wim, _) => "wr %wim",
-        Operation::WriteState(StateRegister::Tbr, _) => "wr %tbr",
-        Operation::Transfer(transfer, _) => moved(*transfer),
+        Operation::ReadState(register, _) => READ[*register as usize],
+        Operation::WriteState(register, _) => WRITTEN[*register as usize],
+        Operation::Transfer(Transfer::Load(loading), _) => LOADED[*loading as usize],
+        Operation::Transfer(Transfer::Store(size), _) => STORED[*size as usize],
+        Operation::Transfer(Transfer::Exchange(exchange), _) => EXCHANGED[*exchange as usize],
         Operation::Save(_) => "save",
         Operation::Restore(_) => "restore",
         Operation::Call(_) => "call",
@@ -250,15 +210,9 @@ fn identifier(operation: &Operation) -> Option<u8> {
 /// Words with the names of what they ask for.
 type Asked = (u32, &'static str);
 
-fn is_asked(word: u32, asked: &str) -> bool {
-    name(&operation_of(&decode(word))) == asked
-}
-
-/// Asserts that each word asks for what stands beside it.
-fn are_asked(rt: &impl Abort, rows: &[Asked]) {
-    for &(word, asked) in rows {
-        assert!(rt; is_asked(word, asked), "{word:x}");
-    }
+/// Whether a word asks for what stands beside it.
+fn is_asked(row: &Asked) -> bool {
+    name(&operation_of(&decode(row.0))) == row.1
 }
 
 const RESULTS: [Asked; 36] = [
@@ -302,7 +256,7 @@ const RESULTS: [Asked; 36] = [
 
 #[test]
 fn asks_for_results(rt: HostRuntime) {
-    are_asked(&rt, &RESULTS);
+    each_holds(&rt, &RESULTS, is_asked);
 }
 
 const STATES_AND_TRANSFERS: [Asked; 18] = [
@@ -328,7 +282,7 @@ const STATES_AND_TRANSFERS: [Asked; 18] = [
 
 #[test]
 fn asks_for_states_and_transfers(rt: HostRuntime) {
-    are_asked(&rt, &STATES_AND_TRANSFERS);
+    each_holds(&rt, &STATES_AND_TRANSFERS, is_asked);
     assert!(rt; matches!(operation_of(&decode(0x4000_0002)), Operation::Call(2)));
 }
 
@@ -351,7 +305,7 @@ const BESIDE: [Asked; 13] = [
 
 #[test]
 fn asks_for_what_appendix_f_has_beside(rt: HostRuntime) {
-    are_asked(&rt, &BESIDE);
+    each_holds(&rt, &BESIDE, is_asked);
 }
 
 const DATA: [Asked; 12] = [
@@ -369,51 +323,43 @@ const DATA: [Asked; 12] = [
     (0xdc7f_c00e, "swap"), // swap [%i7+%sp],%sp
 ];
 
-/// Asserts that each of these words may stand in an image.
-fn are_data_admitted(rt: &impl Abort) {
-    for (word, _asked) in &DATA {
-        assert!(rt; is_word_admitted(*word), "{word:x}");
-    }
+/// Whether a word asks for what stands beside it, and may stand in an image.
+fn is_asked_and_admitted(row: &Asked) -> bool {
+    is_asked(row) && is_word_admitted(&row.0)
 }
 
 #[test]
 fn asks_for_data(rt: HostRuntime) {
-    are_asked(&rt, &DATA);
-    are_data_admitted(&rt);
+    each_holds(&rt, &DATA, is_asked_and_admitted);
 }
+
+/// Words with the names of what they ask for, and the alternate spaces that they name.
+type AskedIn = (u32, &'static str, Option<u8>);
 
 /// Below the first six GNU as gives no word here: words of the manual's opcodes (appendix F).
-const ALTERNATES: [(u32, &str, u8); 12] = [
-    (0xfe8b_dfff, "ldub", 255), // lduba [%o7+%i7] 255,%i7
-    (0xf0ca_4418, "ldsb", 32), // ldsba [%o1+%i0] 32,%i0
-    (0xe098_4130, "ldd", 9), // ldda [%g1+%l0] 9,%l0
-    (0xdaff_816d, "swap", 11), // swapa [%fp+%o5] 11,%o5
-    (0xd0a9_c133, "stb", 9), // stba %o0,[%g7+%l3] 9
-    (0xc0bf_c16e, "std", 11), // stda %g0,[%i7+%sp] 11
-    (0xd282_0140, "ld", 10), // lda [%o0] 10,%o1
-    (0xd292_0140, "lduh", 10), // lduha [%o0] 10,%o1
-    (0xd2d2_0140, "ldsh", 10), // ldsha [%o0] 10,%o1
-    (0xd2a2_0140, "st", 10), // sta %o1,[%o0] 10
-    (0xd2b2_0140, "sth", 10), // stha %o1,[%o0] 10
-    (0xd2ea_0140, "ldstub", 10), // ldstuba [%o0] 10,%o1
+const ALTERNATES: [AskedIn; 13] = [
+    (0xfe8b_dfff, "ldub", Some(255)), // lduba [%o7+%i7] 255,%i7
+    (0xf0ca_4418, "ldsb", Some(32)), // ldsba [%o1+%i0] 32,%i0
+    (0xe098_4130, "ldd", Some(9)), // ldda [%g1+%l0] 9,%l0
+    (0xdaff_816d, "swap", Some(11)), // swapa [%fp+%o5] 11,%o5
+    (0xd0a9_c133, "stb", Some(9)), // stba %o0,[%g7+%l3] 9
+    (0xc0bf_c16e, "std", Some(11)), // stda %g0,[%i7+%sp] 11
+    (0xd282_0140, "ld", Some(10)), // lda [%o0] 10,%o1
+    (0xd292_0140, "lduh", Some(10)), // lduha [%o0] 10,%o1
+    (0xd2d2_0140, "ldsh", Some(10)), // ldsha [%o0] 10,%o1
+    (0xd2a2_0140, "st", Some(10)), // sta %o1,[%o0] 10
+    (0xd2b2_0140, "sth", Some(10)), // stha %o1,[%o0] 10
+    (0xd2ea_0140, "ldstub", Some(10)), // ldstuba [%o0] 10,%o1
+    (0xd282_2008, "ld", None), // lda [%o0+8],%o1: an immediate leaves no room for a space
 ];
 
-/// Whether a word asks for this, in the alternate space of this identifier.
-fn is_asked_in(word: u32, asked: &str, asi: u8) -> bool {
-    let operation = operation_of(&decode(word));
-    identifier(&operation) == Some(asi) && name(&operation) == asked
-}
-
-/// Whether `lda` with an immediate, 8, is a load that names no space, and may not stand in an image.
-fn is_missing_its_space() -> bool {
-    let missing = operation_of(&decode(0xd282_2008));
-    identifier(&missing).is_none() && !is_admitted(&missing) && name(&missing) == "ld"
+/// Whether a word asks for this, in this alternate space or in none, and may stand in no image.
+fn is_asked_in(row: &AskedIn) -> bool {
+    let operation = operation_of(&decode(row.0));
+    identifier(&operation) == row.2 && name(&operation) == row.1 && !is_admitted(&operation)
 }
 
 #[test]
 fn asks_for_alternate_spaces(rt: HostRuntime) {
-    for &(word, asked, asi) in &ALTERNATES {
-        assert!(rt; is_asked_in(word, asked, asi), "{word:x}");
-    }
-    assert!(rt; is_missing_its_space());
+    each_holds(&rt, &ALTERNATES, is_asked_in);
 }

@@ -1,6 +1,6 @@
 // Words of the manual's formats (appendix F), those of GNU as (binutils 2.40), and words that are none. All the words of
 // GNU as that the repository has are in the program v8_vectors.
-use std::process::Abort;
+use crate::rows::each_holds;
 use v8_formats::{
     Alternate, Branch, Instr, Operand, Place, Three, Trap, Upper, decode, encode, is_canonical,
     rows_are_apart,
@@ -11,9 +11,9 @@ fn three(rd: Reg, rs1: Reg, operand2: Operand) -> Three {
     Three { rd, rs1, operand2 }
 }
 
-/// Whether an instruction is spelled as a word, and what the word means is too.
-fn is_spelled(instr: &Instr, word: u32) -> bool {
-    encode(instr) == word && encode(&decode(word)) == word
+/// Whether an instruction is spelled as the word beside it, and what the word means is too.
+fn is_spelled(row: &(u32, Instr)) -> bool {
+    encode(&row.1) == row.0 && encode(&decode(row.0)) == row.0
 }
 
 /// Words with what they are.
@@ -87,21 +87,15 @@ fn worked() -> [(u32, Instr); 11] {
     ]
 }
 
-/// Asserts that each of these instructions is spelled as its word.
-fn are_spelled(rt: &impl Abort, rows: &[(u32, Instr)]) {
-    for (word, instr) in rows {
-        assert!(rt; is_spelled(instr, *word), "{word:x}");
-    }
-}
-
 #[test]
 fn worked_words(rt: HostRuntime) {
-    are_spelled(&rt, &worked());
+    each_holds(&rt, &worked(), is_spelled);
     rows_are_apart();
 }
 
 /// Whether a word is canonical, and each word that differs in one of these bits means the same and isn't.
-fn leaves_unused(word: u32, unused: u32) -> bool {
+fn leaves_unused(row: &(u32, u32)) -> bool {
+    let (word, unused) = *row;
     let mut agrees = is_canonical(word);
     for bit in 0u32..32 {
         let spoiled = word | unused & 1 << bit;
@@ -134,13 +128,11 @@ const UNUSED: [(u32, u32); 18] = [
 
 #[test]
 fn unused_bits(rt: HostRuntime) {
-    for &(word, unused) in &UNUSED {
-        assert!(rt; leaves_unused(word, unused), "{word:x}");
-    }
+    each_holds(&rt, &UNUSED, leaves_unused);
 }
 
-fn is_undefined(word: u32) -> bool {
-    matches!(decode(word), Instr::Undefined(kept) if kept == word) && is_canonical(word)
+fn is_undefined(word: &u32) -> bool {
+    matches!(decode(*word), Instr::Undefined(kept) if kept == *word) && is_canonical(*word)
 }
 
 const RESERVED: [u32; 29] = [
@@ -177,9 +169,7 @@ const RESERVED: [u32; 29] = [
 
 #[test]
 fn words_that_are_no_instruction(rt: HostRuntime) {
-    for word in &RESERVED {
-        assert!(rt; is_undefined(*word), "{word:x}");
-    }
+    each_holds(&rt, &RESERVED, is_undefined);
 }
 
 fn is_floating_point_memory(word: u32) -> bool {

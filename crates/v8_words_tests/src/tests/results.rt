@@ -1,28 +1,33 @@
 // Results worked out by hand, by the rules of appendix B. Those of another machine are in the program v8_vectors.
 use super::icc_of;
+use crate::rows::each_holds;
 use v8_alu::{AluOut, Division, Op, TaggedOp, alu, divide, tagged_tv};
 use v8_word::Icc;
 
-/// Whether a division of operands, Y before it, leaves this value and these codes.
-fn divides(op: Division, operands: (u32, u32, u32), value: u32, codes: u8) -> bool {
-    let (y, a, b) = operands;
-    match divide(op, a, b, Icc::default(), y) {
-        Some(out) => out.value == value && out.icc == icc_of(codes),
-        None => false,
+/// A division, Y and its operands, and the value and the codes that it leaves; none where the divisor is 0.
+type Divided = (Division, [u32; 3], Option<(u32, u8)>);
+
+const DIVIDED: [Divided; 6] = [
+    (
+        Division::SdivCc,
+        [0xffff_ffff, 0x8000_0000, 0xffff_ffff],
+        Some((0x7fff_ffff, 2)),
+    ),
+    (Division::UdivCc, [1, 0, 1], Some((0xffff_ffff, 10))),
+    (Division::Udiv, [0, 1, 0], None),
+    (Division::UdivCc, [0, 1, 0], None),
+    (Division::Sdiv, [0, 1, 0], None),
+    (Division::SdivCc, [0, 1, 0], None),
+];
+
+/// Whether a division leaves its value and its codes, or nothing.
+fn divides(row: &Divided) -> bool {
+    let (op, [y, a, b], want) = *row;
+    match (divide(op, a, b, Icc::default(), y), want) {
+        (Some(out), Some((value, codes))) => out.value == value && out.icc == icc_of(codes),
+        (None, None) => true,
+        _ => false,
     }
-}
-
-/// Whether a division by zero gives nothing.
-fn is_undefined(op: Division) -> bool {
-    divide(op, 1, 0, Icc::default(), 0).is_none()
-}
-
-/// Whether no division by zero gives anything.
-fn are_undefined() -> bool {
-    is_undefined(Division::Udiv)
-        && is_undefined(Division::UdivCc)
-        && is_undefined(Division::Sdiv)
-        && is_undefined(Division::SdivCc)
 }
 
 /// Whether a step of a multiplication adds, and shifts Y.
@@ -33,14 +38,13 @@ fn steps() -> bool {
 
 #[test]
 fn quotients_and_steps_by_hand(rt: HostRuntime) {
-    let least = (0xffff_ffff, 0x8000_0000, 0xffff_ffff);
-    assert!(rt; divides(Division::SdivCc, least, 0x7fff_ffff, 2));
-    assert!(rt; divides(Division::UdivCc, (1, 0, 1), 0xffff_ffff, 10));
-    assert!(rt; are_undefined() && steps());
+    each_holds(&rt, &DIVIDED, divides);
+    assert!(rt; steps());
 }
 
-/// Whether a trapping form, Y 7 before it, gives this value and these codes and leaves Y; or nothing.
-fn gives(op: TaggedOp, a: u32, b: u32, want: Option<(u32, u8)>) -> bool {
+/// Whether a trapping form, Y 7 before it, gives its value and its codes and leaves Y; or nothing.
+fn gives(row: &Tagged) -> bool {
+    let (op, a, b, want) = *row;
     match (tagged_tv(op, a, b, Icc::default(), 7), want) {
         (Some(out), Some((value, codes))) => out
             == AluOut {
@@ -68,7 +72,5 @@ const TAGGED: [Tagged; 7] = [
 
 #[test]
 fn trapping_tagged_forms(rt: HostRuntime) {
-    for &(op, a, b, want) in &TAGGED {
-        assert!(rt; gives(op, a, b, want), "{a:x} {b:x}");
-    }
+    each_holds(&rt, &TAGGED, gives);
 }
