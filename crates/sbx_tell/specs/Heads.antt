@@ -41,10 +41,12 @@ abbrev pub instruction_text : Option ℕ → Event → List ℕ
 instruction_text (Some word) event = text_of (meaning word)
 instruction_text None event = unfetched_text event
 
+-- the number, the window, the mode, PC and the place, and a blank behind each
 abbrev pub place_line : List Function → ℕ → Turn → List ℕ
 place_line functions number t =
     number_text number ++ (codes " " ++ (window_text t.cwp ++ (codes " " ++ (mode_text t.user ++ (codes " " ++ (word_text t.pc
-    ++ (codes " " ++ place_text (place_of functions t.pc))))))))
+    ++ (codes " " ++ (place_text (place_of functions t.pc) ++ codes " "))))))))
 
+-- the instruction in column 34, or further on where what stands before it is longer
 abbrev pub head_text : List Function → ℕ → Turn → List ℕ
 head_text functions number t = padded_to 34 (place_line functions number t) ++ instruction_text t.word t.event

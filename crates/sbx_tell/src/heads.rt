@@ -11,7 +11,7 @@ use v8_core::{Event, Turn};
 use v8_formats::decode;
 use v8_forms::print_instr;
 
-/// The column of the instruction.
+/// The column of the instruction, where what stands before it isn't longer.
 const INSTRUCTION: usize = 34;
 
 /// What stands in the place of an instruction that wasn't fetched.
@@ -36,7 +36,7 @@ fn push_instruction(line: &mut String, turn: &Turn) -> Result<(), AllocError>
     line.push_str(text.as_str())
 }
 
-/// Pushes a turn's number, and the window, the mode and the place before it.
+/// Pushes a turn's number, and the window, the mode and the place before it, with a blank behind each.
 fn push_place(
     line: &mut String,
     functions: &[Function],
@@ -48,7 +48,7 @@ fn push_place(
     let (cwp, pc) = (turn.cwp, turn.pc);
     let mode = if turn.user { "u" } else { "s" };
     let place = place_of(functions, pc);
-    write!(line, "{number:6} {cwp:02} {mode} {pc:08X} {place}")
+    write!(line, "{number:6} {cwp:02} {mode} {pc:08X} {place} ")
 }
 
 /// Makes the text that a turn's line begins with, in the place of what the line held.

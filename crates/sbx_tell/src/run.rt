@@ -19,15 +19,6 @@ pub struct Run {
     pub trapped_at: u32,
 }
 
-/// What a run is asked for: the image, its input, and the most turns; and where its memory comes from.
-#[derive(Clone, Copy)]
-pub struct Request<'a> {
-    pub alloc: Global,
-    pub image: &'a Image,
-    pub input: &'a [u8],
-    pub limit: u64,
-}
-
 /// What a board tells of a run that stopped there.
 fn told_of<const N: usize>(alloc: Global, board: &Board<N, SlicePort<'_>>) -> Result<Run, RunFault>
     ensures told { IfOk result (IsToldOf N board.now.state) }
@@ -66,75 +57,25 @@ fn run_board<const N: usize, P: Progress>(
 
 /// The run on `N` windows, which are as many as the number says.
 fn run_on<const N: usize, P: Progress>(
-    request: &Request<'_>,
+    alloc: Global,
     windows: u32,
+    image: &Image,
+    input: &[u8],
+    limit: u64,
     progress: &mut P,
 ) -> Result<Run, RunFault>
     requires range { (4 ≤ N) × (N ≤ 32) }
     requires same { windows ≡ N }
-    ensures run { IfOk result (λ run. IsRun windows request.now.image.now request.now.input.now request.now.limit run) }
+    ensures run { IfOk result (λ run. IsRun windows image.now input.now limit run) }
     ensures fault { IfErr result (λ fault. fault ≡ RunFault.Memory refused) }
 {
     let _ = windows;
-    let mut board = begun::<N>(request.alloc, request.image, request.input)?;
-    run_board(request.alloc, &mut board, request.limit, progress)
-}
-
-/// The run on 4 to 10 windows.
-fn run_to_10<P: Progress>(
-    request: &Request<'_>,
-    windows: u32,
-    progress: &mut P,
-) -> Result<Run, RunFault>
-    requires { (4 ≤ windows) × (windows ≤ 10) }
-    ensures run { IfOk result (λ run. IsRun windows request.now.image.now request.now.input.now request.now.limit run) }
-    ensures fault { IfErr result (λ fault. fault ≡ RunFault.Memory refused) }
-{
-    on_windows!(windows, run_on [P] (request, windows, progress), 4 to 10)
-}
-
-/// The run on 11 to 17 windows.
-fn run_to_17<P: Progress>(
-    request: &Request<'_>,
-    windows: u32,
-    progress: &mut P,
-) -> Result<Run, RunFault>
-    requires { (11 ≤ windows) × (windows ≤ 17) }
-    ensures run { IfOk result (λ run. IsRun windows request.now.image.now request.now.input.now request.now.limit run) }
-    ensures fault { IfErr result (λ fault. fault ≡ RunFault.Memory refused) }
-{
-    on_windows!(windows, run_on [P] (request, windows, progress), 11 to 17)
-}
-
-/// The run on 18 to 24 windows.
-fn run_to_24<P: Progress>(
-    request: &Request<'_>,
-    windows: u32,
-    progress: &mut P,
-) -> Result<Run, RunFault>
-    requires { (18 ≤ windows) × (windows ≤ 24) }
-    ensures run { IfOk result (λ run. IsRun windows request.now.image.now request.now.input.now request.now.limit run) }
-    ensures fault { IfErr result (λ fault. fault ≡ RunFault.Memory refused) }
-{
-    on_windows!(windows, run_on [P] (request, windows, progress), 18 to 24)
-}
-
-/// The run on 25 to 32 windows.
-fn run_to_32<P: Progress>(
-    request: &Request<'_>,
-    windows: u32,
-    progress: &mut P,
-) -> Result<Run, RunFault>
-    requires { (25 ≤ windows) × (windows ≤ 32) }
-    ensures run { IfOk result (λ run. IsRun windows request.now.image.now request.now.input.now request.now.limit run) }
-    ensures fault { IfErr result (λ fault. fault ≡ RunFault.Memory refused) }
-{
-    on_windows!(windows, run_on [P] (request, windows, progress), 25 to 32)
+    let mut board = begun::<N>(alloc, image, input)?;
+    run_board(alloc, &mut board, limit, progress)
 }
 
 /// Runs an image that need not be verified on so many windows, 4 to 32, as `sbx_raw::run_raw` does, and tells in between how far it
-/// has come. Each count is a machine of its own, and each function has few of them, since a function costs its proof by its ways
-/// out. The only fault is `RunFault::Memory`.
+/// has come. Each count is a machine of its own. The only fault is `RunFault::Memory`.
 pub fn run_windows<P: Progress>(
     alloc: Global,
     windows: u32,
@@ -147,19 +88,5 @@ pub fn run_windows<P: Progress>(
     ensures run { IfOk result (λ run. IsRun windows image.now input.now limit run) }
     ensures fault { IfErr result (λ fault. fault ≡ RunFault.Memory refused) }
 {
-    let request = Request {
-        alloc,
-        image,
-        input,
-        limit,
-    };
-    if windows <= 10 {
-        run_to_10(&request, windows, progress)
-    } else if windows <= 17 {
-        run_to_17(&request, windows, progress)
-    } else if windows <= 24 {
-        run_to_24(&request, windows, progress)
-    } else {
-        run_to_32(&request, windows, progress)
-    }
+    on_windows!(windows, run_on [P] (alloc, windows, image, input, limit, progress), 4 to 32)
 }

@@ -2,7 +2,6 @@
 ghost use Rattle.std.specs.Prelude.{◌≡◌, ◌≢◌, ◌≤◌, IfErr, OnErr, OnOk};
 ghost use Rattle.sbx_tell.specs.Watched.{Watched, WatchedPart, WatchedRun, WatchedSome, WatchedTurn};
 
-use crate::run::Request;
 use crate::slices::Progress;
 use crate::teller::Teller;
 use sbx_counts::on_windows;
@@ -97,78 +96,22 @@ fn watch_board<const N: usize, W: Write, P: Progress>(
 
 /// The turns on `N` windows, which are as many as the number says.
 fn watch_on<const N: usize, W: Write, P: Progress>(
-    request: &Request<'_>,
+    alloc: Global,
     windows: u32,
+    image: &Image,
+    input: &[u8],
+    limit: u64,
     out: &mut W,
     progress: &mut P,
 ) -> Result<(), RunFault>
     requires range { (4 ≤ N) × (N ≤ 32) }
     requires same { windows ≡ N }
-    ensures { Watched windows request.now.image.now request.now.input.now request.now.limit (W.contents out.old) (W.contents out.new) result }
+    ensures { Watched windows image.now input.now limit (W.contents out.old) (W.contents out.new) result }
 {
     let _ = windows;
-    let mut board = begun::<N>(request.alloc, request.image, request.input)?;
-    let functions = request.image.functions();
-    watch_board(
-        request.alloc,
-        &mut board,
-        functions,
-        request.limit,
-        out,
-        progress,
-    )
-}
-
-/// The turns on 4 to 10 windows.
-fn watch_to_10<W: Write, P: Progress>(
-    request: &Request<'_>,
-    windows: u32,
-    out: &mut W,
-    progress: &mut P,
-) -> Result<(), RunFault>
-    requires { (4 ≤ windows) × (windows ≤ 10) }
-    ensures { Watched windows request.now.image.now request.now.input.now request.now.limit (W.contents out.old) (W.contents out.new) result }
-{
-    on_windows!(windows, watch_on [W P] (request, windows, out, progress), 4 to 10)
-}
-
-/// The turns on 11 to 17 windows.
-fn watch_to_17<W: Write, P: Progress>(
-    request: &Request<'_>,
-    windows: u32,
-    out: &mut W,
-    progress: &mut P,
-) -> Result<(), RunFault>
-    requires { (11 ≤ windows) × (windows ≤ 17) }
-    ensures { Watched windows request.now.image.now request.now.input.now request.now.limit (W.contents out.old) (W.contents out.new) result }
-{
-    on_windows!(windows, watch_on [W P] (request, windows, out, progress), 11 to 17)
-}
-
-/// The turns on 18 to 24 windows.
-fn watch_to_24<W: Write, P: Progress>(
-    request: &Request<'_>,
-    windows: u32,
-    out: &mut W,
-    progress: &mut P,
-) -> Result<(), RunFault>
-    requires { (18 ≤ windows) × (windows ≤ 24) }
-    ensures { Watched windows request.now.image.now request.now.input.now request.now.limit (W.contents out.old) (W.contents out.new) result }
-{
-    on_windows!(windows, watch_on [W P] (request, windows, out, progress), 18 to 24)
-}
-
-/// The turns on 25 to 32 windows.
-fn watch_to_32<W: Write, P: Progress>(
-    request: &Request<'_>,
-    windows: u32,
-    out: &mut W,
-    progress: &mut P,
-) -> Result<(), RunFault>
-    requires { (25 ≤ windows) × (windows ≤ 32) }
-    ensures { Watched windows request.now.image.now request.now.input.now request.now.limit (W.contents out.old) (W.contents out.new) result }
-{
-    on_windows!(windows, watch_on [W P] (request, windows, out, progress), 25 to 32)
+    let mut board = begun::<N>(alloc, image, input)?;
+    let functions = image.functions();
+    watch_board(alloc, &mut board, functions, limit, out, progress)
 }
 
 /// Runs an image on an input, on so many windows, 4 to 32, to an end, but at most so many turns, and writes a text for each: its
@@ -188,19 +131,5 @@ pub fn watch_windows<W: Write, P: Progress>(
     requires { (4 ≤ windows) × (windows ≤ 32) }
     ensures { Watched windows image.now input.now limit (W.contents out.old) (W.contents out.new) result }
 {
-    let request = Request {
-        alloc,
-        image,
-        input,
-        limit,
-    };
-    if windows <= 10 {
-        watch_to_10(&request, windows, out, progress)
-    } else if windows <= 17 {
-        watch_to_17(&request, windows, out, progress)
-    } else if windows <= 24 {
-        watch_to_24(&request, windows, out, progress)
-    } else {
-        watch_to_32(&request, windows, out, progress)
-    }
+    on_windows!(windows, watch_on [W P] (alloc, windows, image, input, limit, out, progress), 4 to 32)
 }

@@ -6,7 +6,7 @@ use Rattle.sbx_tell.proofs.run.run_on.Goals as goal
 
 pub returns-clause-run : goal.returns-clause-run
 returns-clause-run g c =
-    IfOk-weaker c.run_board.result _ _ (λ run is. told_on g.row.N c.args.windows c.args.request.now.image.now c.args.request.now.input.now c.args.request.now.limit c.in_ok-board.board.state
+    IfOk-weaker c.run_board.result _ _ (λ run is. told_on g.row.N c.args.windows c.args.image.now c.args.input.now c.args.limit c.in_ok-board.board.state
     c.run_board.new.board.state run c.requires.same c.in_ok-board.ensures.begun c.in_ok-board.ensures.contained is) c.run_board.ensures.run
 
 pub returns-clause-fault : goal.returns-clause-fault
