@@ -6,7 +6,7 @@ ghost use Rattle.sbx_inspect.specs.Sights.{IsSeen};
 
 use crate::sides::{Edge, push_budget_sides, push_edge_sides, push_end_sides};
 use crate::sights::{push_going, push_known};
-use crate::values::Sum;
+use crate::values::push_sum;
 use sbx_declare::Location;
 use sbx_domain::State;
 use sbx_faults::ends_run;
@@ -37,11 +37,8 @@ fn push_form_of(out: &mut String, location: u16, state: &State) -> Result<(), Al
     if terms.is_empty() {
         return Ok(());
     }
-    let value = Sum {
-        constant: form.constant(),
-        terms: terms.as_slice(),
-    };
-    writeln!(out, "    which is {value}, by what the block began with")
+    push_sum(out, "    which is ", form.constant(), terms.as_slice())?;
+    out.push_str(", by what the block began with\n")
 }
 
 /// What is known of the locations of a fuel's terms on the way to its block.
@@ -53,25 +50,16 @@ fn push_arrived(out: &mut String, terms: &[FormTerm], there: &State) -> Result<(
     Ok(())
 }
 
-/// A block's fuel, as a sum.
-fn sum_of(fuel: &Fuel) -> Sum<'_> {
-    Sum {
-        constant: fuel.constant,
-        terms: fuel.terms.as_slice(),
-    }
-}
-
 /// The fuel of a block, and the turns of its words up to here.
 fn push_own(out: &mut String, sides: &FuelSides, beginning: &State) -> Result<(), AllocError> {
-    let weight = sides.weight;
-    let fuel = sum_of(&sides.fuel);
-    let more = if fuel.terms.is_empty() {
-        ""
+    let (weight, terms) = (sides.weight, sides.fuel.terms.as_slice());
+    push_sum(out, "\nthe block's fuel is ", sides.fuel.constant, terms)?;
+    out.push_str(if terms.is_empty() {
+        "\n"
     } else {
-        ", where it begins with"
-    };
-    writeln!(out, "\nthe block's fuel is {fuel}{more}")?;
-    push_beginnings(out, fuel.terms, beginning)?;
+        ", where it begins with\n"
+    })?;
+    push_beginnings(out, terms, beginning)?;
     writeln!(out, "its turns to the end of this word are {weight}")
 }
 
@@ -129,10 +117,11 @@ fn push_edge(
     requires spot { IsSpot image.now spot.now }
     requires well { IsWell image.now spot.now.function going }
 {
-    let fuel = sum_of(edge.next);
+    let terms = edge.next.terms.as_slice();
     push_going(out, image, spot.function, going)?;
-    writeln!(out, ", whose fuel is {fuel}")?;
-    push_arrived(out, fuel.terms, edge.there)?;
+    push_sum(out, ", whose fuel is ", edge.next.constant, terms)?;
+    out.push_str("\n")?;
+    push_arrived(out, terms, edge.there)?;
     push_edge_sides(out, edge, weight)
 }
 

@@ -1,16 +1,14 @@
-//! What an operation reads.
+//! The registers that an operation reads.
 ghost use Rattle.std.specs.Prelude.{◌≡◌, ◌++◌, ◌∷◌, ◌+◌, ◌<◌, ◌≤◌, []};
 ghost use Rattle.arrayvec.specs.ArrayVec.{array_vec_len};
-ghost use Rattle.sbx_rules.specs.Operations.{address_reads, frame_offset, frame_word_read, moved_reads, reads_codes, reads_of, reads_y, second_reads, service_reads};
+ghost use Rattle.sbx_rules.specs.Operations.{address_reads, moved_reads, reads_of, second_reads, service_reads};
 
 use arrayvec::ArrayVec;
-use sbx_domain::{frame_word_of, offset_from_sp};
-use sbx_faults::is_framed;
+use sbx_faults::frame_offset;
 use sbx_flat::service_of;
 use sbx_image::Function;
-use v8_alu::Op;
 use v8_formats::Operand;
-use v8_meaning::{Exchange, Loading, MemoryOperand, Operation, Transfer, is_always, odd_of};
+use v8_meaning::{Exchange, MemoryOperand, Operation, Transfer, odd_of};
 use v8_word::{Reg, Size};
 
 /// Registers by number.
@@ -49,21 +47,6 @@ fn push_moved(registers: &mut Registers, transfer: Transfer, rd: Reg)
         }
         Transfer::Store(_) | Transfer::Exchange(Exchange::Register) => push(registers, rd),
         Transfer::Load(_) | Transfer::Exchange(Exchange::Ones) => {}
-    }
-}
-
-/// The offset from %sp of an LD or ST that names %sp or %fp and an immediate, in a framed function.
-fn frame_offset(function: &Function, transfer: Transfer, operand: &MemoryOperand) -> Option<i64>
-    ensures { result ≡ frame_offset function.now transfer operand.now }
-{
-    let moves_word = matches!(
-        transfer,
-        Transfer::Load(Loading::Word) | Transfer::Store(Size::Word)
-    );
-    if is_framed(function.kind) && moves_word {
-        offset_from_sp(function.frame, operand.rs1, operand.operand2)
-    } else {
-        None
     }
 }
 
@@ -110,45 +93,4 @@ pub(crate) fn registers_read(function: &Function, operation: &Operation) -> Regi
         _ => {}
     }
     registers
-}
-
-/// The location of the frame word that an operation reads, if it reads one.
-pub(crate) fn frame_word_read(function: &Function, operation: &Operation) -> Option<u16>
-    ensures { result ≡ frame_word_read function.now operation.now }
-{
-    match operation {
-        Operation::Transfer(Transfer::Load(Loading::Word), operand) => {
-            if is_framed(function.kind) {
-                frame_word_of(function.frame, operand)
-            } else {
-                None
-            }
-        }
-        _ => None,
-    }
-}
-
-/// Whether an operation reads the condition codes: ADDX, SUBX, MULScc and every branch but `ba`.
-pub(crate) fn reads_codes(operation: &Operation) -> bool
-    ensures { result ≡ reads_codes operation.now }
-{
-    match operation {
-        Operation::BranchOnCondition(branch) => !is_always(branch.cond),
-        Operation::Compute(op, _) => matches!(
-            *op,
-            Op::Addx | Op::AddxCc | Op::Subx | Op::SubxCc | Op::MulsCc
-        ),
-        _ => false,
-    }
-}
-
-/// Whether an operation reads Y: divisions, RDY and MULScc.
-pub(crate) fn reads_y(operation: &Operation) -> bool
-    ensures { result ≡ reads_y operation.now }
-{
-    match operation {
-        Operation::Divide(..) | Operation::ReadY(_) => true,
-        Operation::Compute(op, _) => matches!(*op, Op::MulsCc),
-        _ => false,
-    }
 }

@@ -5,6 +5,7 @@ ghost use Rattle.sbx_explain.specs.Values.{known_text, multiple_text};
 use sbx_declare::Location;
 use sbx_form::FormTerm;
 use sbx_image::Range;
+use std::alloc::AllocError;
 use std::fmt::{self, Display, Formatter, Write};
 
 fn multiple_text(alignment: u8) -> &'static str
@@ -36,21 +37,17 @@ impl Display for Known {
     }
 }
 
-/// A constant and multiples of locations: `4 + 16 * %l0`.
-#[derive(Clone, Copy)]
-pub(crate) struct Sum<'a> {
-    pub(crate) constant: i64,
-    pub(crate) terms: &'a [FormTerm],
-}
-
-impl Display for Sum<'_> {
-    fn fmt<W: Write>(&self, f: &mut Formatter<W>) -> fmt::Result {
-        let constant = self.constant;
-        write!(f, "{constant}")?;
-        for term in self.terms {
-            let (coefficient, location) = (term.coefficient, Location(term.location));
-            write!(f, " + {coefficient} * {location}")?;
-        }
-        Ok(())
+/// Pushes a constant and multiples of locations behind a heading: `4 + 16 * %l0`.
+pub(crate) fn push_sum(
+    out: &mut String,
+    heading: &str,
+    constant: i64,
+    terms: &[FormTerm],
+) -> Result<(), AllocError> {
+    write!(out, "{heading}{constant}")?;
+    for term in terms {
+        let (coefficient, location) = (term.coefficient, Location(term.location));
+        write!(out, " + {coefficient} * {location}")?;
     }
+    Ok(())
 }

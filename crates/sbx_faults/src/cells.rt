@@ -3,10 +3,9 @@ ghost use Rattle.std.specs.Prelude.{◌≡◌, ◌+◌, ◌≤◌, length, not};
 ghost use Rattle.std.specs.List.{list_all, list_any};
 ghost use Rattle.sbx_rules.specs.Known.{known, range_at};
 ghost use Rattle.sbx_rules.specs.Rules.{has_cells, has_outs, has_range, is_writable, lists_badly};
-ghost use Rattle.sbx_rules.specs.Ways.{names_cell};
 
 use crate::kinds::is_framed;
-use sbx_image::{Block, Cell, Function, Range, Term};
+use sbx_image::{Block, Cell, Function, Range};
 use sbx_range::is_within;
 use sbx_rules::State;
 
@@ -78,18 +77,4 @@ pub fn lists_badly(function: &Function, number: u16, block: &Block) -> bool
     } else {
         lists_unwritable(function, block.cells.as_slice())
     }
-}
-
-/// Whether a location is a cell's.
-pub fn names_cell(cells: &[Cell], location: u16) -> bool
-    ensures { result ≡ names_cell cells.now location }
-{
-    cells.iter().any(|cell| cell.location == location)
-}
-
-/// Whether a term names no cell.
-pub fn names_strange(cells: &[Cell], terms: &[Term]) -> bool
-    ensures { result ≡ list_any (λ t. not (names_cell cells.now t.location)) terms.now }
-{
-    terms.iter().any(|term| !names_cell(cells, term.location))
 }

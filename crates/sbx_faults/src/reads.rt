@@ -25,8 +25,8 @@ pub fn frame_offset(function: &Function, transfer: Transfer, operand: &MemoryOpe
     }
 }
 
-/// The location of the frame word that an operation reads.
-fn frame_word_read(function: &Function, operation: &Operation) -> Option<u16>
+/// The location of the frame word that an operation reads, if it reads one.
+pub fn frame_word_read(function: &Function, operation: &Operation) -> Option<u16>
     ensures { result ≡ frame_word_read function.now operation.now }
 {
     match operation {
@@ -123,8 +123,8 @@ fn reads_unknown(function: &Function, operation: &Operation, state: &State) -> b
     }
 }
 
-/// ADDX, SUBX, MULScc and every branch but `ba`.
-fn reads_codes(operation: &Operation) -> bool
+/// Whether an operation reads the condition codes: ADDX, SUBX, MULScc and every branch but `ba`.
+pub fn reads_codes(operation: &Operation) -> bool
     ensures { result ≡ reads_codes operation.now }
 {
     match operation {
@@ -137,8 +137,8 @@ fn reads_codes(operation: &Operation) -> bool
     }
 }
 
-/// Divisions, RDY and MULScc.
-fn reads_y(operation: &Operation) -> bool
+/// Whether an operation reads Y: divisions, RDY and MULScc.
+pub fn reads_y(operation: &Operation) -> bool
     ensures { result ≡ reads_y operation.now }
 {
     match operation {
