@@ -1,4 +1,5 @@
-! Puts out what comes in, up to 1,000 bytes.
+! Puts out what comes in, up to 1,000 bytes. It doesn't look whether more would come, and exits with 0 either way: lower.s is a
+! filter that tells.
 !
 ! Here the annotations say more than in hello.s: the verifier looks at one block at a time, and what it may take for
 ! granted where a block begins has to be written there.

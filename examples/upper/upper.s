@@ -1,4 +1,5 @@
-! Puts out what comes in with its lower-case letters made upper case, up to 100,000 bytes.
+! Puts out what comes in with its lower-case letters made upper case, up to 100,000 bytes. It doesn't look whether
+! more would come, and exits with 0 either way: lower.s is a filter that tells.
 !
 ! A leaf may use globals and outs: %o1 counts the bytes that are still allowed. Each test of %o0 makes its range narrower,
 ! and the block after the test lists the range that is left.

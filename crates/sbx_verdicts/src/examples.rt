@@ -6,11 +6,12 @@ use std::io::{Read, Write};
 use std::{fs, io};
 
 /// Programs, whether there is an input for each, and whether its image is kept. The last six are those of the lessons.
-static PROGRAMS: [(&str, bool, bool); 17] = [
+static PROGRAMS: [(&str, bool, bool); 18] = [
     ("hello", false, true),
     ("echo", true, true),
     ("countdown", false, true),
     ("upper", true, true),
+    ("lower", true, true),
     ("checksum", true, true),
     ("crc", true, true),
     ("sieve", false, true),
