@@ -86,7 +86,9 @@ module _ (n : ℕ) (parts : Parts) (made start end : BoardState n) (image : IsIm
       record {
         start = start;
         loaded = loaded;
+        state = state;
         run = run;
+        told = told;
         last = e.last ∙ ap (λ k. after n k start) turns;
         output = e.output;
         put_out = e.put_out;
@@ -116,11 +118,12 @@ after_stays n s (suc k) all = turn_stays n (after n k s) (after_stays n s k all)
 pub turns_stay : (n : ℕ) (old new : BoardState n) → Turns n old new → Stays n old → Stays n new
 turns_stay n old new t all = subst (Stays n) (sym t.is) (after_stays n old t.count all)
 
-pub stands_on : (n : ℕ) (image parts : Parts) (limit : ℕ) (old start new : BoardState n) → image ≡ parts → limit ≡ budget parts → IsStart n image old start → IsCutShort n limit start new → GoesOn n limit start new → StandsOn n parts old new
-stands_on n image parts limit old start new same most loaded cut goes_on =
+pub stands_on : (n : ℕ) (image parts : Parts) (limit : ℕ) (old start new : BoardState n) → image ≡ parts → limit ≡ budget parts → IsStart n image old start → IsState n start.mmu start.world → IsCutShort n limit start new → GoesOn n limit start new → StandsOn n parts old new
+stands_on n image parts limit old start new same most loaded state cut goes_on =
     record {
       start = start;
       loaded = subst (λ (p : Parts). IsStart n p old start) same loaded;
+      state = state;
       cut = subst (λ k. IsCutShort n k start new) most cut;
       goes_on = subst (λ k. GoesOn n k start new) most goes_on;
     }

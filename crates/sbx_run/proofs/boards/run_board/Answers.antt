@@ -16,7 +16,7 @@ pub returns-in_err-outcome-clause-stands : goal.returns-in_err-outcome-clause-st
 returns-in_err-outcome-clause-stands g c =
     let same = c.image-image.ensures.image in
     let p = err_from_is_err_and c.from_residual.result c.from_residual.ensures.1 in
-    rw p.1 (stands_on g.row.N c.image-image.result.now c.args.accepted.now c.budget.result c.args.board.now.state c.load.new.self.state c.run.new.self.state same (c.budget.ensures ∙ ap budget same) c.load.ensures.start c.in_err-outcome.ensures.stands c.in_err-outcome.ensures.goes_on)
+    rw p.1 (stands_on g.row.N c.image-image.result.now c.args.accepted.now c.budget.result c.args.board.now.state c.load.new.self.state c.run.new.self.state same (c.budget.ensures ∙ ap budget same) c.load.ensures.start c.load.ensures.state c.in_err-outcome.ensures.stands c.in_err-outcome.ensures.goes_on)
 
 pub returns-in_err-outcome-clause-state : goal.returns-in_err-outcome-clause-state
 returns-in_err-outcome-clause-state g c =
