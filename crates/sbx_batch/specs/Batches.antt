@@ -4,6 +4,7 @@ use Rattle.sbx_image.specs.Parts.{Parts}
 use Rattle.v8_board.specs.Seen.{State}
 use Rattle.v8_board.specs.Start.{IsNew}
 use Rattle.v8_board.specs.Contains.{Contains}
+use Rattle.sbx_raw.specs.Outputs.{without_output}
 use Rattle.sbx_run.specs.Answer.{EndsOn, IsAnswer, KeepsItsDepth, told_of}
 use Rattle.sbx_run.specs.declared.boards.Ended.{Ended}
 use Rattle.sbx_run.specs.declared.runner.Finished.{Finished}
@@ -34,6 +35,10 @@ pub record IsNext (n : ℕ) (parts : Parts) (input : List ℕ) (finished : Finis
   pub alone : (single : Finished) → IsAnswer parts n input single → AreAlike finished single
   pub depth : KeepsItsDepth parts n (told_of finished)
   pub contained : Contains n parts end
+
+-- the same, and what the board had put out at its end was taken from it
+abbrev pub LeavesNext : (n : ℕ) → Parts → List ℕ → Finished → State n → State n → Type 0
+LeavesNext n parts input finished old now = (end : State n) × IsNext n parts input finished old end × (now ≡ without_output end)
 
 -- ---- a list of runs
 

@@ -2,11 +2,11 @@
 ghost use Rattle.std.specs.Prelude.{◌≡◌, ◌≤◌, IfErr, IfOk, OnOk};
 ghost use Rattle.v8_loaded.specs.States.{IsState};
 ghost use Rattle.sbx_sound.specs.Law.{IsFormed};
-ghost use Rattle.sbx_batch.specs.Batches.{AreAnswers, IsNext, with_input};
+ghost use Rattle.sbx_batch.specs.Batches.{AreAnswers, LeavesNext, with_input};
 ghost use Rattle.want.specs.Wants.{refused};
 
 use sbx_image::Image;
-use sbx_raw::{SlicePort, fault_of};
+use sbx_raw::{SlicePort, fault_of, take_output};
 use sbx_run::{Accepted, Finished, RunFault, run_board, tells_limits};
 use std::alloc::Global;
 use v8_board::Board;
@@ -33,7 +33,8 @@ fn tells_form(image: &Image)
     image.keeps_its_format();
 }
 
-/// Runs an accepted image on an input to its end, on a board as an earlier run has left it. The only fault is `RunFault::Memory`.
+/// Runs an accepted image on an input to its end, on a board as an earlier run has left it, and takes what it put out. The only fault
+/// is `RunFault::Memory`.
 fn run_next<'a, const N: usize>(
     alloc: Global,
     board: &mut Board<N, SlicePort<'a>>,
@@ -41,7 +42,7 @@ fn run_next<'a, const N: usize>(
     input: &'a [u8],
 ) -> Result<Finished, RunFault>
     requires { IsState N board.old.state.mmu board.old.state.world }
-    ensures next { IfOk result (λ finished. IsNext N accepted.now input.now finished board.old.state board.new.state) }
+    ensures next { IfOk result (λ finished. LeavesNext N accepted.now input.now finished board.old.state board.new.state) }
     ensures state { OnOk result (IsState N board.new.state.mmu board.new.state.world) }
     ensures fault { IfErr result (λ fault. fault ≡ RunFault.Memory refused) }
 {
@@ -53,18 +54,14 @@ fn run_next<'a, const N: usize>(
         Ok(ended) => ended,
         Err(fault) => return Err(fault_of(board, fault)),
     };
-    let mut output = Vec::new(alloc);
-    match output.extend_from_slice(board.port().output()) {
-        Ok(()) => Ok(Finished {
-            status: ended.status,
-            output,
-            turns: ended.turns,
-            overflows: ended.overflows,
-            underflows: ended.underflows,
-            pages: ended.pages,
-        }),
-        Err(error) => Err(RunFault::from(error)),
-    }
+    Ok(Finished {
+        status: ended.status,
+        output: take_output(alloc, board),
+        turns: ended.turns,
+        overflows: ended.overflows,
+        underflows: ended.underflows,
+        pages: ended.pages,
+    })
 }
 
 /// Runs accepted images, each on its input and to its end, one after another on one board of `N` windows, 4 to 32, and gives what each

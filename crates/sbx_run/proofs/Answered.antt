@@ -1,14 +1,16 @@
 -- What a run of an accepted image answers.
-use Rattle.std.proofs.Common.{◌≡◌, ℕ, zero, suc, List, [], sym, ap, ◌∙◌, subst}
+use Rattle.std.proofs.Common.{◌≡◌, ℕ, zero, suc, ◌+◌, List, [], sym, ap, ◌∙◌, subst}
+use Rattle.v8_core.specs.Answers.{Grows}
 use Rattle.v8_memory.specs.Board.{Device}
 use Rattle.v8_loaded.specs.States.{IsState}
 use Rattle.v8_board.proofs.States.{states_stay}
 use Rattle.v8_board.specs.declared.outcome.Ending.{Ending}
 use Rattle.v8_board.specs.declared.outcome.Ending.TheVariants.{Exit}
 use Rattle.v8_board.specs.declared.outcome.Outcome.{Outcome}
+use Rattle.v8_board.specs.Calls.{calls_in}
 use Rattle.v8_board.specs.Marks.{page_use_of}
 use Rattle.v8_board.specs.Runs.{GoesOn, IsCutShort, IsRun, Turns, after, outcome_of}
-use Rattle.v8_board.specs.Seen.{State as BoardState, turned}
+use Rattle.v8_board.specs.Seen.{Seen, State as BoardState, turned}
 use Rattle.v8_board.specs.Start.{IsStart}
 use Rattle.sbx_image.specs.Parts.{Parts}
 use Rattle.sbx_flat.specs.Runs.{AreBytes, FlatSafe, budget}
@@ -86,7 +88,9 @@ module _ (n : ℕ) (parts : Parts) (made start end : BoardState n) (image : IsIm
       record {
         start = start;
         loaded = loaded;
+        state = state;
         run = run;
+        told = told;
         last = e.last ∙ ap (λ k. after n k start) turns;
         output = e.output;
         put_out = e.put_out;
@@ -116,11 +120,35 @@ after_stays n s (suc k) all = turn_stays n (after n k s) (after_stays n s k all)
 pub turns_stay : (n : ℕ) (old new : BoardState n) → Turns n old new → Stays n old → Stays n new
 turns_stay n old new t all = subst (Stays n) (sym t.is) (after_stays n old t.count all)
 
-pub stands_on : (n : ℕ) (image parts : Parts) (limit : ℕ) (old start new : BoardState n) → image ≡ parts → limit ≡ budget parts → IsStart n image old start → IsCutShort n limit start new → GoesOn n limit start new → StandsOn n parts old new
-stands_on n image parts limit old start new same most loaded cut goes_on =
+-- a run, or one that the port cut short, with the calls of its port
+abbrev pub RunAsks : (n limit : ℕ) → BoardState n → BoardState n → ℕ → ℕ → Type 0
+RunAsks n limit start end before now = (run : IsRun n limit start end) × Grows (calls_in n run.turns.count start) before now
+
+abbrev pub CutAsks : (n limit : ℕ) → BoardState n → BoardState n → ℕ → ℕ → Type 0
+CutAsks n limit start end before now = (cut : IsCutShort n limit start end) × Grows (calls_in n cut.turns.count start + 1) before now
+
+pub run_asks : (n : ℕ) (image parts : Parts) (limit : ℕ) (old loaded new : Seen n) → image ≡ parts → limit ≡ budget parts → IsStart n image old.state loaded.state → loaded.calls ≡ old.calls
+    → RunAsks n limit loaded.state new.state loaded.calls new.calls → (start : BoardState n) × IsStart n parts old.state start × RunAsks n (budget parts) start new.state old.calls new.calls
+run_asks n image parts limit old loaded new same most start kept asks = (
+  loaded.state,
+  subst (λ (p : Parts). IsStart n p old.state loaded.state) same start,
+  subst (λ k. RunAsks n k loaded.state new.state old.calls new.calls) most (subst (λ a. RunAsks n limit loaded.state new.state a new.calls) kept asks),
+)
+
+pub cut_asks : (n : ℕ) (image parts : Parts) (limit : ℕ) (old loaded new : Seen n) → image ≡ parts → limit ≡ budget parts → IsStart n image old.state loaded.state → loaded.calls ≡ old.calls
+    → CutAsks n limit loaded.state new.state loaded.calls new.calls → (start : BoardState n) × IsStart n parts old.state start × CutAsks n (budget parts) start new.state old.calls new.calls
+cut_asks n image parts limit old loaded new same most start kept asks = (
+  loaded.state,
+  subst (λ (p : Parts). IsStart n p old.state loaded.state) same start,
+  subst (λ k. CutAsks n k loaded.state new.state old.calls new.calls) most (subst (λ a. CutAsks n limit loaded.state new.state a new.calls) kept asks),
+)
+
+pub stands_on : (n : ℕ) (image parts : Parts) (limit : ℕ) (old start new : BoardState n) → image ≡ parts → limit ≡ budget parts → IsStart n image old start → IsState n start.mmu start.world → IsCutShort n limit start new → GoesOn n limit start new → StandsOn n parts old new
+stands_on n image parts limit old start new same most loaded state cut goes_on =
     record {
       start = start;
       loaded = subst (λ (p : Parts). IsStart n p old start) same loaded;
+      state = state;
       cut = subst (λ k. IsCutShort n k start new) most cut;
       goes_on = subst (λ k. GoesOn n k start new) most goes_on;
     }

@@ -103,7 +103,12 @@ module _ (n : ℕ) (parts : Parts) (made start end : BoardState n) (image : IsIm
         };
         last = last ∙ ap (λ k. after n k start) (sym so_many);
         own = record {
-          each = subst (λ k. (j : ℕ) → j < k → IsTurnBeside n parts input earlier (after n j start)) (sym so_many) c.each;
+          path = c.path;
+          last = f.state;
+          word = f.status;
+          run = c.run;
+          exit = f.over.exit;
+          each = subst (λ k. (j : ℕ) → j < k → IsTurnBeside n parts earlier c.path c.run.0 f.state j (after n j start)) (sym so_many) c.each;
           pages = subst (λ (b : BoardState n). UsesOwnPages parts (page_use_of b.world.memory.ram)) (sym stands) (uses_own parts f.last.memory.ram f.over.marks);
         };
       }

@@ -3,7 +3,7 @@ ghost use Rattle.std.specs.Prelude.{◌≡◌, IfErr, IfOk, OnErr};
 ghost use Rattle.v8_mmu.specs.Answers.{failed_after};
 ghost use Rattle.v8_loaded.specs.States.{IsState};
 ghost use Rattle.v8_board.specs.Contains.{Contains};
-ghost use Rattle.sbx_run.specs.Answer.{EndsOn, KeepsItsDepth, StandsOn, told_of_board};
+ghost use Rattle.sbx_run.specs.Answer.{AsksOn, EndsOn, KeepsItsDepth, StandsOn, told_of_board};
 
 use crate::limits::tells_limits;
 use sbx_raw::{Ending, PageUse};
@@ -24,8 +24,9 @@ pub struct Ended {
 
 /// Loads an accepted image into a board and runs it to its end, on the input that the board's port has to give: whatever the board's
 /// registers, its stack and the image before left. The image exits within its budget, as every run on the flat machine does, and the
-/// board stands where the last turn left it; with so many windows as `run_accepted` says none overflows or underflows. On a fault of the port it stands after the last whole turn, and `Board::run` goes on with
-/// the turns that are left of the budget; the port's count of failures rose by one, as it does nowhere else.
+/// board stands where the last turn left it; with so many windows as `run_accepted` says none overflows or underflows. On a fault of
+/// the port it stands after the last whole turn, and `Board::run` goes on with the turns that are left of the budget; the port's count
+/// of failures rose by one, as it does nowhere else. The port is called at most once a turn, and once more where it fails.
 pub fn run_board<const N: usize, P: Port>(
     board: &mut Board<N, P>,
     accepted: &Accepted,
@@ -36,6 +37,7 @@ pub fn run_board<const N: usize, P: Port>(
     ensures state { IsState N board.new.state.mmu board.new.state.world }
     ensures contained { Contains N accepted.now board.new.state }
     ensures count { board.new.failed ≡ failed_after result board.old.failed }
+    ensures calls { AsksOn N accepted.now board.old board.new result }
     ensures own { IfErr result (λ fault. board.new.fault ≡ fault) }
 {
     let image = accepted.image();

@@ -33,10 +33,12 @@ use Rattle.sbx_port.proofs.Tracked.{bytes_after, no_bytes}
 use Rattle.sbx_raw.specs.Runs.{IsBegun}
 use Rattle.sbx_run.specs.RunFault.{RunFault}
 use Rattle.sbx_run.specs.RunFault.TheVariants.{Memory, Reader, Writer}
-use Rattle.sbx_run.specs.Answer.{ExitsAsFlat, IsFlatEnd, KeepsToItsOwn, told_of}
+use Rattle.sbx_run.specs.Answer.{ExitsAsFlat, IsFlatEnd, KeepsItsDepth, KeepsToItsOwn, told_of}
+use Rattle.sbx_run.specs.Law.{DepthIsEnough}
 use Rattle.sbx_run.specs.declared.runner.Finished.{Finished}
 use Rattle.sbx_run.proofs.Ends.{safe_images_exit}
-use Rattle.sbx_stream.specs.Streams.{IsAnswerWritten, IsFront, IsReady, IsStreamed, Says, named}
+use Rattle.sbx_run.proofs.Quiet.{keeps_its_depth}
+use Rattle.sbx_stream.specs.Streams.{IsAnswerWritten, IsContainedBeyond, IsContainedRun, IsFront, IsReady, IsStreamed, Says, named}
 
 one_status : (s t : ℕ) → Exit s ≡ Exit t → s ≡ t
 one_status s t e = cc
@@ -85,6 +87,17 @@ module _ (n : ℕ) (parts : Parts) (board : Seen n) (ready : IsReady n parts boa
       }
 
   module _ (image : IsImage parts) (safe : FlatSafe parts) (bytes : AreBytes input) (end : State n) (run : IsRun n (budget parts) (with_input board.state input) end) where
+    contained_so : (written rest : List ℕ) → end.world.memory.device.output ≡ written ++ rest → IsContainedRun parts n input written
+    contained_so written rest put = record {
+      start = with_input board.state input;
+      end = end;
+      begun = begun_on;
+      run = run;
+      kept = run_kept n (budget parts) (with_input board.state input) end run parts (contained_on n (pages_of parts) (contents_of parts) board.state.mmu board.state.world input ready.contained);
+      rest = rest;
+      put_out = put;
+    }
+
     exits_so : ExitsAsFlat n parts input [] (with_input board.state input) end
     unfolding begun_on
     exits_so =
@@ -123,6 +136,10 @@ module _ (n : ℕ) (parts : Parts) (board : Seen n) (ready : IsReady n parts boa
 
 -- ---- whole runs
 
+none_beyond : (met : Bool) → AreBytes (beyond met [])
+none_beyond true = no_bytes
+none_beyond false = no_bytes
+
 module _ (n : ℕ) (parts : Parts) (board : Seen n) (ready : IsReady n parts board) (image : IsImage parts) (safe : FlatSafe parts) (a b c d : Option (List ℕ)) where
   -- a board that was run has exited
   pub has_exited : (now : State n) → Streamed a b c d (RunsAs n board.state (budget parts) now) → (status : ℕ) × ((outcome_of n now).ending ≡ Exit status)
@@ -130,10 +147,16 @@ module _ (n : ℕ) (parts : Parts) (board : Seen n) (ready : IsReady n parts boa
       let (end, run, beside) = runs [] in
       let so = exits_so n parts board ready (read ++ beyond met []) image safe (bytes_after read (beyond met []) bytes (none_beyond met)) end run in
       (so.status, ap (λ (o : Outcome). o.ending) (outcome_beside n written now end beside) ∙ so.flat.exits)
-    where
-      none_beyond : (met : Bool) → AreBytes (beyond met [])
-      none_beyond true = no_bytes
-      none_beyond false = no_bytes
+
+  -- and where there are windows enough for its declared depth, none overflowed and none underflowed
+  pub quiet : (now : State n) (finished : Finished) → told_of finished ≡ outcome_of n now → DepthIsEnough parts → Streamed a b c d (RunsAs n board.state (budget parts) now)
+      → KeepsItsDepth parts n (told_of finished)
+  quiet now finished told depth (read, met, written, runs, bytes, got, all, put_out) =
+      let (end, run, beside) = runs [] in
+      let input = read ++ beyond met [] in
+      let fit = bytes_after read (beyond met []) bytes (none_beyond met) in
+      let so = exits_so n parts board ready input image safe fit end run in
+      subst (KeepsItsDepth parts n) (sym (told ∙ outcome_beside n written now end beside)) (keeps_its_depth parts n input so.output so.status (outcome_of n end) depth fit so.flat)
 
   pub streamed : (now : State n) (finished : Finished) → told_of finished ≡ outcome_of n now → finished.pages ≡ page_use_of now.world.memory.ram
       → Streamed a b c d (RunsAs n board.state (budget parts) now) → Streamed a b c d (IsStreamed parts n finished)
@@ -169,6 +192,33 @@ module _ (n : ℕ) (parts : Parts) (board : Seen n) (ready : IsReady n parts boa
         all,
         put_out,
       )
+
+  contained_by : (fault : StreamFault) (read : List ℕ) (met : Bool) (written : List ℕ) → ((j : List ℕ) → AreBytes (beyond met j) → IsContainedRun parts n (read ++ beyond met j) written)
+      → IsContainedBeyond parts n (named fault) read met written
+  contained_by streams.Reader read met written so = so
+  contained_by streams.Writer read met written so = so
+
+  pub contained : (fault : StreamFault) (told : RunFault) → told ≡ named fault → Streamed a b c d (RunsOn n board.state (budget parts) fault)
+      → Streamed a b c d (IsContainedBeyond parts n told)
+  contained fault told is (read, met, written, runs, bytes, got, all, put_out) =
+      subst (λ (f : RunFault). Streamed a b c d (IsContainedBeyond parts n f)) (sym is) (
+        read,
+        met,
+        written,
+        contained_by fault read met written (λ j fit.
+            let (end, run, rest, put, says) = runs j in
+            contained_so n parts board ready (read ++ beyond met j) image safe (bytes_after read (beyond met j) bytes fit) end run written rest put),
+        bytes,
+        got,
+        all,
+        put_out,
+      )
+
+-- where there was no memory there was no run
+pub no_run : (parts : Parts) (n : ℕ) (fault : RunFault) (reader writer : Option (List ℕ)) → fault ≡ Memory refused → Streamed reader reader writer writer (IsContainedBeyond parts n fault)
+no_run parts n fault reader writer is =
+    subst (λ (f : RunFault). Streamed reader reader writer writer (IsContainedBeyond parts n f)) (sym is)
+    ([], false, [], refl, no_bytes, Consumes-nil reader, (λ yes. search rules), Appends-nil writer)
 
 -- where there was no memory nothing was read or written
 pub no_memory : (parts : Parts) (safe : FlatSafe parts) (fault : RunFault) (reader writer : Option (List ℕ)) → fault ≡ Memory refused → Streamed reader reader writer writer (IsFront parts fault)

@@ -54,6 +54,23 @@ IsFront parts fault read met written =
     (j : List ℕ) → AreBytes (beyond met j) →
     (rest : List ℕ) × (status : ℕ) × (path : List Place) × Behaves parts (read ++ beyond met j) (written ++ rest) status path × Says fault read met written rest
 
+-- The board run of the image from the start that loading makes of a new board, with the budget as its limit: what was written are the
+-- first bytes that it puts out, each of its turns is one that containment allows, and at its end what was loaded is as it was.
+pub record IsContainedRun (parts : Parts) (n : ℕ) (input written : List ℕ) : Type 0 where
+  pub start : State n
+  pub end : State n
+  pub begun : IsBegun n parts input start
+  pub run : IsRun n (budget parts) start end
+  pub kept : Contains n parts end
+  pub rest : List ℕ
+  pub put_out : end.world.memory.device.output ≡ written ++ rest
+
+-- The run that a stream's fault ended is so on every such input. Where memory was refused there was none.
+abbrev pub IsContainedBeyond : Parts → ℕ → RunFault → List ℕ → Bool → List ℕ → Type 0
+IsContainedBeyond parts n (Memory want) read met written = written ≡ []
+IsContainedBeyond parts n Reader read met written = (j : List ℕ) → AreBytes (beyond met j) → IsContainedRun parts n (read ++ beyond met j) written
+IsContainedBeyond parts n Writer read met written = (j : List ℕ) → AreBytes (beyond met j) → IsContainedRun parts n (read ++ beyond met j) written
+
 -- ---- on the way
 
 -- a new board into which an image was loaded, and which waits for its input

@@ -2,8 +2,8 @@
 ghost use Rattle.std.specs.Prelude.{◌≡◌, ◌≤◌, ℕ, [], IfErr, IfOk};
 ghost use Rattle.v8_board.specs.declared.outcome.Ending.TheVariants.{Exit};
 ghost use Rattle.sbx_port.specs.Streams.{Streamed};
-ghost use Rattle.sbx_run.specs.Answer.{told_of};
-ghost use Rattle.sbx_stream.specs.Streams.{IsFront, IsReady, IsStreamed, named};
+ghost use Rattle.sbx_run.specs.Answer.{KeepsItsDepth, told_of};
+ghost use Rattle.sbx_stream.specs.Streams.{IsContainedBeyond, IsFront, IsReady, IsStreamed, named};
 ghost use Rattle.want.specs.Wants.{refused};
 
 use sbx_image::Image;
@@ -66,9 +66,10 @@ fn fault_of(fault: StreamFault) -> RunFault
 /// output.
 ///
 /// On Ok what was written is the output that `run_accepted` has, and the status, the counts and the pages are its own, on every input
-/// that begins with the bytes read, or on these alone where their end was met; `output` is empty. On a fault what was written are the
-/// first bytes of that output. `Memory` comes before anything is read or written, `Reader` where the input's end wasn't met, and
-/// `Writer` where the output goes on.
+/// that begins with the bytes read, or on these alone where their end was met; `output` is empty. An image of version 3 overflows and
+/// underflows no window where `N` is at least two more than its first function's declared depth. On a fault what was written are the
+/// first bytes of that output, and the run that the fault ended is contained. `Memory` comes before anything is read or written,
+/// `Reader` where the input's end wasn't met, and `Writer` where the output goes on.
 pub fn run_stream<const N: usize, R: Read, W: Write>(
     alloc: Global,
     accepted: &Accepted,
@@ -78,8 +79,11 @@ pub fn run_stream<const N: usize, R: Read, W: Write>(
     requires { (4 ≤ N) × (N ≤ 32) }
     ensures whole { IfOk result (λ finished. Streamed (R.remaining reader.old) (R.remaining reader.new) (W.contents writer.old) (W.contents writer.new)
         (IsStreamed accepted.now N finished)) }
+    ensures depth { IfOk result (λ finished. KeepsItsDepth accepted.now N (told_of finished)) }
     ensures part { IfErr result (λ fault. Streamed (R.remaining reader.old) (R.remaining reader.new) (W.contents writer.old) (W.contents writer.new)
         (IsFront accepted.now fault)) }
+    ensures contained { IfErr result (λ fault. Streamed (R.remaining reader.old) (R.remaining reader.new) (W.contents writer.old) (W.contents writer.new)
+        (IsContainedBeyond accepted.now N fault)) }
     ensures output { IfOk result (λ finished. finished.output.items ≡ []) }
 {
     let image = accepted.image();

@@ -1,6 +1,7 @@
 -- Steps one after the other: the board's run beside the flat run, its counts and the window traffic of the path.
 use Rattle.std.proofs.Common.{◌≡◌, ℕ, zero, suc, ◌+◌, ◌-◌, ◌^◌, ◌<◌, ◌≤◌, ◌⊎◌, inl, inr, Bool, true, false, List, [], ◌∷◌, ◌++◌, Option, Some, None, refl, sym, ap, ◌∙◌, subst, arith}
 use Rattle.std.specs.Prelude.{◌==◌, if◌then◌else◌}
+use Rattle.std.proofs.lemmas.List.{append_assoc}
 use Rattle.v8_core.specs.Operation.{Operation}
 use Rattle.v8_core.specs.Operation.TheVariants.{Save, Restore}
 use Rattle.v8_core.specs.MmuRegs.{MmuRegs}
@@ -27,7 +28,7 @@ use Rattle.sbx_shows.specs.Shows.{Shows}
 use Rattle.sbx_shows.specs.Steps.{Over}
 use Rattle.sbx_shows.specs.Turns.{IsOwnTurn}
 use Rattle.sbx_shows.proofs.Traffics.{traffic_more}
-use Rattle.sbx_windows.specs.Runs.{Came, Finishes, stands, with_earlier}
+use Rattle.sbx_windows.specs.Runs.{Came, Finishes, IsTurnBeside, stands, with_earlier}
 use Rattle.sbx_windows.proofs.Earlier.{earlier_place, earlier_step}
 
 -- ---- turns of a world as turns of a board that counts them
@@ -96,6 +97,24 @@ module _ (n : ℕ) (parts : Parts) (input earlier : List ℕ) (start : BoardStat
   abbrev flat_next : (x : World n Device) (s : State) (r : ℕ) (t : Taken x s r) → (to : State) × Step parts s to × (t.advances.next_state ≡ with_earlier earlier to)
   flat_next x s r t = earlier_step earlier parts s t.advances.next_state t.advances.step
 
+  -- a turn beside a run is one beside the run with a step more
+  later_beside : (before : BoardState n) (path : List Place) (first s to : State) (j : ℕ) → Step parts s to → IsTurnBeside n parts earlier path first s j before
+      → IsTurnBeside n parts earlier (path ++ place_of parts s ∷ []) first to j before
+  later_beside before path first s to j one b =
+      let place = place_of parts s in
+      record {
+        way = b.way;
+        rest = b.rest ++ place ∷ [];
+        state = b.state;
+        path_is = ap (λ (p : List Place). p ++ place ∷ []) b.path_is ∙ append_assoc b.way (place_of parts b.state ∷ b.rest) (place ∷ []);
+        run = b.run;
+        goes_on = run_more parts b.state s to (place_of parts b.state ∷ b.rest) b.goes_on one;
+        since = b.since;
+        until = b.until;
+        moment = b.moment;
+        own = b.own;
+      }
+
   came_more : (x : World n Device) (s : State) (r : ℕ) (c : Came n parts input earlier start x s r) (t : Taken x s r) → Came n parts input earlier start (after board n start.mmu t.count x) (flat_next x s r t).0 t.windows
   came_more x s r c t =
       let a = t.advances in
@@ -139,7 +158,7 @@ module _ (n : ℕ) (parts : Parts) (input earlier : List ℕ) (start : BoardStat
         each = λ j less.
             let split : (j < c.turns) ⊎ (c.turns ≤ j) = search arith in
             elim split [
-              | inl before ↦ c.each j before
+              | inl before ↦ later_beside (board_after n j start) c.path c.run.0 s to.0 j to.1 (c.each j before)
               | inr from ↦
                   let i = j - c.turns in
                   let sum : c.turns + i ≡ j = omega arith in
@@ -147,10 +166,17 @@ module _ (n : ℕ) (parts : Parts) (input earlier : List ℕ) (start : BoardStat
                   let same : (turned n (board_after n j start)).0 ≡ turn_at board n start.mmu i x =
                   ap (λ (b : BoardState n). (turned n b).0) here
                   ∙ ap (λ (p : Turn × BoardState n). p.0) (turn_is n start.mmu (after board n start.mmu i x) (counts_by n start.mmu x i counts) (a.going i (omega arith))) in
+                  let so_far : (traffic parts n c.path).turns ≡ c.turns = ap (λ (f : Traffic). f.turns) c.traffic_is in
+                  let so_many_now : (traffic parts n path).turns ≡ c.turns + t.count = ap (λ (f : Traffic). f.turns) traffic_now in
                   record {
                     way = c.path;
+                    rest = [];
                     state = s;
-                    run = c.run;
+                    path_is = refl;
+                    run = c.run.2;
+                    goes_on = (to.0, refl, to.1, refl);
+                    since = omega (arith, so_far);
+                    until = omega (arith, so_many_now);
                     moment = subst (λ (b : BoardState n). IsMoment n parts b.world (with_earlier earlier s)) (sym here) (a.moments i (omega arith));
                     own = subst (IsOwnTurn parts (with_earlier earlier s)) (sym same) (a.own i (omega arith));
                   }

@@ -1,5 +1,5 @@
 -- The second law: what a run of a safe image is on a board with any count of windows, moment by moment and at its end.
-use Rattle.std.specs.Prelude.{ℕ, ◌≡◌, ◌^◌, ◌<◌, ◌≤◌, List, ◌++◌, None}
+use Rattle.std.specs.Prelude.{ℕ, ◌≡◌, ◌^◌, ◌<◌, ◌≤◌, List, [], ◌∷◌, ◌++◌, None}
 use Rattle.std.specs.List.{AllByRecursion}
 use Rattle.v8_core.specs.MmuRegs.{MmuRegs}
 use Rattle.v8_core.specs.Accesses.{World}
@@ -11,7 +11,7 @@ use Rattle.sbx_shows.specs.Seen.{State as BoardState, ending_of, turned}
 use Rattle.sbx_shows.specs.Start.{IsStart}
 use Rattle.sbx_flat.specs.Parts.{Parts}
 use Rattle.sbx_shows.specs.Spelling.{IsTypedRegion}
-use Rattle.sbx_flat.specs.Runs.{AreBytes, FlatRun, FlatSafe, budget, weight}
+use Rattle.sbx_flat.specs.Runs.{AreBytes, FlatRun, FlatSafe, Run, budget, place_of, weight}
 use Rattle.sbx_flat.specs.States.{State}
 use Rattle.sbx_flat.specs.Traffic.{traffic}
 use Rattle.sbx_flat.specs.declared.path.Place.{Place}
@@ -28,16 +28,23 @@ stands n w mmu c = record { world = w; mmu = mmu; counts = c }
 abbrev pub with_earlier : List ℕ → State → State
 with_earlier earlier s = record s { output = earlier ++ s.output }
 
--- A turn, and the moment before it, beside a state of a flat run: outside the vectors and handlers the flat state is shown, and the
--- turn is one that the image may make there.
-pub record IsTurnBeside (n : ℕ) (parts : Parts) (input earlier : List ℕ) (before : BoardState n) : Type 0 where
+-- The turn of this number, and the moment before it, beside the state of a flat run whose step it belongs to: on n windows the way to
+-- that state takes so many turns or fewer, and with its own step more. The run goes from its first state there, and on to its last.
+-- Outside the vectors and handlers that state is shown, and the turn is one that the image may make there.
+pub record IsTurnBeside (n : ℕ) (parts : Parts) (earlier : List ℕ) (path : List Place) (first last : State) (number : ℕ) (before : BoardState n) : Type 0 where
   pub way : List Place
+  pub rest : List Place
   pub state : State
-  pub run : FlatRun parts input way state
+  pub path_is : path ≡ way ++ place_of parts state ∷ rest
+  pub run : Run parts first way state
+  pub goes_on : Run parts state (place_of parts state ∷ rest) last
+  pub since : (traffic parts n way).turns ≤ number
+  pub until : number < (traffic parts n (way ++ place_of parts state ∷ [])).turns
   pub moment : IsMoment n parts before.world (with_earlier earlier state)
   pub own : IsOwnTurn parts (with_earlier earlier state) (turned n before).0
 
--- The board came here from its start beside a flat run, in as many turns, overflows and underflows as the traffic of its path has.
+-- The board came here from its start beside a flat run, in as many turns, overflows and underflows as the traffic of its path has, and
+-- each turn beside the state of that run whose step it belongs to.
 pub record Came (n : ℕ) (parts : Parts) (input earlier : List ℕ) (start : BoardState n) (x : World n Device) (s : State) (r : ℕ) : Type 0 where
   pub path : List Place
   pub run : FlatRun parts input path s
@@ -48,7 +55,7 @@ pub record Came (n : ℕ) (parts : Parts) (input earlier : List ℕ) (start : Bo
   pub few : (overflows ≤ turns) × (underflows ≤ turns) × (turns ≤ weight parts path)
   pub board_stands : board_after n turns start ≡ stands n x start.mmu (record { turns = turns; overflows = overflows; underflows = underflows })
   pub going : (j : ℕ) → j < turns → ending_of n (board_after n j start).world ≡ None
-  pub each : (j : ℕ) → j < turns → IsTurnBeside n parts input earlier (board_after n j start)
+  pub each : (j : ℕ) → j < turns → IsTurnBeside n parts earlier path run.0 s j (board_after n j start)
 
 -- Both have ended with the same exit word; what the board put out after its earlier output is the flat run's.
 pub record Finishes (n : ℕ) (parts : Parts) (input earlier : List ℕ) (start : BoardState n) : Type 0 where

@@ -4,6 +4,7 @@ pub mod Running
 pub mod Sizes
 pub mod MarkSums
 pub mod Joined
+pub mod Asking
 pub mod Contained
 pub use Rattle.sbx_image.proofs.Within
 pub use Rattle.v8_contained.proofs.Stays

@@ -1,6 +1,7 @@
 -- Laws of runs: calls that follow one another make one run of the board; and of what is loaded.
-use Rattle.std.specs.Prelude.{ℕ, ◌≡◌, ◌+◌, None}
+use Rattle.std.specs.Prelude.{ℕ, ◌≡◌, ◌+◌, ◌≤◌, None}
 use Rattle.sbx_image.specs.Parts.{Parts}
+use Rattle.v8_board.specs.Calls.{calls_in}
 use Rattle.v8_board.specs.Contains.{Contains, StaysContained}
 use Rattle.v8_board.specs.Seen.{State, ending_of, turned}
 use Rattle.v8_board.specs.Runs.{Turns, IsRun, IsCutShort}
@@ -24,6 +25,10 @@ CutRunsJoin = (n a b : ℕ) (s m e : State n) → (c : IsCutShort n a s m) → I
 -- two runs from one state with one limit end in one state
 abbrev pub RunsAgree : Type 0
 RunsAgree = (n limit : ℕ) (s e f : State n) → IsRun n limit s e → IsRun n limit s f → e ≡ f
+
+-- so many turns call the port at most as often
+abbrev pub AsksOnceATurn : Type 0
+AsksOnceATurn = (n k : ℕ) (s : State n) → calls_in n k s ≤ k
 
 -- where what was loaded is contained, every turn from there on is one that containment allows
 abbrev pub TurnsContained : Type 0

@@ -1,6 +1,7 @@
 pub mod Counting
 pub mod Seen
 pub mod Runs
+pub mod Calls
 pub mod Start
 pub mod Marks
 pub mod Laws

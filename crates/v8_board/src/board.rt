@@ -59,6 +59,7 @@ impl<const N: usize, P: Port> Board<N, P> {
     ghost use Rattle.v8_board.specs.contracts.board.Board.{the_row};
     ghost use Rattle.v8_contained.specs.States.{IsState};
     ghost use Rattle.v8_board.specs.Contains.{Contains, Keeps, KeepsBy};
+    ghost use Rattle.v8_board.specs.Calls.{Asks};
     ghost use Rattle.v8_board.specs.Runs.{GoesOn, IsCutShort, IsRun, ending_or_limit, outcome_of};
     ghost use Rattle.v8_board.specs.Start.{IsNew, IsStart, pages_of};
     ghost use Rattle.v8_board.specs.Marks.{page_use_of};
@@ -190,7 +191,8 @@ impl<const N: usize, P: Port> Board<N, P> {
 
     /// Runs to an end, but at most so many turns. After an end it tells that end again. On a fault of the port the board stands
     /// after the last whole turn, with fewer turns made than were allowed and no end met; with the turns that are left it goes on
-    /// as if nothing was. The port's count of failures rose by one, as it does nowhere else. A loaded image stays contained.
+    /// as if nothing was. The port's count of failures rose by one, as it does nowhere else. The port is called at most once a turn, by
+    /// the access that `step` tells of, and once more where it fails. A loaded image stays contained.
     pub fn run(&mut self, limit: u64) -> Result<Outcome, PortFault>
         ensures run { IfOk result (λ told. IsRun N limit self.old.state self.new.state) }
         ensures told { IfOk result (λ told. told ≡ outcome_of N self.new.state) }
@@ -198,6 +200,7 @@ impl<const N: usize, P: Port> Board<N, P> {
         ensures stands { OnErr result (IsCutShort N limit self.old.state self.new.state) }
         ensures goes_on { OnErr result (GoesOn N limit self.old.state self.new.state) }
         ensures count { self.new.failed ≡ failed_after result self.old.failed }
+        ensures calls { Asks N limit self.old.state self.new.state self.old.calls self.new.calls result }
         ensures own { IfErr result (λ fault. self.new.fault ≡ fault) }
     {
         for done in 0..limit {

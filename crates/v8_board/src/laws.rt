@@ -1,5 +1,5 @@
 //! What holds of every two runs, whatever the board.
-ghost use Rattle.v8_board.specs.Laws.{CutRunsJoin, RunsAgree, RunsJoin, StepRuns, TurnsContained, TurnsJoin};
+ghost use Rattle.v8_board.specs.Laws.{AsksOnceATurn, CutRunsJoin, RunsAgree, RunsJoin, StepRuns, TurnsContained, TurnsJoin};
 
 /// Calls that follow one another are one run of the board: turns and runs join, also where the port cut the first run short, and a
 /// step is a run of at most one turn. A run's end is determined by where it begins and by its limit.
@@ -15,4 +15,9 @@ pub fn runs_join()
 /// reaches its own pages alone; and the device acts by the vectors alone: by a service, or by the stop at another trap.
 pub fn loading_contains()
     ensures { TurnsContained }
+{}
+
+/// So many turns call the port at most as often.
+pub fn turns_ask_once()
+    ensures { AsksOnceATurn }
 {}
