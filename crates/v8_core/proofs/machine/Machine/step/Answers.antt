@@ -37,10 +37,6 @@ pub try_one-requires : goal.try_one-requires
 unfolding next
 try_one-requires g c = grind (arith, common_steps)
 
-pub returns-clause-step : goal.returns-clause-step
-unfolding next
-returns-clause-step g c = grind (arith, common_steps)
-
 pub returns-then-self-clause-count : goal.returns-then-self-clause-count
 unfolding next
 returns-then-self-clause-count g c = grind (arith, common_steps)
