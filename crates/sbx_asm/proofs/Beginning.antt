@@ -24,6 +24,7 @@ use Rattle.sbx_asm.specs.Images.{filled, region_with, bytes_at, region_at}
 use Rattle.sbx_asm.specs.Laws.{RegionsBeginWhereLabelsSay}
 use Rattle.sbx_asm.proofs.Nils.{cons_nil, nil_left, nil_right, nil_map}
 use Rattle.sbx_asm.proofs.ValueCounts.{SaysCount, ItemCounts}
+use Rattle.sbx_asm.proofs.Unfilled.{Unfilled, or_left, or_right, stays_out, unfilled_more}
 use Rattle.sbx_asm.proofs.Lying.{which_region, no_size, filled_length, filled_pages, begins_behind, newest, newest_more, length_is, line_clean, size_more, room_more, start_same, regions_here, clean_here, counts_here, worth}
 
 -- ---- bytes
@@ -66,23 +67,11 @@ its_start writable (x ∷ xs) rs start h = refl
 
 -- ---- lines that leave the code alone
 
-stays_out : (text data_line region : Bool) (x : Bool) → region ≡ false → data_line ≡ false → x ≡ true → (if text then true else (if data_line || region then false else x)) ≡ true
-stays_out true data_line region x h k e = refl
-stays_out false data_line region x h k e = (λ j. if k j || h j then false else x) ∙ e
-
 in_data : (before : List Item) (i : Item) (s : Said) → is_region (record i { said = s }) ≡ true → in_code (record i { said = s } ∷ before) ≡ false
 in_data before i (Ok (statements.Directive (directives.Region writable))) h = refl
 in_data before i (Ok (statements.Directive _)) h = absurd (cc)
 in_data before i (Ok _) h = absurd (cc)
 in_data before i (Err f) h = absurd (cc)
-
-or_left : (a b : Bool) → (a || b) ≡ false → a ≡ false
-or_left true b h = h
-or_left false b h = refl
-
-or_right : (a b : Bool) → (a || b) ≡ false → b ≡ false
-or_right true b h = absurd (cc)
-or_right false b h = h
 
 wanted : (t u : Bool) → t ≡ true → when (t && not u) causes.Directive ≡ [] → u ≡ true
 wanted true true e h = refl
@@ -148,14 +137,14 @@ module _ (values : Values) where
   starts_at writable bs before after n there = start_in (slice_get (placed_from (region_start before) (newest values writable bs before after)) n) ≡ Some (region_start there)
 
   -- the newest region, behind which the lines begin another one
-  module _ (before : List Item) (bs : List ℕ) (size : data_offset before ≡ length bs) (room : length bs ≤ section_room) (number : ℕ) (labels : List (List ℕ)) (bytes : List ℕ) (tokens : List Token) (right : Bool) (clean : another_region before ≡ []) where
+  module _ (before : List Item) (bs : List ℕ) (size : data_offset before ≡ length bs) (room : length bs ≤ section_room) (number : ℕ) (labels : List (List ℕ)) (bytes : List ℕ) (tokens : List Token) (right : Bool) (clean : another_region before ≡ []) (unfilled : Unfilled before) where
     abbrev new : Item
     new = item number labels bytes tokens (Ok (statements.Directive (directives.Region right)))
 
     next : region_start before + 4096 * pages_for (length (filled (bs ++ []))) ≡ region_start (new ∷ before)
     next =
         ap (λ (n : ℕ). region_start before + 4096 * n) (ap (λ (ys : List ℕ). pages_for (length (filled ys))) (append-nil bs) ∙ filled_pages bs ∙ ap pages_for (sym size))
-        ∙ sym (begins_behind before clean)
+        ∙ sym (begins_behind before clean unfilled)
 
     -- where it has bytes
     behind_bytes : (writable : Bool) (after : List Item) (n : ℕ) (there : List Item) → 0 < length (bs ++ []) → starts_at right [] (new ∷ before) after n there → starts_at writable bs before (new ∷ after) (n + 1) there
@@ -178,7 +167,7 @@ module _ (values : Values) where
   asks before i (Ok _) h = absurd (cc)
   asks before i (Err f) h = absurd (cc)
 
-  module _ (before : List Item) (bs : List ℕ) (size : data_offset before ≡ length bs) (room : length bs ≤ section_room) (j : Item) (rest : List Item) (mine : line_rules values before j j.said ≡ []) where
+  module _ (before : List Item) (bs : List ℕ) (size : data_offset before ≡ length bs) (room : length bs ≤ section_room) (j : Item) (rest : List Item) (mine : line_rules values before j j.said ≡ []) (unfilled : Unfilled before) where
     abbrev it : Said → Item
     it s = item j.number j.labels j.bytes j.tokens s
 
@@ -187,14 +176,14 @@ module _ (values : Values) where
         let region = which_region j j.said e in
         let clean = sym (asks before j j.said e) ∙ mine in
         subst (λ (s : Said). 0 < length (bs ++ ahead before (it s ∷ rest)) → starts_at region.0 [] (it s ∷ before) rest n there → starts_at writable bs before (it s ∷ rest) (n + 1) there) (sym region.1)
-        (behind_bytes before bs size room j.number j.labels j.bytes j.tokens region.0 clean writable rest n there) some (h region.0)
+        (behind_bytes before bs size room j.number j.labels j.bytes j.tokens region.0 clean unfilled writable rest n there) some (h region.0)
 
     over_nothing : is_region j ≡ true → (writable : Bool) (n : ℕ) (there : List Item) → bs ≡ [] → ((right : Bool) → starts_at right [] (j ∷ before) rest n there) → starts_at writable bs before (j ∷ rest) n there
     over_nothing e writable n there none h =
         let region = which_region j j.said e in
         let clean = sym (asks before j j.said e) ∙ mine in
         subst (λ (s : Said). starts_at region.0 [] (it s ∷ before) rest n there → starts_at writable bs before (it s ∷ rest) n there) (sym region.1)
-        (behind_nothing before bs size room j.number j.labels j.bytes j.tokens region.0 clean writable rest n there none) (h region.0)
+        (behind_nothing before bs size room j.number j.labels j.bytes j.tokens region.0 clean unfilled writable rest n there none) (h region.0)
 
     over_other : (says : ItemCounts j) (e : is_region j ≡ false) (writable : Bool) (n : ℕ) (there : List Item) → starts_at writable (bs ++ bytes_at values before j []) (j ∷ before) rest n there → starts_at writable bs before (j ∷ rest) n there
     over_other says e writable n there h =
@@ -224,15 +213,15 @@ module _ (values : Values) where
   module _ (i : Item) (after : List Item) (begins : is_region i ≡ true) where
     -- from within a region that has bytes
     AfterOne : List Item → List Item → Type 0
-    AfterOne front before = (bs : List ℕ) (writable : Bool) → data_offset before ≡ length bs → length bs ≤ section_room → AllByRecursion ItemCounts (front ++ i ∷ after) → each (faults_at values) before (front ++ i ∷ after) ≡ []
+    AfterOne front before = (bs : List ℕ) (writable : Bool) → data_offset before ≡ length bs → length bs ≤ section_room → Unfilled before → AllByRecursion ItemCounts (front ++ i ∷ after) → each (faults_at values) before (front ++ i ∷ after) ≡ []
         → 0 < length (bs ++ ahead before (front ++ i ∷ after)) → starts_at writable bs before (front ++ i ∷ after) (count is_region front + 1) (i ∷ behind before front)
 
     after_one : (front before : List Item) → AfterOne front before
     unfolding AfterOne
-    after_one [] before bs writable size room says clean some =
+    after_one [] before bs writable size room unfilled says clean some =
         let mine = line_clean values before i after (nil_left (faults_at values before i after) (each (faults_at values) (i ∷ before) after) clean) in
-        over_region before bs size room i after mine begins writable 0 (i ∷ before) some (λ right. its_own before i after right (region_has before i after says.1 clean begins))
-    after_one (j ∷ front) before bs writable size room says clean some = by (after_one front (j ∷ before)) (is_region j) refl
+        over_region before bs size room i after mine unfilled begins writable 0 (i ∷ before) some (λ right. its_own before i after right (region_has before i after says.1 clean begins))
+    after_one (j ∷ front) before bs writable size room unfilled says clean some = by (after_one front (j ∷ before)) (is_region j) refl
       where
         mine : line_rules values before j j.said ≡ []
         mine = line_clean values before j (front ++ i ∷ after) (nil_left (faults_at values before j (front ++ i ∷ after)) (each (faults_at values) (j ∷ before) (front ++ i ∷ after)) clean)
@@ -243,18 +232,18 @@ module _ (values : Values) where
         by : AfterOne front (j ∷ before) → (t : Bool) → is_region j ≡ t → starts_at writable bs before (j ∷ (front ++ i ∷ after)) (count is_region (j ∷ front) + 1) (i ∷ behind (j ∷ before) front)
         by more true e =
             subst (λ (n : ℕ). starts_at writable bs before (j ∷ (front ++ i ∷ after)) (n + 1) (i ∷ behind (j ∷ before) front)) (sym (one_more j front e))
-            (over_region before bs size room j (front ++ i ∷ after) mine e writable (count is_region front + 1) (i ∷ behind (j ∷ before) front) some
-            (λ right. more [] right (no_size before j e) (omega arith) says.1 later (region_has before j (front ++ i ∷ after) says.1 clean e)))
+            (over_region before bs size room j (front ++ i ∷ after) mine unfilled e writable (count is_region front + 1) (i ∷ behind (j ∷ before) front) some
+            (λ right. more [] right (no_size before j e) (omega arith) (unfilled_more values before j mine unfilled) says.1 later (region_has before j (front ++ i ∷ after) says.1 clean e)))
         by more false e =
             let own = bytes_at values before j [] in
             let same : bs ++ ahead before (j ∷ (front ++ i ∷ after)) ≡ (bs ++ own) ++ ahead (j ∷ before) (front ++ i ∷ after) = ap (λ (ys : List ℕ). bs ++ ys) (ahead_more before j (front ++ i ∷ after) e) ∙ sym (append_assoc bs own (ahead (j ∷ before) (front ++ i ∷ after))) in
             subst (λ (n : ℕ). starts_at writable bs before (j ∷ (front ++ i ∷ after)) (n + 1) (i ∷ behind (j ∷ before) front)) (sym (no_more j front e))
-            (over_other before bs size room j (front ++ i ∷ after) mine says.0 e writable (count is_region front + 1) (i ∷ behind (j ∷ before) front)
-            (more (bs ++ own) writable (size_more values before bs size room j says.0 mine e) (room_more values before bs size room j says.0 mine e) says.1 later (subst (λ (ys : List ℕ). 0 < length ys) same some)))
+            (over_other before bs size room j (front ++ i ∷ after) mine unfilled says.0 e writable (count is_region front + 1) (i ∷ behind (j ∷ before) front)
+            (more (bs ++ own) writable (size_more values before bs size room j says.0 mine e) (room_more values before bs size room j says.0 mine e) (unfilled_more values before j mine unfilled) says.1 later (subst (λ (ys : List ℕ). 0 < length ys) same some)))
 
     -- from before the first one
     AfterNone : List Item → List Item → Type 0
-    AfterNone front before = (bs : List ℕ) (writable : Bool) → data_offset before ≡ length bs → length bs ≤ section_room → AllByRecursion ItemCounts (front ++ i ∷ after) → each (faults_at values) before (front ++ i ∷ after) ≡ []
+    AfterNone front before = (bs : List ℕ) (writable : Bool) → data_offset before ≡ length bs → length bs ≤ section_room → Unfilled before → AllByRecursion ItemCounts (front ++ i ∷ after) → each (faults_at values) before (front ++ i ∷ after) ≡ []
         → (list_any is_data before ≡ false → (in_code before ≡ true) × (bs ≡ [])) → starts_at writable bs before (front ++ i ∷ after) (count is_region front) (i ∷ behind before front)
 
     no_data : (before : List Item) (j : Item) → is_region j ≡ true → line_rules values before j j.said ≡ [] → list_any is_data before ≡ false
@@ -262,10 +251,10 @@ module _ (values : Values) where
 
     after_none : (front before : List Item) → AfterNone front before
     unfolding AfterNone AfterOne
-    after_none [] before bs writable size room says clean none =
+    after_none [] before bs writable size room unfilled says clean none =
         let mine = line_clean values before i after (nil_left (faults_at values before i after) (each (faults_at values) (i ∷ before) after) clean) in
-        over_nothing before bs size room i after mine begins writable 0 (i ∷ before) (none (no_data before i begins mine)).1 (λ right. its_own before i after right (region_has before i after says.1 clean begins))
-    after_none (j ∷ front) before bs writable size room says clean none = by (after_none front (j ∷ before)) (is_region j) refl
+        over_nothing before bs size room i after mine unfilled begins writable 0 (i ∷ before) (none (no_data before i begins mine)).1 (λ right. its_own before i after right (region_has before i after says.1 clean begins))
+    after_none (j ∷ front) before bs writable size room unfilled says clean none = by (after_none front (j ∷ before)) (is_region j) refl
       where
         mine : line_rules values before j j.said ≡ []
         mine = line_clean values before j (front ++ i ∷ after) (nil_left (faults_at values before j (front ++ i ∷ after)) (each (faults_at values) (j ∷ before) (front ++ i ∷ after)) clean)
@@ -276,12 +265,12 @@ module _ (values : Values) where
         by : AfterNone front (j ∷ before) → (t : Bool) → is_region j ≡ t → starts_at writable bs before (j ∷ (front ++ i ∷ after)) (count is_region (j ∷ front)) (i ∷ behind (j ∷ before) front)
         by more true e =
             subst (λ (n : ℕ). starts_at writable bs before (j ∷ (front ++ i ∷ after)) n (i ∷ behind (j ∷ before) front)) (sym (one_more j front e))
-            (over_nothing before bs size room j (front ++ i ∷ after) mine e writable (count is_region front + 1) (i ∷ behind (j ∷ before) front) (none (no_data before j e mine)).1
-            (λ right. after_one front (j ∷ before) [] right (no_size before j e) (omega arith) says.1 later (region_has before j (front ++ i ∷ after) says.1 clean e)))
+            (over_nothing before bs size room j (front ++ i ∷ after) mine unfilled e writable (count is_region front + 1) (i ∷ behind (j ∷ before) front) (none (no_data before j e mine)).1
+            (λ right. after_one front (j ∷ before) [] right (no_size before j e) (omega arith) (unfilled_more values before j mine unfilled) says.1 later (region_has before j (front ++ i ∷ after) says.1 clean e)))
         by more false e =
             subst (λ (n : ℕ). starts_at writable bs before (j ∷ (front ++ i ∷ after)) n (i ∷ behind (j ∷ before) front)) (sym (no_more j front e))
-            (over_other before bs size room j (front ++ i ∷ after) mine says.0 e writable (count is_region front) (i ∷ behind (j ∷ before) front)
-            (more (bs ++ bytes_at values before j []) writable (size_more values before bs size room j says.0 mine e) (room_more values before bs size room j says.0 mine e) says.1 later (none_yet before bs size room j (front ++ i ∷ after) mine e none)))
+            (over_other before bs size room j (front ++ i ∷ after) mine unfilled says.0 e writable (count is_region front) (i ∷ behind (j ∷ before) front)
+            (more (bs ++ bytes_at values before j []) writable (size_more values before bs size room j says.0 mine e) (room_more values before bs size room j says.0 mine e) (unfilled_more values before j mine unfilled) says.1 later (none_yet before bs size room j (front ++ i ∷ after) mine unfilled e none)))
 
 -- ---- the law
 
@@ -295,5 +284,5 @@ pub regions_begin : RegionsBeginWhereLabelsSay
 unfolding AfterNone
 regions_begin source parts means front after i lines e =
     ap (λ (rs : List Region). start_of rs (count is_region front)) (sym (regions_here source parts means front after i lines))
-    ∙ after_none (worth source parts means) i after e front [] [] true refl (omega arith) (counts_here source parts means front after i lines) (clean_here source parts means front after i lines) (λ _. (refl, refl))
+    ∙ after_none (worth source parts means) i after e front [] [] true refl (omega arith) (λ _ _. refl) (counts_here source parts means front after i lines) (clean_here source parts means front after i lines) (λ _. (refl, refl))
     ∙ ap Some (sym (label_of_start (behind [] front) i e))

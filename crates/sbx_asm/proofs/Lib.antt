@@ -14,6 +14,7 @@ mod Numbers
 mod DataBytes
 mod Views
 mod Rooms
+mod Unfilled
 mod Surveys
 mod Orders
 mod Pages
@@ -24,4 +25,5 @@ mod Numbering
 mod ValueCounts
 mod Lying
 mod Beginning
+mod CodeLying
 pub mod Fitting

@@ -1,7 +1,7 @@
 -- Where the data of a source lie in its image: where its labels say.
 use Rattle.std.proofs.Common.{◌≡◌, ℕ, zero, suc, ◌+◌, ◌-◌, ◌*◌, ◌%◌, ◌<◌, ◌≤◌, Bool, true, false, cond, List, [], ◌∷◌, ◌++◌, length, Option, None, Some, Ok, Err, refl, sym, ap, subst, ◌∙◌, append_assoc, arith}
 use Rattle.std.specs.Prelude.{min, not, nat_le, nat_lt, slice_get, if◌then◌else◌}
-use Rattle.std.specs.List.{AllByRecursion}
+use Rattle.std.specs.List.{AllByRecursion, list_any}
 use Rattle.std.proofs.Math.Nat.{min-eq_left}
 use Rattle.std.specs.Result.{result_err}
 use Rattle.std.proofs.lemmas.Bool.{le-ltb, leb-true, leb-false}
@@ -18,12 +18,13 @@ use Rattle.sbx_directives.specs.Data.{data_of, bytes_of_width}
 use Rattle.sbx_asm.specs.declared.fault.Cause.{Cause}
 use Rattle.sbx_asm.specs.declared.fault.Cause.TheVariants as causes
 use Rattle.sbx_asm.specs.Rules.{at, Values, duplicates, faults_of, least_of, when, data_rules, value_rules, line_rules, faults_at}
-use Rattle.sbx_asm.specs.Items.{Item, items_of, Said, each, up_to, count, is_region}
+use Rattle.sbx_asm.specs.Items.{Item, items_of, Said, each, up_to, count, is_data, is_region}
 use Rattle.sbx_asm.proofs.Views.{behind, up_to_room, fits_behind, last_start, data_address, item, address_in_section, another_region, all_labels}
-use Rattle.sbx_asm.specs.Addresses.{data_length, padding_of, section_room, data_offset, start_behind, region_start, in_code, label_address, values_of}
+use Rattle.sbx_asm.specs.Addresses.{data_length, padding_of, section_room, data_offset, start_behind, next_start, region_start, in_code, label_address, values_of}
 use Rattle.sbx_asm.specs.Images.{filled, region_with, bytes_at, region_at, image_of, source_image}
 use Rattle.sbx_asm.specs.Laws.{DataLieWhereLabelsSay}
-use Rattle.sbx_asm.proofs.Rooms.{in_room, data_within, low}
+use Rattle.sbx_asm.proofs.Rooms.{in_room, data_within, low, first_start}
+use Rattle.sbx_asm.proofs.Unfilled.{Unfilled, unfilled_more}
 use Rattle.sbx_asm.proofs.Nils.{cons_nil, nil_left, nil_right, nil_map}
 use Rattle.sbx_asm.proofs.Meanings.{none_told, judged_parts}
 use Rattle.sbx_asm.proofs.ValueCounts.{SaysCount, ItemCounts, items_count, values_length}
@@ -41,7 +42,7 @@ past_front (x ∷ xs) ys zero past = absurd (omega arith)
 past_front (x ∷ xs) ys (suc k) past = let e : k - length xs ≡ suc k - suc (length xs) = omega arith in past_front xs ys k (omega arith) ∙ ap (slice_get ys) e
 
 -- between others
-between : (xs ys zs : List ℕ) (k b : ℕ) → slice_get ys k ≡ Some b → slice_get ((xs ++ ys) ++ zs) (length xs + k) ≡ Some b
+pub between : (xs ys zs : List ℕ) (k b : ℕ) → slice_get ys k ≡ Some b → slice_get ((xs ++ ys) ++ zs) (length xs + k) ≡ Some b
 between xs ys zs k b h =
     let less = slice_get_within ys k b h in
     let count = length-append xs ys in
@@ -122,37 +123,50 @@ capped address = omega arith
 not_below : (start address : ℕ) → start ≤ last_start → start ≤ address → start ≤ up_to_last address
 not_below start address h k = omega arith
 
-rises_with : (start size : ℕ) (begins : Bool) → start ≤ last_start → start ≤ (if begins then start_behind start size else start)
-rises_with start size true h = not_below start (start + 4096 * pages_for size) h (omega arith)
-rises_with start size false h = omega arith
+rises_with : (start size : ℕ) (later begins : Bool) → (later ≡ false → start ≡ DATA_START) → start ≤ last_start → start ≤ (if begins then (if later then start_behind start size else DATA_START) else start)
+rises_with start size true true first h = not_below start (start + 4096 * pages_for size) h (omega arith)
+rises_with start size false true first h = let e = first refl in omega (arith, e)
+rises_with start size later false first h = omega arith
 
 -- each begins no earlier than the one before
 pub rises : (front before : List Item) → region_start before ≤ region_start (behind before front)
 rises [] before = omega arith
-rises (i ∷ front) before = let h = rises_with (region_start before) (data_offset before) (is_region i) (low before) in let k = rises front (i ∷ before) in omega (arith, h, k)
+rises (i ∷ front) before = let h = rises_with (region_start before) (data_offset before) (list_any is_region before) (is_region i) (first_start before) (low before) in let k = rises front (i ∷ before) in omega (arith, h, k)
 
-within_with : (start size n : ℕ) (begins : Bool) → size ≤ section_room → start ≤ DATA_START + section_room * n
-    → (if begins then start_behind start size else start) ≤ DATA_START + section_room * (if begins then n + 1 else n)
-within_with start size n true small h = let k = capped (start + 4096 * pages_for size) in omega (arith, k)
-within_with start size n false small h = h
+within_with : (start size n : ℕ) (later begins : Bool) → size ≤ section_room → start ≤ DATA_START + section_room * n
+    → (if begins then (if later then start_behind start size else DATA_START) else start) ≤ DATA_START + section_room * (if begins then n + 1 else n)
+within_with start size n true true small h = let k = capped (start + 4096 * pages_for size) in omega (arith, k)
+within_with start size n false true small h = omega arith
+within_with start size n later false small h = h
 
 -- and each takes no more than its room
 within : (before : List Item) → region_start before ≤ DATA_START + section_room * count is_region before
 within [] = omega arith
-within (i ∷ before) = within_with (region_start before) (data_offset before) (count is_region before) (is_region i) (data_within before) (within before)
+within (i ∷ before) = within_with (region_start before) (data_offset before) (count is_region before) (list_any is_region before) (is_region i) (data_within before) (within before)
 
 -- one of the first eight begins right behind the pages of the one before
-pub begins_behind : (before : List Item) → another_region before ≡ [] → up_to_last (region_start before + 4096 * pages_for (data_offset before)) ≡ region_start before + 4096 * pages_for (data_offset before)
-begins_behind before clean =
-    let few : nat_le 8 (count is_region before) ≡ false = no_limit (nat_le 8 (count is_region before)) (nil_right (when _ causes.Directive) (when (nat_le 8 (count is_region before)) causes.Limit) clean) in
-    let less = leb-false 8 (count is_region before) few in
-    let start = within before in
-    let size = data_within before in
-    min-eq_left (omega (arith, less, start, size))
+pub begins_behind : (before : List Item) → another_region before ≡ [] → Unfilled before → next_start before (region_start before) ≡ region_start before + 4096 * pages_for (data_offset before)
+begins_behind before clean unfilled = by (list_any is_region before) refl
   where
-    no_limit : (t : Bool) → when t causes.Limit ≡ [] → t ≡ false
-    no_limit true h = cons_nil h
-    no_limit false h = refl
+    no_cause : (t : Bool) (c : Cause) → when t c ≡ [] → t ≡ false
+    no_cause true c h = cons_nil h
+    no_cause false c h = refl
+
+    not_last : up_to_last (region_start before + 4096 * pages_for (data_offset before)) ≡ region_start before + 4096 * pages_for (data_offset before)
+    not_last =
+        let few : nat_le 8 (count is_region before) ≡ false = no_cause (nat_le 8 (count is_region before)) causes.Limit (nil_right (when (list_any is_data before) causes.Directive) (when (nat_le 8 (count is_region before)) causes.Limit) clean) in
+        let less = leb-false 8 (count is_region before) few in
+        let start = within before in
+        let size = data_within before in
+        min-eq_left (omega (arith, less, start, size))
+
+    by : (later : Bool) → list_any is_region before ≡ later → (if later then start_behind (region_start before) (data_offset before) else DATA_START) ≡ region_start before + 4096 * pages_for (data_offset before)
+    by true e = not_last
+    by false e =
+        let no_data : list_any is_data before ≡ false = no_cause (list_any is_data before) causes.Directive (nil_left (when (list_any is_data before) causes.Directive) (when (nat_le 8 (count is_region before)) causes.Limit) clean) in
+        let none = unfilled e no_data in
+        let start = first_start before e in
+        omega (arith, none, start)
 
 -- ---- lines without faults
 
@@ -244,7 +258,7 @@ module _ (values : Values) where
           ∙ (let l = own_length in let e = length-append bs own in omega (arith, size, l, e))
 
       pub start_same : region_start (i ∷ before) ≡ region_start before
-      start_same = ap (λ (t : Bool). if t then start_behind (region_start before) (data_offset before) else region_start before) quiet
+      start_same = ap (λ (t : Bool). if t then next_start before (region_start before) else region_start before) quiet
 
       goes_on : (a : ℕ) (writable : Bool) (after : List Item) (b : ℕ) → Gives a writable (bs ++ own) (i ∷ before) after b → Gives a writable bs before (i ∷ after) b
       goes_on a writable after b h =
@@ -272,14 +286,14 @@ module _ (values : Values) where
       abbrev new : Item
       new = item number labels bytes tokens (Ok (statements.Directive (directives.Region right)))
 
-      begins : (a : ℕ) (writable : Bool) (after : List Item) (b : ℕ) → another_region before ≡ [] → region_start (new ∷ before) ≤ a → Gives a right [] (new ∷ before) after b → Gives a writable bs before (new ∷ after) b
-      begins a writable after b clean past h =
+      begins : (a : ℕ) (writable : Bool) (after : List Item) (b : ℕ) → another_region before ≡ [] → Unfilled before → region_start (new ∷ before) ≤ a → Gives a right [] (new ∷ before) after b → Gives a writable bs before (new ∷ after) b
+      begins a writable after b clean unfilled past h =
           let xs = filled (bs ++ []) in
           let rs = newest right [] (new ∷ before) after in
           let start = region_start before in
           let pages : pages_for (length xs) ≡ pages_for (data_offset before) =
           ap (λ (ys : List ℕ). pages_for (length (filled ys))) (append-nil bs) ∙ filled_pages bs ∙ ap pages_for (sym size) in
-          let next : start + 4096 * pages_for (length xs) ≡ region_start (new ∷ before) = ap (λ (n : ℕ). start + 4096 * n) pages ∙ sym (begins_behind before clean) in
+          let next : start + 4096 * pages_for (length xs) ≡ region_start (new ∷ before) = ap (λ (n : ℕ). start + 4096 * n) pages ∙ sym (begins_behind before clean unfilled) in
           let fits = filled_fits (bs ++ []) in
           let kept = filled_pages (bs ++ []) in
           first_region writable xs rs start a
@@ -293,15 +307,15 @@ module _ (values : Values) where
   line_clean before i after mine =
       nil_left (line_rules values before i i.said) _ (nil_right (when (nat_lt 1000000 i.number) causes.Limit) _ (nil_map (at i.number) _ mine))
 
-  lies : (front before : List Item) (bs : List ℕ) (writable : Bool) (i : Item) (after : List Item) (k b : ℕ) → data_offset before ≡ length bs → length bs ≤ section_room
+  lies : (front before : List Item) (bs : List ℕ) (writable : Bool) (i : Item) (after : List Item) (k b : ℕ) → data_offset before ≡ length bs → length bs ≤ section_room → Unfilled before
       → AllByRecursion ItemCounts (front ++ i ∷ after) → each (faults_at values) before (front ++ i ∷ after) ≡ [] → slice_get (bytes_at values (behind before front) i []) k ≡ Some b
       → Gives (data_address (behind before front) + k) writable bs before (front ++ i ∷ after) b
-  lies [] before bs writable i after k b size room says clean h = by (is_region i) refl
+  lies [] before bs writable i after k b size room unfilled says clean h = by (is_region i) refl
     where
       by : (t : Bool) → is_region i ≡ t → Gives (data_address before + k) writable bs before (i ∷ after) b
       by true e = absurd (let none = no_bytes values before i i.said e in let g : None ≡ Some b = sym (ap (λ (ys : List ℕ). slice_get ys k) none) ∙ h in cc)
       by false e = own_lies before bs size room i says.0 (line_clean before i after (nil_left (faults_at values before i after) (each (faults_at values) (i ∷ before) after) clean)) e writable after k b h
-  lies (j ∷ front) before bs writable i after k b size room says clean h = by (lies front (j ∷ before)) (is_region j) refl
+  lies (j ∷ front) before bs writable i after k b size room unfilled says clean h = by (lies front (j ∷ before)) (is_region j) refl
     where
       mine : line_rules values before j j.said ≡ []
       mine = line_clean before j (front ++ i ∷ after) (nil_left (faults_at values before j (front ++ i ∷ after)) (each (faults_at values) (j ∷ before) (front ++ i ∷ after)) clean)
@@ -312,22 +326,22 @@ module _ (values : Values) where
       past : region_start (j ∷ before) ≤ (data_address (behind (j ∷ before) front) + k)
       past = let r = rises front (j ∷ before) in omega (arith, r)
 
-      by : ((cs : List ℕ) (right : Bool) (i : Item) (after : List Item) (k b : ℕ) → data_offset (j ∷ before) ≡ length cs → length cs ≤ section_room → AllByRecursion ItemCounts (front ++ i ∷ after)
+      by : ((cs : List ℕ) (right : Bool) (i : Item) (after : List Item) (k b : ℕ) → data_offset (j ∷ before) ≡ length cs → length cs ≤ section_room → Unfilled (j ∷ before) → AllByRecursion ItemCounts (front ++ i ∷ after)
           → each (faults_at values) (j ∷ before) (front ++ i ∷ after) ≡ [] → slice_get (bytes_at values (behind (j ∷ before) front) i []) k ≡ Some b
           → Gives (data_address (behind (j ∷ before) front) + k) right cs (j ∷ before) (front ++ i ∷ after) b)
           → (t : Bool) → is_region j ≡ t → Gives (data_address (behind (j ∷ before) front) + k) writable bs before (j ∷ (front ++ i ∷ after)) b
       by more true e =
           let region = which_region j j.said e in
-          let lain : Gives (data_address (behind (j ∷ before) front) + k) region.0 [] (j ∷ before) (front ++ i ∷ after) b = more [] region.0 i after k b (no_size before j e) (omega arith) says.1 later h in
+          let lain : Gives (data_address (behind (j ∷ before) front) + k) region.0 [] (j ∷ before) (front ++ i ∷ after) b = more [] region.0 i after k b (no_size before j e) (omega arith) (unfilled_more values before j mine unfilled) says.1 later h in
           let it = λ (s : Said). item j.number j.labels j.bytes j.tokens s in
-          subst (λ (s : Said). line_rules values before (it s) s ≡ [] → region_start (it s ∷ before) ≤ (data_address (behind (j ∷ before) front) + k) → Gives (data_address (behind (j ∷ before) front) + k) region.0 [] (it s ∷ before) (front ++ i ∷ after) b → Gives (data_address (behind (j ∷ before) front) + k) writable bs before (it s ∷ (front ++ i ∷ after)) b) (sym region.1)
-          (begins before bs size room j.number j.labels j.bytes j.tokens region.0 (data_address (behind (j ∷ before) front) + k) writable (front ++ i ∷ after) b) mine past lain
+          subst (λ (s : Said). line_rules values before (it s) s ≡ [] → Unfilled before → region_start (it s ∷ before) ≤ (data_address (behind (j ∷ before) front) + k) → Gives (data_address (behind (j ∷ before) front) + k) region.0 [] (it s ∷ before) (front ++ i ∷ after) b → Gives (data_address (behind (j ∷ before) front) + k) writable bs before (it s ∷ (front ++ i ∷ after)) b) (sym region.1)
+          (begins before bs size room j.number j.labels j.bytes j.tokens region.0 (data_address (behind (j ∷ before) front) + k) writable (front ++ i ∷ after) b) mine unfilled past lain
       by more false e =
           goes_on before bs size room j says.0 mine e (data_address (behind (j ∷ before) front) + k) writable (front ++ i ∷ after) b
-          (more (bs ++ bytes_at values before j []) writable i after k b (size_more before bs size room j says.0 mine e) (room_more before bs size room j says.0 mine e) says.1 later h)
+          (more (bs ++ bytes_at values before j []) writable i after k b (size_more before bs size room j says.0 mine e) (room_more before bs size room j says.0 mine e) (unfilled_more values before j mine unfilled) says.1 later h)
 
   -- the faults of a line in its place
-  clean_at : (front before : List Item) (i : Item) (after : List Item) → each (faults_at values) before (front ++ i ∷ after) ≡ [] → faults_at values (behind before front) i after ≡ []
+  pub clean_at : (front before : List Item) (i : Item) (after : List Item) → each (faults_at values) before (front ++ i ∷ after) ≡ [] → faults_at values (behind before front) i after ≡ []
   clean_at [] before i after clean = nil_left (faults_at values before i after) (each (faults_at values) (i ∷ before) after) clean
   clean_at (j ∷ front) before i after clean = clean_at front (j ∷ before) i after (nil_right (faults_at values before j (front ++ i ∷ after)) (each (faults_at values) (j ∷ before) (front ++ i ∷ after)) clean)
 
@@ -369,7 +383,7 @@ module _ (source : List ℕ) (parts : Parts) (means : source_image source ≡ Ok
     lie_here k b h =
         ap (λ (a : ℕ). data_at parts.regions (a + k)) (label_here k b h)
         ∙ ap (λ (rs : List Region). data_at rs (data_address (behind [] front) + k)) (sym regions_here)
-        ∙ lies worth front [] [] true i after k b refl (omega arith) counts_here clean_here h
+        ∙ lies worth front [] [] true i after k b refl (omega arith) (λ _ _. refl) counts_here clean_here h
 
 pub data_lie : DataLieWhereLabelsSay
 data_lie source parts means front after i k b lines h = lie_here source parts means front after i lines k b h

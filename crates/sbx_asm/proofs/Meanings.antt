@@ -57,7 +57,7 @@ code_is source parts h =
 
 -- ---- lines one after the other
 
-words_split : (values : Values) (before front after : List Item) → each (words_at values) before (front ++ after) ≡ each (words_at values) before front ++ each (words_at values) (behind before front) after
+pub words_split : (values : Values) (before front after : List Item) → each (words_at values) before (front ++ after) ≡ each (words_at values) before front ++ each (words_at values) (behind before front) after
 words_split values before [] after = refl
 words_split values before (i ∷ front) after =
     ap (λ (ws : List ℕ). words_at values before i after ++ ws) (words_split values (i ∷ before) front after)

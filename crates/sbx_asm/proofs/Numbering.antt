@@ -5,7 +5,7 @@ use Rattle.std.specs.List.{AllByRecursion, flat_map, list_any}
 use Rattle.std.specs.Str.{bytes_eq}
 use Rattle.std.proofs.lemmas.Bool.{le-ltb}
 use Rattle.std.proofs.lemmas.List.{map-append}
-use Rattle.v8_map.specs.declared.TheConstants.{CODE_START}
+use Rattle.v8_map.specs.declared.TheConstants.{CODE_START, DATA_START}
 use Rattle.v8_syntax.specs.Statements.{source_meaning, statement_length}
 use Rattle.sbx_text.specs.declared.Token.{Token}
 use Rattle.sbx_image.specs.Block.{Block}
@@ -138,7 +138,10 @@ module _ (f : ℕ → ℕ) where
   start_u : (is : List Turn) → region_start (left is) ≡ region_start (right is)
   start_u [] = refl
   start_u (skip n bs ts ∷ is) = start_u is
-  start_u (keep i ∷ is) = let a = start_u is in let b = data_offset_u is in λ k. if is_region i then start_behind (a k) (b k) else a k
+  start_u (keep i ∷ is) =
+      let a = start_u is in let b = data_offset_u is in
+      let later = any_u is_region (λ _. refl) (λ _ _ _. refl) is in
+      λ k. if is_region i then (if later k then start_behind (a k) (b k) else DATA_START) else a k
 
   section_u : (is : List Turn) → in_code (left is) ≡ in_code (right is)
   section_u [] = refl

@@ -11,7 +11,7 @@ use Rattle.sbx_text.specs.declared.fault.TextFault.{TextFault}
 use Rattle.sbx_text.specs.Tokens.{tokens_of}
 use Rattle.v8_syntax.specs.declared.word.Word.{Word}
 use Rattle.v8_syntax.specs.declared.word.Word.TheVariants as words
-use Rattle.v8_syntax.specs.Statements.{word_of}
+use Rattle.v8_syntax.specs.Statements.{word_of, words_of}
 use Rattle.sbx_directives.specs.declared.directive.Width.{Width}
 use Rattle.sbx_directives.specs.declared.directive.Width.TheVariants as widths
 use Rattle.sbx_directives.specs.declared.directive.Keyword.{Keyword}
@@ -82,11 +82,11 @@ abbrev pub ItemCounts : Item → Type 0
 ItemCounts i = SaysCount i.bytes i.tokens i.said
 
 told_counts : (line : List ℕ) (first : Token) (rest : List Token) (k : Keyword) (o : Option Directive) → CountsSome (operands_of line rest) o
-    → SaysCount line (first ∷ rest) (Ok (option_map_or statements.Directive o (statements.Malformed k (called k (operands_of line rest)))))
+    → SaysCount line (first ∷ rest) (Ok (option_map_or statements.Directive o (statements.Malformed k (called k (words_of line rest)))))
 told_counts line first rest k (Some d) h = h
 told_counts line first rest k None h = tt
 
-named_counts : (line : List ℕ) (first : Token) (o : Option Keyword) (rest : List Token) → SaysCount line (first ∷ rest) (Ok (option_map_or (λ k. told line k (operands_of line rest)) o statements.Instruction))
+named_counts : (line : List ℕ) (first : Token) (o : Option Keyword) (rest : List Token) → SaysCount line (first ∷ rest) (Ok (option_map_or (λ k. told line k rest) o statements.Instruction))
 named_counts line first (Some k) rest = told_counts line first rest k _ (directive_counts line k (operands_of line rest))
 named_counts line first None rest = tt
 

@@ -1,5 +1,6 @@
 -- Where the lines of a source stand, and what their labels are worth: the start of a section and the lengths before them.
 use Rattle.std.specs.Prelude.{ℕ, ◌+◌, ◌-◌, ◌*◌, ◌%◌, min, Bool, true, false, ◌||◌, ◌==◌, if◌then◌else◌, List, [], ◌∷◌, ◌++◌, map, Option, Some, None, Ok, Err}
+use Rattle.std.specs.List.{list_any}
 use Rattle.std.specs.Str.{bytes_eq}
 use Rattle.v8_map.specs.declared.TheConstants.{CODE_START, DATA_START}
 use Rattle.v8_syntax.specs.Statements.{statement_length}
@@ -47,10 +48,14 @@ data_offset (i ∷ before) = if is_region i then 0 else min (data_offset before 
 abbrev pub start_behind : ℕ → ℕ → ℕ
 start_behind start size = min (start + 4096 * pages_for size) (DATA_START + 8 * section_room)
 
+-- where a region begins behind some items: the first one where the data do, whatever stands before it
+abbrev pub next_start : List Item → ℕ → ℕ
+next_start before start = if list_any is_region before then start_behind start (data_offset before) else DATA_START
+
 -- where the newest region begins, or the data where there are no regions
 abbrev pub region_start : List Item → ℕ
 region_start [] = DATA_START
-region_start (i ∷ before) = if is_region i then start_behind (region_start before) (data_offset before) else region_start before
+region_start (i ∷ before) = if is_region i then next_start before (region_start before) else region_start before
 
 -- the code begins at 00040000 and the data at 00080000, as the address map has them
 abbrev pub code_address : List Item → ℕ

@@ -1,12 +1,14 @@
 -- What holds of the meaning of sources, as anyone knows assemblers.
-use Rattle.std.specs.Prelude.{◌≡◌, ℕ, ◌+◌, ◌≤◌, ◌⊎◌, true, false, List, [], ◌∷◌, ◌++◌, length, map, reverse, slice_get, None, Some, Ok, Err}
+use Rattle.std.specs.Prelude.{◌≡◌, ℕ, ◌+◌, ◌-◌, ◌*◌, ◌/◌, ◌%◌, ◌≤◌, ◌⊎◌, true, false, ◌&&◌, ◌==◌, nat_le, if◌then◌else◌, List, [], ◌∷◌, ◌++◌, length, map, reverse, slice_get, Option, None, Some, Ok, Err}
 use Rattle.std.specs.List.{AllByRecursion}
+use Rattle.v8_map.specs.declared.TheConstants.{CODE_START}
 use Rattle.sbx_text.specs.Tokens.{tokens_of}
+use Rattle.sbx_image.specs.Function.{Function}
 use Rattle.sbx_image.specs.Regions.{data_at, start_of}
 use Rattle.sbx_image.specs.Spelling.{IsTyped}
 use Rattle.sbx_directives.specs.declared.directive.Statement.TheVariants as statements
-use Rattle.sbx_asm.specs.Items.{Item, item_of, items_of, each, count, is_region}
-use Rattle.sbx_asm.specs.Addresses.{Label, label_address, worth_in, values_of}
+use Rattle.sbx_asm.specs.Items.{Item, item_of, items_of, each, count, starts_function, is_region}
+use Rattle.sbx_asm.specs.Addresses.{Label, code_address, label_address, worth_in, values_of}
 use Rattle.sbx_asm.specs.Rules.{AsmFault, at, is_earlier, duplicates, faults_of, least_of}
 use Rattle.sbx_asm.specs.Images.{Parts, words_at, bytes_at, image_of, source_image, whole_cause}
 
@@ -18,6 +20,23 @@ MeantImagesFitTheirFields = (source : List ℕ) (parts : Parts) → source_image
 abbrev pub CodeIsItsStatements : Type 0
 CodeIsItsStatements = (source : List ℕ) (parts : Parts) → source_image source ≡ Ok parts
     → (faults_of (items_of source) ≡ []) × (parts.words ≡ each (words_at (values_of (items_of source))) [] (items_of source))
+
+-- the word of the code at an address
+abbrev pub code_at : List ℕ → ℕ → Option ℕ
+code_at words address =
+    if nat_le CODE_START address && (address % 4 == 0) then slice_get words ((address - CODE_START) / 4) else None
+
+-- It lies in the image where the labels say: the words of each statement are those of the code from the address on that the line's labels have.
+abbrev pub CodeLiesWhereLabelsSay : Type 0
+CodeLiesWhereLabelsSay = (source : List ℕ) (parts : Parts) → source_image source ≡ Ok parts
+    → (front after : List Item) (i : Item) (k w : ℕ) → items_of source ≡ front ++ i ∷ after
+    → slice_get (words_at (values_of (items_of source)) (reverse front) i after) k ≡ Some w → code_at parts.words (label_address (reverse front) + 4 * k) ≡ Some w
+
+-- So do its functions: a `.function` begins the one with its number, counted from 0, and its name is worth the address of its entry.
+abbrev pub FunctionsBeginWhereNamesSay : Type 0
+FunctionsBeginWhereNamesSay = (source : List ℕ) (parts : Parts) → source_image source ≡ Ok parts
+    → (front after : List Item) (i : Item) → items_of source ≡ front ++ i ∷ after → starts_function i ≡ true
+    → slice_get (map (λ (f : Function). f.entry) parts.functions) (count starts_function front) ≡ Some (code_address (reverse front))
 
 -- The data of a source without faults lie in its image where the labels say: the bytes of each line are those of the image from the address on
 -- that the line's labels have.

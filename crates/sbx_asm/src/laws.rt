@@ -1,5 +1,5 @@
 //! What holds of the source meaning itself. Each law is the contract of a function that does nothing.
-ghost use Rattle.sbx_asm.specs.Laws.{MeantImagesFitTheirFields, CodeIsItsStatements, DataLieWhereLabelsSay, RegionsBeginWhereLabelsSay, WordsLookAheadByLabelsAlone, BlankLinesSayNothing, BlankLinesChangeNothing, NumbersShowInFaultsAlone, LabelsMayBeRenamed, TheLeastFaultIsTold};
+ghost use Rattle.sbx_asm.specs.Laws.{MeantImagesFitTheirFields, CodeIsItsStatements, CodeLiesWhereLabelsSay, FunctionsBeginWhereNamesSay, DataLieWhereLabelsSay, RegionsBeginWhereLabelsSay, WordsLookAheadByLabelsAlone, BlankLinesSayNothing, BlankLinesChangeNothing, NumbersShowInFaultsAlone, LabelsMayBeRenamed, TheLeastFaultIsTold};
 
 /// Of each image that a source means, each number is one that its field can hold, and its regions have bytes.
 pub fn meant_images_fit_their_fields()
@@ -10,6 +10,12 @@ pub fn meant_images_fit_their_fields()
 #[tactic(auto, using(crate::proofs::Meanings::code_is))]
 pub fn code_is_its_statements()
     ensures { CodeIsItsStatements }
+{}
+
+/// The code of an image lies where the source's labels say: a statement's words at its labels, a function where its name says.
+pub fn code_lies_where_labels_say()
+    ensures words { CodeLiesWhereLabelsSay }
+    ensures functions { FunctionsBeginWhereNamesSay }
 {}
 
 /// The data of an image lie where the source's labels say.

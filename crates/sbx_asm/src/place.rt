@@ -2,7 +2,7 @@
 ghost use Rattle.std.specs.Prelude.{◌≡◌, ◌+◌, ◌-◌, ◌*◌, ◌≤◌, min, nat_le, List, [], ◌∷◌};
 ghost use Rattle.sbx_directives.specs.Data.{bytes_of_width};
 ghost use Rattle.sbx_asm.specs.Items.{Item};
-ghost use Rattle.sbx_asm.specs.Addresses.{code_offset, data_offset, data_length, in_code, label_address, padding_of, section_room, start_behind};
+ghost use Rattle.sbx_asm.specs.Addresses.{code_offset, data_offset, data_length, in_code, label_address, padding_of, section_room, next_start, region_start, start_behind};
 ghost use Rattle.sbx_asm.specs.Kept.{place_at};
 
 use crate::kinds::{is_data, is_region, is_text};
@@ -23,6 +23,8 @@ pub struct Place {
     pub in_code: bool,
     /// The address of what comes next in the code.
     pub next_word: u32,
+    /// Whether a region has begun.
+    pub has_region: bool,
     /// Where the newest region begins, or the data where there are no regions.
     pub region_start: u32,
     pub region_bytes: u32,
@@ -105,6 +107,7 @@ impl Place {
         Place {
             in_code: true,
             next_word: CODE_START,
+            has_region: false,
             region_start: DATA_START,
             region_bytes: 0,
         }
@@ -117,6 +120,17 @@ impl Place {
         self.next_word.saturating_sub(CODE_START)
     }
 
+    /// Where a region begins: the first one where the data do, each next one behind the one before.
+    fn next_start(self) -> u32
+        ensures { (before : List Item) → self ≡ place_at before → result ≡ next_start before (region_start before) }
+    {
+        if self.has_region {
+            start_behind(self.region_start, self.region_bytes)
+        } else {
+            DATA_START
+        }
+    }
+
     /// Behind one more line.
     pub fn after(self, line: &Line<'_>) -> Place
         ensures { (before : List Item) → self ≡ place_at before → result ≡ place_at (line.now ∷ before) }
@@ -127,7 +141,8 @@ impl Place {
             Place {
                 in_code,
                 next_word,
-                region_start: start_behind(self.region_start, self.region_bytes),
+                has_region: true,
+                region_start: self.next_start(),
                 region_bytes: 0,
             }
         } else {
@@ -135,6 +150,7 @@ impl Place {
             Place {
                 in_code,
                 next_word,
+                has_region: self.has_region,
                 region_start: self.region_start,
                 region_bytes: up_to_room(self.region_bytes, more),
             }

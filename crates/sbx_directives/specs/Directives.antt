@@ -171,18 +171,18 @@ directive_of line Keyword.Skip (o ∷ []) = natural_in 0 18446744073709551615 o 
 directive_of line Keyword.Align (o ∷ []) = natural_in 2 8 o >>= λ n. if n == 2 || (n == 4 || n == 8) then Some (Directive.Align n) else None
 directive_of line _ _ = None
 
--- what a function or a block is called, whatever its other operands
-unfoldable pub called : Keyword → List Operand → Option Name
-called Keyword.Function (o ∷ os) = plain_name o
-called Keyword.Block (o ∷ os) = plain_name o
+-- what a function or a block is called, whatever else stands there: the first word behind the keyword, where it is a name
+unfoldable pub called : Keyword → List Word → Option Name
+called Keyword.Function (Word.Name k i j ∷ ws) = Some (record { start = i; stop = j })
+called Keyword.Block (Word.Name k i j ∷ ws) = Some (record { start = i; stop = j })
 called _ _ = None
 
-abbrev pub told : List ℕ → Keyword → List Operand → Statement
-told line k os = option_map_or Statement.Directive (directive_of line k os) (Statement.Malformed k (called k os))
+abbrev pub told : List ℕ → Keyword → List Token → Statement
+told line k rest = option_map_or Statement.Directive (directive_of line k (operands_of line rest)) (Statement.Malformed k (called k (words_of line rest)))
 
 -- a name that is no directive's begins an instruction
 abbrev pub begun : List ℕ → Word → List Token → Statement
-begun line (Word.Name k start stop) rest = option_map_or (λ k. told line k (operands_of line rest)) (keyword_named (bytes_between line start stop)) Statement.Instruction
+begun line (Word.Name k start stop) rest = option_map_or (λ k. told line k rest) (keyword_named (bytes_between line start stop)) Statement.Instruction
 begun line _ rest = Statement.Instruction
 
 -- What the tokens behind the labels of a line ask for.

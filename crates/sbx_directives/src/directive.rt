@@ -104,7 +104,7 @@ pub enum Statement {
     Nothing,
     Directive(Directive),
     /// A directive's name, but its operands have another shape, or a number passes its bound. What a `.function` or `.block` is
-    /// called stands beside it, where that can be read: it is a label all the same.
+    /// called stands beside it, where a name is the first token behind it: that is a label all the same.
     Malformed(Keyword, Option<Name>),
     /// Anything else: an instruction, or what is neither.
     Instruction,

@@ -1,6 +1,7 @@
 // What stands behind the labels of a line.
-ghost use Rattle.std.specs.Prelude.{◌≡◌, ◌≤◌, if◌then◌else◌, [], ◌∷◌};
+ghost use Rattle.std.specs.Prelude.{◌≡◌, ◌≤◌, if◌then◌else◌, [], ◌∷◌, drop};
 ghost use Rattle.std.specs.List.{list_any, list_all};
+ghost use Rattle.v8_syntax.specs.Statements.{words_of};
 ghost use Rattle.sbx_directives.specs.declared.directive.Keyword.TheVariants as keywords;
 ghost use Rattle.sbx_directives.specs.Directives.{behind, names, frames_of, right_of, is_service, named_services, services_of, is_expression, value_count, directive_of, called, told, statement_of};
 
@@ -10,7 +11,7 @@ use crate::number::{coefficient, integer_in, location, natural_in, plain_name, r
 use crate::operand::{Operand, next_operand, none, one, operands};
 use sbx_image::{Cell, Kind, Services, Term};
 use sbx_text::Token;
-use v8_syntax::{Word, beside, bytes_between, is_same, word_of};
+use v8_syntax::{Word, after_first, beside, bytes_between, front, is_same, word_of};
 
 /// Whether an operand is the name that is wanted.
 fn names(wanted: &[u8], line: &[u8], operand: &Operand) -> bool
@@ -239,29 +240,27 @@ fn directive_of(line: &[u8], keyword: Keyword, tokens: &[Token]) -> Option<Direc
     }
 }
 
-/// What a function or a block is called, whatever its other operands.
+/// What a function or a block is called, whatever else stands there: the first token behind the keyword, where it is a name.
 #[tactic(auto, unfolding(crate::specs::Directives::called))]
 fn called(line: &[u8], keyword: Keyword, tokens: &[Token]) -> Option<Name>
-    ensures { result ≡ called keyword (behind line.now tokens.now) }
+    ensures { result ≡ called keyword (words_of line.now tokens.now) }
 {
     match keyword {
-        Keyword::Function | Keyword::Block => {
-            let Some((first, _)) = next_operand(line, tokens) else {
-                return None;
-            };
-            plain_name(first)
-        }
+        Keyword::Function | Keyword::Block => match front(line, tokens) {
+            Some((Word::Name(_, start, stop), _)) => Some(Name { start, stop }),
+            _ => None,
+        },
         _ => None,
     }
 }
 
-/// The directive of a keyword and the operands behind the first token, or what is wrong in its place.
+/// The directive of a keyword, which is the first of some tokens, or what is wrong in its place.
 fn told(line: &[u8], keyword: Keyword, tokens: &[Token]) -> Statement
-    ensures { result ≡ told line.now keyword (behind line.now tokens.now) }
+    ensures { result ≡ told line.now keyword (drop 1 tokens.now) }
 {
-    match directive_of(line, keyword, tokens) {
+    match directive_of(line, keyword, operands(tokens)) {
         Some(directive) => Statement::Directive(directive),
-        None => Statement::Malformed(keyword, called(line, keyword, tokens)),
+        None => Statement::Malformed(keyword, called(line, keyword, after_first(tokens))),
     }
 }
 
@@ -276,7 +275,7 @@ pub fn read_statement(line: &[u8], tokens: &[Token]) -> Statement
     };
     match word_of(line, first) {
         Word::Name(_, start, stop) => match keyword_named(bytes_between(line, start, stop)) {
-            Some(keyword) => told(line, keyword, operands(tokens)),
+            Some(keyword) => told(line, keyword, tokens),
             None => Statement::Instruction,
         },
         _ => Statement::Instruction,

@@ -6,5 +6,5 @@ mod Parts
 mod Names
 mod Covered
 mod Whole
-mod Lengths
+pub mod Lengths
 mod Bare
