@@ -1,4 +1,5 @@
 pub mod Packing
+pub mod Ordered
 pub mod Products
 pub mod Examples
 pub mod Tables

@@ -3,8 +3,8 @@ ghost use Rattle.std.specs.Prelude.{◌≡◌, ℕ, ℤ, ◌≤◌, ◌^◌, ◌
 ghost use Rattle.std.specs.List.{list_all};
 ghost use Rattle.arrayvec.specs.ArrayVec.{array_vec_len};
 ghost use Rattle.sbx_form.specs.declared.terms.FormTerm.{FormTerm};
-ghost use Rattle.sbx_form.specs.Forms.{AreWithin};
-ghost use Rattle.sbx_domain.specs.Forms.{combined, constant_form, form_of_location, is_kept, is_small, kept};
+ghost use Rattle.sbx_form.specs.Forms.{AreWithin, AscendFrom};
+ghost use Rattle.sbx_domain.specs.Forms.{ascend_from, combined, constant_form, form_of_location, is_kept, is_small, kept};
 ghost use Rattle.sbx_domain.specs.Packed.{blank, narrowed, no_term, widened};
 
 use arrayvec::ArrayVec;
@@ -19,7 +19,7 @@ struct KeptTerm {
 }
 
 /// A constant plus at most eight terms, by location, over the numbers that a block's cells start with. No coefficient is
-/// above 2^32 in magnitude, and the constant isn't above 2^40.
+/// above 2^32 in magnitude, and the constant isn't above 2^40. Locations ascend, so each stands once.
 #[derive(Clone, Copy)]
 pub struct Lin {
     constant: i64,
@@ -35,7 +35,7 @@ const BLANK: KeptTerm = KeptTerm {
 
 impl Model for Lin {
     ghost use Rattle.std.specs.Prelude.{◌≡◌, ◌≤◌, ◌-◌, ◌++◌, true, Some, length, take, drop, map, replicate};
-    ghost use Rattle.sbx_domain.specs.Forms.{Form, is_kept};
+    ghost use Rattle.sbx_domain.specs.Forms.{Form, ascend_from, is_kept};
     ghost use Rattle.sbx_domain.specs.Packed.{blank, count_back, narrowed, terms_back, widened};
 
     ghost Value = { Form };
@@ -43,7 +43,8 @@ impl Model for Lin {
     ghost view = { λ f. record { constant = f.constant; terms = map widened (take f.count f.terms) } };
 
     ghost invariant = { λ f. (f.count ≤ 8) × (f.count ≤ length f.terms) × (drop f.count f.terms ≡ replicate (8 - f.count) blank)
-        × (is_kept (record { constant = f.constant; terms = map widened (take f.count f.terms) }) ≡ true) };
+        × (is_kept (record { constant = f.constant; terms = map widened (take f.count f.terms) }) ≡ true)
+        × (ascend_from 0 (map widened (take f.count f.terms)) ≡ true) };
 
     ghost inverse = { λ v. record { constant = v.constant; terms = map narrowed v.terms ++ replicate (8 - length v.terms) blank; count = length v.terms } };
 
@@ -117,6 +118,7 @@ fn are_small(terms: &[FormTerm]) -> bool
 /// The form of a constant and these terms, unless it is too large to be kept.
 #[tactic(auto, unfolding(crate::specs::Forms::is_kept))]
 fn kept(constant: i128, terms: &[FormTerm]) -> Option<Lin>
+    requires { ascend_from 0 terms.now ≡ true }
     ensures { result ≡ kept (record { constant = constant; terms = terms.now }) }
 {
     if terms.len() <= 8 && constant.unsigned_abs() <= 1 << 40 && are_small(terms) {
@@ -215,11 +217,12 @@ impl Lin {
         self.constant
     }
 
-    /// The terms, by location.
+    /// The terms, by location, which ascends.
     pub fn terms<const N: usize>(&self) -> ArrayVec<FormTerm, N>
         requires { 8 ≤ N }
         ensures value { result.items ≡ self.now.terms }
         ensures few { length result.items ≤ 8 }
+        ensures ascending { AscendFrom 0 result.items }
         ensures small { AreWithin (2 ^ 32) result.items }
     {
         unpacked(&self.terms[..usize::from(self.count)])

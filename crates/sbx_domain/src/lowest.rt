@@ -2,7 +2,7 @@
 ghost use Rattle.std.specs.Prelude.{◌≡◌, ◌≤◌, ◌^◌, length, unsigned_abs};
 ghost use Rattle.sbx_form.specs.Forms.{AreWithin, least_terms};
 ghost use Rattle.sbx_domain.specs.Known.{known};
-ghost use Rattle.sbx_domain.specs.Least.{ends_known, least_value, range_or_zero};
+ghost use Rattle.sbx_domain.specs.Least.{IsLeast, ends_known, least_value, range_or_zero};
 
 use crate::lin::{Lin, with_constant};
 use crate::state::State;
@@ -36,10 +36,12 @@ fn least_of(terms: &[FormTerm], start: &State) -> i128
 }
 
 /// The least value of a form over all numbers from the lower to the upper ends of what is known where its block starts.
-/// Alignments don't matter. A location that isn't defined there counts as 0.
+/// Alignments don't matter. A location that isn't defined there counts as 0. No such numbers make the form less, and some make it
+/// that, where there are any.
 #[tactic(auto, unfolding(crate::specs::Least::least_value))]
 pub fn least(form: &Lin, start: &State) -> i128
-    ensures { result ≡ least_value (ends_known (known start.now)) form.now }
+    ensures value { result ≡ least_value (ends_known (known start.now)) form.now }
+    ensures least { IsLeast (ends_known (known start.now)) form.now result }
 {
     let terms: ArrayVec<FormTerm, 8> = form.terms();
     with_constant(least_of(terms.as_slice(), start), form.constant())

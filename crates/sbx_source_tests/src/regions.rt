@@ -39,7 +39,7 @@ fn writes_regions(rt: HostRuntime) {
 }
 
 /// Sources behind the line of a function.
-static INSIDE: [(&str, &str); 20] = [
+static INSIDE: [(&str, &str); 22] = [
     (" nop\n.region ro\n.byte 1\n.data", "line 5: A2"),
     (" nop\n.data\n.region rw\n.byte 1", "line 4: A2"),
     (
@@ -78,6 +78,14 @@ static INSIDE: [(&str, &str); 20] = [
         "01000000 91D02000 0100000000000000",
     ),
     (".region ro\n.byte 1", "line 1: A2"),
+    (
+        " ld [%g1+x-0x80000],%g2\n.data\n.byte 1\n.region rw\nx: .byte 1",
+        "line 5: A2",
+    ),
+    (
+        " ld [%g1+x-0x80000],%g2\n.byte 1\n.region rw\nx: .byte 1",
+        "line 3: A2",
+    ),
 ];
 
 /// Regions of which no function stands before.

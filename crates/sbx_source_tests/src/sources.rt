@@ -309,7 +309,7 @@ fn bare_sources(rt: HostRuntime) {
 }
 
 /// Sources behind the line of a function.
-static INSIDE: [(&str, &str); 55] = [
+static INSIDE: [(&str, &str); 57] = [
     (" save %sp,-4096,%sp", "9DE3B000 "),
     (" save %sp,-4104,%sp", "line 2: S3"),
     (" unimp 4194303", "003FFFFF "),
@@ -328,6 +328,8 @@ static INSIDE: [(&str, &str); 55] = [
     (" nop\n.block b\n $\n.block c\n", "line 4: X2"),
     (" nop\n.block b,c\n.block d\n nop", "line 3: A2"),
     (" ba b\n nop\n.block b,c\n nop", "line 4: A2"),
+    (" ba b\n nop\n.block b c\n nop", "line 4: A2"),
+    (" call g\n nop\n.function g leaf,0,0,2\n nop", "line 4: A2"),
     (" ba b\n nop\n.block 5\n nop", "line 2: S4"),
     (" ba g\n nop\n.function g,leaf,0,0\n nop", "line 4: A2"),
     (" nop\n.block f,c\n nop", "line 3: A1"),
