@@ -12,11 +12,11 @@ const TOGETHER = {
 
 const inWindowTrap = (side, turn) => side.story.kinds[turn] === OF_OVERFLOW || side.story.kinds[turn] === OF_UNDERFLOW;
 
-// What distinguishes two runs, in words.
-function titlesOf(first, second) {
-  if (first.run.windows !== second.run.windows)
-    return [first.run.windows + ' windows', second.run.windows + ' windows'];
-  return ['the first run', 'the second run'];
+// Two runs on one count of windows have numbers for titles, which they keep where they are exchanged.
+function numberRuns(first, second) {
+  if (first.run.windows !== second.run.windows) return;
+  first.story.title = 'first run';
+  second.story.title = 'second run';
 }
 
 // The registers of the current windows that hold different words.
@@ -52,8 +52,8 @@ class Comparison {
   show(turn, other) {
     const {first, second} = this;
     this.body.replaceChildren();
-    const titles = titlesOf(first, second), waits = inWindowTrap(first, turn) || inWindowTrap(second, other);
-    this.row('', titles[0], titles[1], null);
+    const waits = inWindowTrap(first, turn) || inWindowTrap(second, other);
+    this.row('', first.story.title, second.story.title, null);
     const [one, two] = [first.story.plain[turn], second.story.plain[other]];
     this.row('turns', turn + ' of ' + first.run.turns, other + ' of ' + second.run.turns, turn === other);
     this.row('of these in window traps', String(turn - one), String(other - two), turn - one === other - two);
@@ -82,9 +82,8 @@ class BesidePane {
     this.second = second;
     this.comparison = new Comparison(first, second);
     this.windows = new WindowsPane(byId('second'), second.run, second.story, () => {});
-    const titles = titlesOf(first, second);
-    byId('out1n').textContent = 'Output, ' + titles[0];
-    byId('out2n').textContent = 'Output, ' + titles[1];
+    byId('out1n').textContent = 'Output, ' + first.story.title;
+    byId('out2n').textContent = 'Output, ' + second.story.title;
   }
 
   // Where the second run stands: with the first one, or where it stood.

@@ -15,6 +15,7 @@ function sideOf(id) {
 class Page {
   constructor(first, second) {
     this.sides = second ? [first, second] : [first];
+    if (second) numberRuns(first, second);
     this.turn = -1;
     this.layout = second ? 'two' : '0';
     this.build();

@@ -15,6 +15,7 @@ function kindOfTrap(type) {
 class Story {
   constructor(run) {
     this.run = run;
+    this.title = run.windows + ' windows';
     this.traps = [];
     this.kinds = new Uint8Array(run.turns + 2);
     this.plain = new Uint32Array(run.turns + 2);  // turns up to each, without those of window traps

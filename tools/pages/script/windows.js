@@ -153,7 +153,7 @@ class WindowsPane {
     const {run, story} = this, window = run.window(turn), supervisor = run.isSupervisor(turn),
                 open = story.openFrames(turn);
     this.turn = turn;
-    this.title.replaceChildren(runTitle(run),
+    this.title.replaceChildren(story.title,
       element(
         'span', '', ' turn ' + turn + ' of ' + run.turns + ' \u00B7 ' + story.plain[turn] + ' without window traps'));
     this.say.className = 'say';
@@ -242,5 +242,3 @@ class WindowsPane {
       .map(it => this.bit(String(it), wim >>> it & 1, changed >>> it & 1, 'window ' + it));
   }
 }
-
-const runTitle = run => run.windows + ' windows';
