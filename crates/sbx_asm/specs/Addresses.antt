@@ -78,7 +78,7 @@ pub record Label : Type 0 where
   pub address : ℕ
   pub line : ℕ
 
--- the names of a function and of a block are labels of their first words, whatever their other operands
+-- the names of a function and of a block are labels of their first words, whatever else stands there
 abbrev pub names_said : List ℕ → Said → List (List ℕ)
 names_said line (Ok (statements.Directive (directives.Function name kind frame room budget))) = text_of line name ∷ []
 names_said line (Ok (statements.Directive (directives.Block name))) = text_of line name ∷ []

@@ -26,13 +26,13 @@ abbrev pub code_at : List ℕ → ℕ → Option ℕ
 code_at words address =
     if nat_le CODE_START address && (address % 4 == 0) then slice_get words ((address - CODE_START) / 4) else None
 
--- It lies in the image where the labels say: the words of each statement are those of the code from the address on that the line's labels have.
+-- The code lies in the image where the labels say: the words of each statement are those of the code from the address on that the line's labels have.
 abbrev pub CodeLiesWhereLabelsSay : Type 0
 CodeLiesWhereLabelsSay = (source : List ℕ) (parts : Parts) → source_image source ≡ Ok parts
     → (front after : List Item) (i : Item) (k w : ℕ) → items_of source ≡ front ++ i ∷ after
     → slice_get (words_at (values_of (items_of source)) (reverse front) i after) k ≡ Some w → code_at parts.words (label_address (reverse front) + 4 * k) ≡ Some w
 
--- So do its functions: a `.function` begins the one with its number, counted from 0, and its name is worth the address of its entry.
+-- So do its functions: a `.function` begins the one with its number, counted from 0, whose entry is the address of the code at its line.
 abbrev pub FunctionsBeginWhereNamesSay : Type 0
 FunctionsBeginWhereNamesSay = (source : List ℕ) (parts : Parts) → source_image source ≡ Ok parts
     → (front after : List Item) (i : Item) → items_of source ≡ front ++ i ∷ after → starts_function i ≡ true

@@ -12,7 +12,7 @@ pub fn code_is_its_statements()
     ensures { CodeIsItsStatements }
 {}
 
-/// The code of an image lies where the source's labels say: a statement's words at its labels, a function where its name says.
+/// The code of an image lies where the source's labels say: a statement's words at its labels, a function's entry at its line.
 pub fn code_lies_where_labels_say()
     ensures words { CodeLiesWhereLabelsSay }
     ensures functions { FunctionsBeginWhereNamesSay }

@@ -21,7 +21,7 @@ pub struct Survey<'a> {
     pub fault: Option<AsmFault>,
 }
 
-/// The name of a function or of a block, whatever its other operands.
+/// The name of a function or of a block, whatever else stands there.
 fn name_said(line: &[u8], said: Result<Statement, TextFault>) -> Option<Name>
     ensures { MatchOption result (names_said line.now said ≡ []) (λ name. names_said line.now said ≡ text_of line.now name ∷ []) }
 {

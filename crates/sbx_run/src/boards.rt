@@ -26,7 +26,8 @@ pub struct Ended {
 /// registers, its stack and the image before left. The image exits within its budget, as every run on the flat machine does, and the
 /// board stands where the last turn left it; with so many windows as `run_accepted` says none overflows or underflows. On a fault of
 /// the port it stands after the last whole turn, and `Board::run` goes on with the turns that are left of the budget; the port's count
-/// of failures rose by one, as it does nowhere else. The port is called at most once a turn, and once more where it fails.
+/// of failures rose by one, as it does nowhere else. In all, the port is called at most once for each turn made, and
+/// once more where it fails.
 pub fn run_board<const N: usize, P: Port>(
     board: &mut Board<N, P>,
     accepted: &Accepted,

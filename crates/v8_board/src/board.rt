@@ -191,8 +191,8 @@ impl<const N: usize, P: Port> Board<N, P> {
 
     /// Runs to an end, but at most so many turns. After an end it tells that end again. On a fault of the port the board stands
     /// after the last whole turn, with fewer turns made than were allowed and no end met; with the turns that are left it goes on
-    /// as if nothing was. The port's count of failures rose by one, as it does nowhere else. The port is called at most once a turn, by
-    /// the access that `step` tells of, and once more where it fails. A loaded image stays contained.
+    /// as if nothing was. The port's count of failures rose by one, as it does nowhere else. In all, the port is called
+    /// no more often than `step` allows in the turns made, and once more where it fails. A loaded image stays contained.
     pub fn run(&mut self, limit: u64) -> Result<Outcome, PortFault>
         ensures run { IfOk result (λ told. IsRun N limit self.old.state self.new.state) }
         ensures told { IfOk result (λ told. told ≡ outcome_of N self.new.state) }
