@@ -1,0 +1,4 @@
+pub mod Values
+pub mod ImageHandleValues
+pub mod RunHandleValues
+pub mod SteppedOn

@@ -1,0 +1,34 @@
+-- What a run leaves with its caller.
+use Rattle.std.specs.Prelude.{◌≡◌, ◌⊎◌, ℕ, ◌++◌, List, drop, length}
+use Rattle.sbx_image.specs.Parts.{Parts}
+use Rattle.sbx_run.specs.Answer.{IsAnswer, KeepsItsDepth, told_of}
+use Rattle.sbx_run.specs.declared.runner.Finished.{Finished}
+use Rattle.geyserpan.specs.declared.running.Report.{Report}
+use Rattle.geyserpan.specs.declared.statuses.TheConstants.{OK, ROOM, OUTPUT}
+
+-- The report tells each thing that the run gave.
+pub record Tells (finished : Finished) (report : Report) : Type 0 where
+  pub exit : report.exit ≡ finished.status
+  pub turns : report.turns ≡ finished.turns
+  pub overflows : report.overflows ≡ finished.overflows
+  pub underflows : report.underflows ≡ finished.underflows
+  pub output : report.output ≡ length finished.output.items
+  pub referenced : report.referenced ≡ finished.pages.referenced
+  pub modified : report.modified ≡ finished.pages.modified
+
+-- The room begins with the output, and goes on as it was.
+abbrev pub Hands : Finished → List ℕ → List ℕ → Type 0
+Hands finished before after = after ≡ finished.output.items ++ drop (length finished.output.items) before
+
+-- The report is of the image's run on this input, on so many windows.
+abbrev pub HasReport : Parts → ℕ → List ℕ → Report → Type 0
+HasReport parts windows input report =
+    (finished : Finished) × IsAnswer parts windows input finished × KeepsItsDepth parts windows (told_of finished) × Tells finished report
+
+-- The room begins with the output of the image's run on this input, goes on as it was, and the report tells the rest.
+abbrev pub HasRun : Parts → ℕ → List ℕ → List ℕ → List ℕ → Report → Type 0
+HasRun parts windows input before after report =
+    (finished : Finished) × IsAnswer parts windows input finished × KeepsItsDepth parts windows (told_of finished) × Hands finished before after × Tells finished report
+
+abbrev pub IsHandStatus : ℕ → Type 0
+IsHandStatus status = (status ≡ OK) ⊎ ((status ≡ ROOM) ⊎ (status ≡ OUTPUT))

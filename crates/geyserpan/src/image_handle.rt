@@ -1,0 +1,49 @@
+//! The slot of an image, as a caller outside has it: by its pointer.
+ghost use Rattle.std.specs.Prelude.{◌≡◌};
+ghost use Rattle.std.specs.Box.Ownership.{box_owns};
+ghost use Rattle.libc.specs.Heap.{chunk};
+ghost use Rattle.geyserpan.specs.declared.image_slot.ImageSlot.{ImageSlot};
+ghost use Rattle.geyserpan.specs.contracts.image_slot.ImageSlot.{the_row};
+
+use crate::image_slot::ImageSlot;
+use crate::loose::Loose;
+use std::alloc::Global;
+use std::marker::Model;
+
+/// A pointer to it, and the right to it. C hands it over as the pointer.
+#[repr(C)]
+pub struct ImageHandle {
+    at: *mut u8,
+    alloc: Global,
+    ghost value: { ImageSlot },
+}
+
+impl Model for ImageHandle {
+    ghost also_owns = { λ h. box_owns chunk the_row h.at h.value };
+}
+
+unsafe impl Send for ImageHandle {}
+
+impl ImageHandle {
+    ghost use Rattle.std.specs.Borrow.{Lends, sem};
+    ghost use Rattle.geyserpan.specs.contracts.image_handle.ImageHandle.{the_row as handle_row};
+
+    /// Names what lies at the pointer.
+    pub fn loosen(self) -> Loose<ImageSlot, Global>
+        ensures { result.value ≡ self.value }
+    {
+        let ImageHandle { at, alloc } = self;
+        Loose {
+            at: at as *mut ImageSlot,
+            alloc,
+        }
+    }
+
+    /// What lies at the pointer, as long as the handle is lent.
+    pub fn lent(&mut self) -> &mut ImageSlot
+        ensures* writes_back { sem 𝓛 (Lends handle_row the_row self.entry result (λ w. record self.old { value = w })) }
+        ensures value { result.now ≡ self.old.value }
+    {
+        unsafe { &mut *(self.at as *mut ImageSlot) }
+    }
+}

@@ -1,0 +1,127 @@
+//! What the handle of a run in pieces holds.
+ghost use Rattle.std.specs.Prelude.{◌≡◌, ◌≢◌};
+ghost use Rattle.sbx_session.specs.Steps.{IsVouched};
+
+use crate::image_slot::Kept;
+use crate::statuses::{ENDED, FULL, HANDLE, LOST, MEMORY, OK, OUTPUT, PAUSED, WANTS, WINDOWS};
+use sbx_session::{Session, Stand};
+use std::alloc::Global;
+
+/// So many windows a run in pieces has.
+const RUN_WINDOWS: u32 = 8;
+
+/// What a step did: the turns of the run so far, how many bytes of the piece were read, how many were written to the front of the room,
+/// and the exit word of a run that has ended.
+#[repr(C)]
+#[derive(Clone, Copy)]
+pub struct Done {
+    pub turns: u64,
+    pub read: u64,
+    pub written: u64,
+    pub exit: u32,
+    pub zero: u32,
+}
+
+/// A run on 8 windows, and how many bytes of output it is still granted.
+#[derive(Drop)]
+pub struct Going {
+    pub session: Session<8>,
+    pub granted: u64,
+}
+
+/// A run, or none.
+#[derive(Drop)]
+pub struct RunSlot {
+    pub going: Option<Going>,
+}
+
+/// The status of a step, and the exit word; `is_cut` tells that the room ended where the terms grant no more.
+fn status_of(stand: Stand, is_cut: bool) -> (u32, u32)
+    ensures vouched { result.0 ≢ LOST → IsVouched stand }
+    ensures ended { result.0 ≡ ENDED → stand ≡ Stand.Ended result.1 }
+    ensures holds { result.0 ≢ HANDLE }
+{
+    match stand {
+        Stand::Ended(word) => (ENDED, word),
+        Stand::Wants => (WANTS, 0),
+        Stand::Full => (if is_cut { OUTPUT } else { FULL }, 0),
+        Stand::Paused => (PAUSED, 0),
+        Stand::Lost => (LOST, 0),
+    }
+}
+
+impl Going {
+    ghost use Rattle.geyserpan.specs.Goings.{IsGoingOn};
+
+    /// Goes on with the run, and writes at most as many bytes as it is still granted.
+    pub fn step(
+        &mut self,
+        turns: u64,
+        input: &[u8],
+        last: bool,
+        room: &mut [u8],
+        done: &mut Done,
+    ) -> u32
+        ensures { IsGoingOn self.old self.new input.now room.old room.new done.new result }
+    {
+        let most = room.len().min(self.granted as usize);
+        let is_cut = most < room.len();
+        let (front, _behind) = room.split_at_mut(most);
+        let step = self.session.step(turns, input, last, front);
+        self.granted = self.granted.saturating_sub(step.written as u64);
+        let (status, exit) = status_of(step.stand, is_cut);
+        *done = Done {
+            turns: self.session.turns(),
+            read: step.read as u64,
+            written: step.written as u64,
+            exit,
+            zero: 0,
+        };
+        status
+    }
+}
+
+impl RunSlot {
+    ghost use Rattle.geyserpan.specs.Goings.{Begins};
+
+    /// Begins a run of a kept image on the board that is there, else on a new one.
+    pub fn begin(&mut self, alloc: Global, kept: &Kept) -> u32
+        ensures begun { result ≡ OK → Begins kept.now self.new }
+        ensures stays { result ≢ OK → self.new ≡ self.old }
+    {
+        if self.going.is_some() {
+            return self.restart(kept);
+        }
+        if kept.terms.windows != RUN_WINDOWS {
+            return WINDOWS;
+        }
+        match Session::new(alloc, &kept.accepted) {
+            Ok(session) => {
+                self.going = Some(Going {
+                    session,
+                    granted: kept.terms.output,
+                });
+                OK
+            }
+            Err(_refused) => MEMORY,
+        }
+    }
+
+    /// Begins a run of a kept image on the board that is there.
+    pub fn restart(&mut self, kept: &Kept) -> u32
+        ensures begun { result ≡ OK → Begins kept.now self.new }
+        ensures stays { result ≢ OK → self.new ≡ self.old }
+    {
+        if kept.terms.windows != RUN_WINDOWS {
+            return WINDOWS;
+        }
+        match &mut self.going {
+            Some(going) => {
+                going.session.restart(&kept.accepted);
+                going.granted = kept.terms.output;
+                OK
+            }
+            None => HANDLE,
+        }
+    }
+}

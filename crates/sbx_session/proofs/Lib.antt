@@ -1,0 +1,2 @@
+pub mod UnderWay
+pub mod Stepping

@@ -1,0 +1,204 @@
+/* geyserpan.h: runs machine code that you don't trust inside your own process.
+
+   An image is a program with its annotations. Before its first instruction runs, a verifier has shown that it ends within the turns
+   that it declares, and reaches nothing but its own pages, its input and its output. Verifier and machine are proved, and so is what
+   the comments below say of OK and of the other statuses, but for what they call "only tested".
+
+   What you owe, and nobody checks:
+
+   - Pointers. None is NULL, also where its length is 0. Each has room for what its type says, or for as many bytes as its length
+     says, which is below 2^63. What a call writes to (`room`, and what a pointer without const points to) overlaps nothing else that
+     the call is given. What it only reads may overlap.
+   - Handles. A handle is what its `new` wrote, and is given to none after its `free`: after that, and for any other pointer, a call
+     is undefined behaviour. The struct may be copied and moved; the copies are one handle.
+   - Threads. A handle is given to one call at a time. Between calls it may go to another thread, ordered by a lock or a join. Calls
+     with different handles, and calls without any, run side by side in as many threads as you like: the library has no state of
+     its own.
+   - No call from a signal handler, or from the forked child of a process that has threads; no longjmp out of one, and no
+     cancellation of a thread within one.
+   - 64 KB of stack, an x86-64 processor with SSE4.2 and POPCNT (x86-64-v2), and malloc, realloc and free that are one allocator
+     with blocks aligned to 16. Instead of these a host may define the three functions at the end.
+
+   Statuses. Each call answers one of the numbers below, and where it isn't said otherwise:
+
+   - a status other than OK writes nothing: no byte of `room`, and none of the structs but those named beside the status;
+   - handles hold what they held;
+   - the call may be made again with what was wrong set right, and MEMORY at any time.
+
+   An image declares its turns and its services, and the verifier holds it to them; it doesn't judge whether they are too many. That
+   is for you: give terms. */
+#ifndef GEYSERPAN_H
+#define GEYSERPAN_H
+#include <stddef.h>
+#include <stdint.h>
+#ifdef __cplusplus
+extern "C" {
+#endif
+
+/* The number of these calls, and of the shared object's name. It rises where a struct, a status or a call changes its meaning, and with
+   nothing else: new calls and new statuses don't raise it. So a host compares geyserpan_abi() with GEYSERPAN_ABI, and takes a status
+   that it doesn't know for a refusal. */
+#define GEYSERPAN_ABI 1
+uint32_t geyserpan_abi(void);
+
+/* The version of the library's sources as text, without an end mark: its length, at most 32, and the text at the front of the room,
+   if it fits there. */
+size_t geyserpan_version(uint8_t *room, size_t room_length);
+
+enum geyserpan_status {
+    GEYSERPAN_OK = 0,        /* the call did what it is for */
+    GEYSERPAN_NO_IMAGE = 1,  /* the bytes are no image: why->number is 1 to 8, of I1 to I8 */
+    GEYSERPAN_REFUSED = 2,   /* the image breaks a rule: why->number is that of the rule, 1 to 20 of V1 to V20, in why->function, at
+                                why->address: of the rules that it breaks the one of least number at the least address */
+    GEYSERPAN_MEMORY = 3,    /* memory was refused */
+    GEYSERPAN_WINDOWS = 4,   /* terms->windows is below 4 or above 32; of begin and restart: the image was opened for other than 8 */
+    GEYSERPAN_SERVICES = 5,  /* the image declares a service that the terms don't grant: it wasn't run */
+    GEYSERPAN_TURNS = 6,     /* the image declares more turns than the terms grant: it wasn't run */
+    GEYSERPAN_ROOM = 7,      /* the room is smaller than what was to be written: report->output, or *needed, is that length, and the
+                                rest of the report is that of the run */
+    GEYSERPAN_ENDED = 8,     /* of step: the run has ended, and done->exit is its exit word; a further step answers the same again */
+    GEYSERPAN_WANTS = 9,     /* of step: the whole piece is read, and the program waits for more */
+    GEYSERPAN_FULL = 10,     /* of step: the room is full, and there is more to put out */
+    GEYSERPAN_PAUSED = 11,   /* of step: so many turns as were asked for are made */
+    GEYSERPAN_HANDLE = 12,   /* the handle of an image holds none, or that of a run holds no run */
+    GEYSERPAN_SOURCE = 13,   /* the source has a fault: why->number is the cause, 1 to 4 of X1 to X4, 5 to 9 of S1 to S5, 10 to 13 of A1
+                                to A4, and why->address the line */
+    GEYSERPAN_OUTPUT = 14,   /* the output is longer than the terms grant. Of run_image and once: report as with ROOM. Of step: what is
+                                granted was put out, and each further step answers the same with no byte read or written */
+    GEYSERPAN_LOST = 15      /* of step: the board has done what no turn does, and the library can't vouch for the run any more. It has
+                                never been seen; begin again, or end */
+};
+
+/* What a program may ask for: to end, to read a byte of its input, to write a byte of its output. */
+enum geyserpan_service { GEYSERPAN_EXIT = 1, GEYSERPAN_GET = 2, GEYSERPAN_PUT = 4 };
+
+/* What you grant: turns, at 40 million a second or so; bytes of output; services, as a sum of their numbers; and on how many register
+   windows a run is made, 4 to 32, which changes turns and never the output. { 1000000, 65536, 7, 8 } is a fortieth of a second. Terms of
+   nothing, { 0, 0, 0, 8 }, admit nothing, since each image has to end, which takes a service and turns. */
+typedef struct {
+    uint64_t turns, output;
+    uint32_t services, windows;
+} geyserpan_terms;
+
+/* What an image declares and is made of: its budget of turns, at most 2^40; its services; the version of its format, 1 to 3; the words of
+   its code; the bytes of its data; the pages of its stack, 1 to 16; its functions; and the call depth that the first of them declares, 0
+   before version 3. `zero` is 0 in each struct that has it. */
+typedef struct {
+    uint64_t budget;
+    uint32_t services, version, words, data_bytes, stack_pages, functions, depth, zero;
+} geyserpan_facts;
+
+/* Why something was denied; the status says what of it is meant. */
+typedef struct {
+    uint32_t number, function, address;
+} geyserpan_why;
+
+/* What a run gave: turns; how often no window was left to save to, or to restore from; the length of the output; the pages of code, data
+   and stack that were referenced and modified, a bit for each of 64; and the exit word. */
+typedef struct {
+    uint64_t turns, overflows, underflows, output, referenced[3], modified[3];
+    uint32_t exit, zero;
+} geyserpan_report;
+
+/* What a step did: the turns of the run so far; the bytes of this piece that were read (hand the rest in again) and those that were
+   written to the front of the room (take them away); and the exit word, 0 where the status isn't ENDED. Written with each status
+   of step but HANDLE. */
+typedef struct {
+    uint64_t turns, read, written;
+    uint32_t exit, zero;
+} geyserpan_done;
+
+/* The text of a status, with the numbers of `why` where it has any ("refused V14 in function 0 at 0004000C"), in ASCII, without an end
+   mark: its length, at most 96, and the text at the front of the room, if it fits there. Only tested. */
+size_t geyserpan_why_text(uint32_t status, const geyserpan_why *why, uint8_t *room, size_t room_length);
+
+/* ---- Without a handle ---- */
+
+/* The verdict on the bytes of an image: OK writes facts, NO_IMAGE and REFUSED write why; MEMORY. */
+uint32_t geyserpan_check(const uint8_t *image, size_t image_length, geyserpan_facts *facts, geyserpan_why *why);
+
+/* Checks an image, compares it with the terms, and runs it to its end on the input: OK writes the output to the front of the room, and the
+   report. Else NO_IMAGE, REFUSED (why); WINDOWS, SERVICES, TURNS, MEMORY; ROOM, OUTPUT (report). It takes memory for the board, 1 MiB,
+   the image, and the whole output, also one that is too long: at most a byte for 5 turns of the budget. */
+uint32_t geyserpan_once(const uint8_t *image, size_t image_length, const geyserpan_terms *terms, const uint8_t *input,
+                        size_t input_length, uint8_t *room, size_t room_length, geyserpan_report *report, geyserpan_why *why);
+
+/* The image that a source means, written to the front of the room, and its length, to *needed: OK, ROOM (needed), SOURCE (why), MEMORY. */
+uint32_t geyserpan_assemble(const uint8_t *source, size_t source_length, uint8_t *room, size_t room_length, uint64_t *needed,
+                            geyserpan_why *why);
+
+/* ---- Images that are checked once and run often ---- */
+
+typedef struct {
+    void *at;
+} geyserpan_image;
+
+/* Makes a handle that holds no image: OK or MEMORY, which writes no handle. */
+uint32_t geyserpan_image_new(geyserpan_image *image);
+
+/* Ends a handle, with the image that it holds. */
+void geyserpan_image_free(geyserpan_image image);
+
+/* Checks an image, compares it with the terms, and has the handle hold both; what it held before is let go. The bytes aren't needed after
+   it. OK; NO_IMAGE, REFUSED (why); WINDOWS, SERVICES, TURNS, MEMORY: the handle then holds what it held. */
+uint32_t geyserpan_open(geyserpan_image *image, const uint8_t *bytes, size_t length, const geyserpan_terms *terms, geyserpan_why *why);
+
+/* The facts of the image: OK or HANDLE. */
+uint32_t geyserpan_facts_of(geyserpan_image *image, geyserpan_facts *facts);
+
+/* Runs the image to its end on the input, on a new board: OK, ROOM, OUTPUT, MEMORY as `once`; HANDLE. */
+uint32_t geyserpan_run_image(geyserpan_image *image, const uint8_t *input, size_t input_length, uint8_t *room, size_t room_length,
+                             geyserpan_report *report);
+
+/* Lets the image go, and keeps the handle. */
+void geyserpan_close(geyserpan_image *image);
+
+/* ---- Runs in pieces, on a board that is used again ---- */
+
+typedef struct {
+    void *at;
+} geyserpan_run;
+
+/* Makes a handle that holds no run: OK or MEMORY, which writes no handle. */
+uint32_t geyserpan_run_new(geyserpan_run *run);
+
+/* Ends a handle, with its run and its board. */
+void geyserpan_run_free(geyserpan_run run);
+
+/* Begins a run of the image on 8 windows, on the board that the handle has, else on a new one of 1 MiB. The run that it had is given up.
+   The image isn't needed after it: it may be closed, or opened anew, while the run goes on. OK; WINDOWS, HANDLE, MEMORY: the
+   run that there was goes on. */
+uint32_t geyserpan_begin(geyserpan_run *run, geyserpan_image *image);
+
+/* The same on the board that the handle has, without taking memory: OK; WINDOWS, or HANDLE where there is no image or no board. */
+uint32_t geyserpan_restart(geyserpan_run *run, geyserpan_image *image);
+
+/* Goes on with the run for at most so many turns, with the next piece of its input. Where `last` isn't 0 the input ends behind this piece.
+   ENDED, WANTS, FULL, PAUSED, OUTPUT, LOST, each with done; or HANDLE. Pieces and rooms have any size, 0 too: what is put out
+   depends on the bytes alone. What was written so far is a front of the image's output on the bytes read so far, and with ENDED all of it.
+   Where the input has ended, later pieces aren't read. */
+uint32_t geyserpan_step(geyserpan_run *run, uint64_t turns, const uint8_t *input, size_t input_length, uint32_t last, uint8_t *room,
+                        size_t room_length, geyserpan_done *done);
+
+/* Lets the run and the board go, and keeps the handle. */
+void geyserpan_end(geyserpan_run *run);
+
+/* ---- Memory ----
+
+   The library asks for memory by these three functions alone. libgeyserpan.a has them over malloc, realloc and free in an object of its
+   own, so that a program which defines all three itself brings its own allocator. A block is aligned to `align`, a power of two up to
+   16. Where `ok` is 0 the growth is refused, and `at` is any pointer but NULL; a block that was to grow then stays as it was. `kept` is
+   how many bytes of the old block the new one has to begin with. */
+typedef struct {
+    uint8_t ok;
+    void *at;
+} geyserpan_block;
+
+geyserpan_block rattle_alloc(size_t bytes, size_t align);
+geyserpan_block rattle_realloc(void *at, size_t kept, size_t bytes, size_t align);
+void rattle_dealloc(void *at);
+
+#ifdef __cplusplus
+}
+#endif
+#endif

@@ -1,0 +1,406 @@
+/* Makes the calls of geyserpan.h for tests/embed: calls MODE FILE [NUMBER ..]. What is wrong is told on standard error, with status 1. */
+#include "geyserpan.h"
+#include <pthread.h>
+#include <stdio.h>
+#include <stdlib.h>
+#include <string.h>
+#include <time.h>
+
+static uint8_t file[8 << 20], input[1 << 20], room[1 << 20];
+static size_t file_length, input_length;
+static const geyserpan_terms all = { UINT64_MAX, UINT64_MAX, 7, 8 };
+
+#define HOLDS(what) ((what) ? (void)0 : (fprintf(stderr, "%s:%d: %s\n", __FILE__, __LINE__, #what), exit(1)))
+
+static void say(uint32_t status, const geyserpan_why *why)
+{
+    uint8_t text[96];
+    size_t length = geyserpan_why_text(status, why, text, sizeof text);
+    HOLDS(length <= sizeof text);
+    printf("%.*s\n", (int)length, (const char *)text);
+}
+
+static geyserpan_image opened(const geyserpan_terms *terms)
+{
+    geyserpan_image image;
+    geyserpan_why why;
+    HOLDS(geyserpan_image_new(&image) == GEYSERPAN_OK);
+    HOLDS(geyserpan_open(&image, file, file_length, terms, &why) == GEYSERPAN_OK);
+    return image;
+}
+
+/* ---- single calls ---- */
+
+static void check(void)
+{
+    geyserpan_facts facts;
+    geyserpan_why why = { 0, 0, 0 };
+    uint32_t status = geyserpan_check(file, file_length, &facts, &why);
+    if (status == GEYSERPAN_OK)
+        printf("accepted\n");
+    else
+        say(status, &why);
+}
+
+static void tell_facts(void)
+{
+    geyserpan_facts facts, same;
+    geyserpan_why why;
+    HOLDS(geyserpan_check(file, file_length, &facts, &why) == GEYSERPAN_OK);
+    geyserpan_image image = opened(&all);
+    HOLDS(geyserpan_facts_of(&image, &same) == GEYSERPAN_OK);
+    HOLDS(!memcmp(&facts, &same, sizeof facts) && !facts.zero);
+    geyserpan_image_free(image);
+    printf("%u %u %u %u %u %u %llu %u\n", facts.version, facts.services, facts.words, facts.data_bytes, facts.stack_pages, facts.functions,
+           (unsigned long long)facts.budget, facts.depth);
+}
+
+static void assemble(void)
+{
+    geyserpan_why why = { 0, 0, 0 };
+    uint64_t needed = 0;
+    uint32_t status = geyserpan_assemble(file, file_length, room, sizeof room, &needed, &why);
+    if (status == GEYSERPAN_OK)
+        fwrite(room, 1, needed, stdout);
+    else
+        say(status, &why);
+    if (status == GEYSERPAN_OK && needed) {
+        uint8_t little[1] = { 0xA5 };
+        uint64_t again = 0;
+        HOLDS(geyserpan_assemble(file, file_length, little, needed > 1, &again, &why) == (needed > 1 ? GEYSERPAN_ROOM : GEYSERPAN_ROOM));
+        HOLDS(again == needed && little[0] == 0xA5);
+    }
+}
+
+/* ---- runs ---- */
+
+static uint32_t put(const geyserpan_report *report)
+{
+    fwrite(room, 1, report->output, stdout);
+    fprintf(stderr, "%u %llu\n", report->exit, (unsigned long long)report->turns);
+    return report->exit;
+}
+
+static void once(uint32_t windows)
+{
+    geyserpan_terms terms = { UINT64_MAX, UINT64_MAX, 7, windows };
+    geyserpan_report report, kept;
+    geyserpan_why why;
+    HOLDS(geyserpan_once(file, file_length, &terms, input, input_length, room, sizeof room, &report, &why) == GEYSERPAN_OK);
+    geyserpan_image image = opened(&terms);
+    for (int i = 0; i < 3; i++) {
+        static uint8_t other[sizeof room];
+        HOLDS(geyserpan_run_image(&image, input, input_length, other, sizeof other, &kept) == GEYSERPAN_OK);
+        HOLDS(!memcmp(&report, &kept, sizeof report) && !memcmp(room, other, report.output) && !report.zero);
+    }
+    geyserpan_image_free(image);
+    put(&report);
+}
+
+/* A run in pieces of so many bytes, rooms of so many, and so many turns a step. */
+static uint32_t in_pieces(geyserpan_run *run, size_t piece, size_t most, uint64_t turns, size_t *length, geyserpan_done *done)
+{
+    static const uint8_t none;
+    size_t read = 0, written = 0;
+    uint32_t status;
+    do {
+        size_t next = input_length - read < piece ? input_length - read : piece;
+        uint8_t *to = room + written, guard = to[most];
+        status = geyserpan_step(run, turns, next ? input + read : &none, next, read + next == input_length, to, most, done);
+        HOLDS(done->read <= next && done->written <= most && to[most] == guard && !done->zero);
+        HOLDS(status != GEYSERPAN_WANTS || done->read == next);
+        HOLDS(status != GEYSERPAN_FULL || done->written == most);
+        read += done->read;
+        written += done->written;
+        if (status == GEYSERPAN_FULL && !most)
+            most = 1;
+    } while (status == GEYSERPAN_WANTS || status == GEYSERPAN_FULL || status == GEYSERPAN_PAUSED);
+    *length = written;
+    return status;
+}
+
+static void pieces(size_t piece, size_t most, uint64_t turns)
+{
+    geyserpan_image image = opened(&all);
+    geyserpan_run run;
+    geyserpan_done done, again;
+    geyserpan_report report;
+    static uint8_t whole[sizeof room];
+    size_t length;
+    HOLDS(geyserpan_run_new(&run) == GEYSERPAN_OK);
+    HOLDS(geyserpan_begin(&run, &image) == GEYSERPAN_OK);
+    HOLDS(geyserpan_run_image(&image, input, input_length, whole, sizeof whole, &report) == GEYSERPAN_OK);
+    for (int i = 0; i < 2; i++) {
+        HOLDS(in_pieces(&run, piece, most, turns, &length, &done) == GEYSERPAN_ENDED);
+        HOLDS(length == report.output && !memcmp(room, whole, length) && done.exit == report.exit && done.turns == report.turns);
+        HOLDS(geyserpan_step(&run, turns, input, input_length, 0, room, sizeof room, &again) == GEYSERPAN_ENDED);
+        HOLDS(again.exit == done.exit && again.turns == done.turns && !again.read && !again.written);
+        HOLDS(geyserpan_restart(&run, &image) == GEYSERPAN_OK);
+    }
+    /* given up in the middle */
+    geyserpan_step(&run, 7, input, input_length, 1, room, sizeof room, &again);
+    HOLDS(geyserpan_begin(&run, &image) == GEYSERPAN_OK);
+    geyserpan_close(&image);
+    HOLDS(in_pieces(&run, piece, most, turns, &length, &done) == GEYSERPAN_ENDED && length == report.output);
+    fwrite(room, 1, length, stdout);
+    geyserpan_run_free(run);
+    geyserpan_image_free(image);
+}
+
+/* ---- ends ---- */
+
+static void keeps(uint32_t status, uint32_t wanted, const uint8_t *bytes, size_t length)
+{
+    HOLDS(status == wanted);
+    for (size_t i = 0; i < length; i++)
+        HOLDS(bytes[i] == 0xA5);
+}
+
+/* What is refused, with an image that puts out more than two bytes of its input: nothing of the room is written. */
+static void edges(void)
+{
+    geyserpan_terms terms = all;
+    geyserpan_report report, before;
+    geyserpan_why why;
+    geyserpan_facts facts;
+    geyserpan_done done;
+    uint8_t small[64];
+    memset(small, 0xA5, sizeof small);
+    memset(&report, 0xA5, sizeof report);
+    before = report;
+
+    static const uint32_t counts[] = { 0, 1, 3, 33, 64, UINT32_MAX };
+    for (size_t i = 0; i < sizeof counts / sizeof *counts; i++) {
+        terms.windows = counts[i];
+        keeps(geyserpan_once(file, file_length, &terms, input, input_length, small, sizeof small, &report, &why), GEYSERPAN_WINDOWS, small, sizeof small);
+    }
+    for (terms.windows = 4; terms.windows <= 32; terms.windows++) {
+        HOLDS(geyserpan_once(file, file_length, &terms, input, input_length, small, sizeof small, &report, &why) == GEYSERPAN_OK);
+        memset(small, 0xA5, sizeof small);
+    }
+    report = before;
+    terms = (geyserpan_terms){ 0, 0, 0, 8 };
+    keeps(geyserpan_once(file, file_length, &terms, input, input_length, small, sizeof small, &report, &why), GEYSERPAN_SERVICES, small, sizeof small);
+    HOLDS(geyserpan_check(file, file_length, &facts, &why) == GEYSERPAN_OK);
+    terms = (geyserpan_terms){ facts.budget - 1, UINT64_MAX, 7, 8 };
+    keeps(geyserpan_once(file, file_length, &terms, input, input_length, small, sizeof small, &report, &why), GEYSERPAN_TURNS, small, sizeof small);
+    terms = (geyserpan_terms){ UINT64_MAX, UINT64_MAX, 7 & ~GEYSERPAN_PUT, 8 };
+    keeps(geyserpan_once(file, file_length, &terms, input, input_length, small, sizeof small, &report, &why), GEYSERPAN_SERVICES, small, sizeof small);
+    HOLDS(!memcmp(&report, &before, sizeof report));
+
+    /* exactly the terms that it needs; a room that is too small by one byte */
+    terms = (geyserpan_terms){ facts.budget, UINT64_MAX, facts.services, 8 };
+    HOLDS(geyserpan_once(file, file_length, &terms, input, input_length, room, sizeof room, &report, &why) == GEYSERPAN_OK);
+    uint64_t length = report.output;
+    HOLDS(length > 2 && length < sizeof small);
+    for (size_t size = 0; size < length; size++) {
+        memset(&report, 0, sizeof report);
+        keeps(geyserpan_once(file, file_length, &terms, input, input_length, small, size, &report, &why), GEYSERPAN_ROOM, small, sizeof small);
+        HOLDS(report.output == length);
+    }
+    HOLDS(geyserpan_once(file, file_length, &terms, input, input_length, small, length, &report, &why) == GEYSERPAN_OK);
+    HOLDS(!memcmp(small, room, length) && small[length] == 0xA5);
+    memset(small, 0xA5, sizeof small);
+    terms.output = length - 1;
+    keeps(geyserpan_once(file, file_length, &terms, input, input_length, small, sizeof small, &report, &why), GEYSERPAN_OUTPUT, small, sizeof small);
+    HOLDS(report.output == length);
+    terms.output = length;
+    HOLDS(geyserpan_once(file, file_length, &terms, input, input_length, small, sizeof small, &report, &why) == GEYSERPAN_OK);
+    memset(small, 0xA5, sizeof small);
+
+    /* empty handles */
+    geyserpan_image image;
+    geyserpan_run run;
+    HOLDS(geyserpan_image_new(&image) == GEYSERPAN_OK && geyserpan_run_new(&run) == GEYSERPAN_OK);
+    keeps(geyserpan_run_image(&image, input, input_length, small, sizeof small, &report), GEYSERPAN_HANDLE, small, sizeof small);
+    HOLDS(geyserpan_facts_of(&image, &facts) == GEYSERPAN_HANDLE);
+    HOLDS(geyserpan_begin(&run, &image) == GEYSERPAN_HANDLE && geyserpan_restart(&run, &image) == GEYSERPAN_HANDLE);
+    keeps(geyserpan_step(&run, 1, input, input_length, 1, small, sizeof small, &done), GEYSERPAN_HANDLE, small, sizeof small);
+    geyserpan_close(&image);
+    geyserpan_end(&run);
+
+    /* a refused open leaves the image that there was */
+    terms = all;
+    HOLDS(geyserpan_open(&image, file, file_length, &terms, &why) == GEYSERPAN_OK);
+    HOLDS(geyserpan_restart(&run, &image) == GEYSERPAN_HANDLE);
+    terms.turns = 0;
+    HOLDS(geyserpan_open(&image, file, file_length, &terms, &why) == GEYSERPAN_TURNS);
+    HOLDS(geyserpan_open(&image, file, 3, &all, &why) == GEYSERPAN_NO_IMAGE && why.number == 1 && !why.function && !why.address);
+    HOLDS(geyserpan_open(&image, file, 0, &all, &why) == GEYSERPAN_NO_IMAGE && why.number == 1);
+    HOLDS(geyserpan_run_image(&image, input, input_length, small, sizeof small, &report) == GEYSERPAN_OK && report.output == length);
+    memset(small, 0xA5, sizeof small);
+
+    /* other windows than 8 in pieces; then a limit of output; rooms and pieces of 0 */
+    terms = all;
+    terms.windows = 9;
+    HOLDS(geyserpan_open(&image, file, file_length, &terms, &why) == GEYSERPAN_OK);
+    HOLDS(geyserpan_begin(&run, &image) == GEYSERPAN_WINDOWS);
+    terms = all;
+    terms.output = 2;
+    HOLDS(geyserpan_open(&image, file, file_length, &terms, &why) == GEYSERPAN_OK && geyserpan_begin(&run, &image) == GEYSERPAN_OK);
+    keeps(geyserpan_step(&run, 0, input, 0, 0, small, 0, &done), GEYSERPAN_PAUSED, small, sizeof small);
+    HOLDS(!done.turns && !done.read && !done.written);
+    HOLDS(geyserpan_step(&run, UINT64_MAX, input, input_length, 1, small, sizeof small, &done) == GEYSERPAN_OUTPUT && done.written == 2);
+    HOLDS(small[2] == 0xA5);
+    HOLDS(geyserpan_step(&run, UINT64_MAX, input, input_length, 1, small, sizeof small, &done) == GEYSERPAN_OUTPUT && !done.written && !done.read);
+    HOLDS(geyserpan_restart(&run, &image) == GEYSERPAN_OK);
+    HOLDS(geyserpan_step(&run, UINT64_MAX, input, 0, 0, small, 0, &done) == GEYSERPAN_WANTS && !done.read);
+    geyserpan_end(&run);
+    HOLDS(geyserpan_step(&run, 1, input, 0, 1, small, 0, &done) == GEYSERPAN_HANDLE);
+    geyserpan_image_free(image);
+    geyserpan_run_free(run);
+
+    /* texts that fit, and that don't */
+    uint8_t text[96], none[1] = { 0xA5 };
+    HOLDS(geyserpan_version(text, sizeof text) <= 32 && geyserpan_version(none, 0) <= 32 && none[0] == 0xA5);
+    why = (geyserpan_why){ UINT32_MAX, UINT32_MAX, UINT32_MAX };
+    for (uint32_t status = 0; status < 20; status++)
+        HOLDS(geyserpan_why_text(status, &why, text, sizeof text) <= sizeof text && geyserpan_why_text(status, &why, none, 0) > 0 && none[0] == 0xA5);
+    printf("edges\n");
+}
+
+/* ---- many runs, and threads ---- */
+
+static void many(long runs)
+{
+    geyserpan_image image = opened(&all);
+    geyserpan_run run;
+    geyserpan_report report;
+    geyserpan_why why;
+    geyserpan_done done;
+    HOLDS(geyserpan_run_new(&run) == GEYSERPAN_OK);
+    for (long i = 0; i < runs; i++) {
+        HOLDS(geyserpan_run_image(&image, input, input_length, room, sizeof room, &report) == GEYSERPAN_OK);
+        HOLDS(geyserpan_begin(&run, &image) == GEYSERPAN_OK);
+        HOLDS(geyserpan_step(&run, UINT64_MAX, input, input_length, 1, room, sizeof room, &done) == GEYSERPAN_ENDED && done.written == report.output);
+        if (i % 16 == 0)
+            HOLDS(geyserpan_once(file, file_length, &all, input, input_length, room, sizeof room, &report, &why) == GEYSERPAN_OK);
+        if (i % 32 == 0)
+            geyserpan_end(&run);
+        if (i % 64 == 0)
+            HOLDS(geyserpan_open(&image, file, file_length, &all, &why) == GEYSERPAN_OK);
+    }
+    geyserpan_run_free(run);
+    geyserpan_image_free(image);
+    fwrite(room, 1, report.output, stdout);
+}
+
+static long runs_each;
+
+static void *work(void *which)
+{
+    uint8_t bytes[4], out[64];
+    memset(bytes, 'a' + (int)(long)which, sizeof bytes);
+    geyserpan_image image = opened(&all);
+    geyserpan_run run;
+    geyserpan_report report;
+    geyserpan_done done;
+    HOLDS(geyserpan_run_new(&run) == GEYSERPAN_OK);
+    for (long i = 0; i < runs_each; i++) {
+        HOLDS(geyserpan_run_image(&image, bytes, sizeof bytes, out, sizeof out, &report) == GEYSERPAN_OK);
+        HOLDS(report.output == sizeof bytes && !memcmp(out, bytes, sizeof bytes));
+        HOLDS(geyserpan_begin(&run, &image) == GEYSERPAN_OK);
+        HOLDS(geyserpan_step(&run, UINT64_MAX, bytes, sizeof bytes, 1, out, sizeof out, &done) == GEYSERPAN_ENDED);
+        HOLDS(done.written == sizeof bytes && !memcmp(out, bytes, sizeof bytes));
+    }
+    geyserpan_run_free(run);
+    geyserpan_image_free(image);
+    return NULL;
+}
+
+/* Each thread has handles of its own. Then one handle goes from thread to thread, by joins. */
+static void *hand(void *image)
+{
+    uint8_t bytes[1] = { 'z' }, out[8];
+    geyserpan_report report;
+    HOLDS(geyserpan_run_image(image, bytes, 1, out, sizeof out, &report) == GEYSERPAN_OK && out[0] == 'z');
+    return NULL;
+}
+
+static void threads(long count, long runs)
+{
+    pthread_t thread[64];
+    runs_each = runs;
+    for (long i = 0; i < count; i++)
+        HOLDS(!pthread_create(&thread[i], NULL, work, (void *)i));
+    for (long i = 0; i < count; i++)
+        HOLDS(!pthread_join(thread[i], NULL));
+    geyserpan_image image = opened(&all);
+    for (long i = 0; i < count; i++)
+        HOLDS(!pthread_create(&thread[0], NULL, hand, &image) && !pthread_join(thread[0], NULL));
+    geyserpan_image_free(image);
+    printf("threads\n");
+}
+
+/* ---- what a run costs, in microseconds of the processor ---- */
+
+static double used(void)
+{
+    struct timespec now;
+    clock_gettime(CLOCK_PROCESS_CPUTIME_ID, &now);
+    return now.tv_sec * 1e6 + now.tv_nsec * 1e-3;
+}
+
+static void cost(long runs)
+{
+    geyserpan_image image = opened(&all);
+    geyserpan_run run;
+    geyserpan_report report;
+    geyserpan_why why;
+    geyserpan_done done;
+    HOLDS(geyserpan_run_new(&run) == GEYSERPAN_OK && geyserpan_begin(&run, &image) == GEYSERPAN_OK);
+    double begun = used();
+    for (long i = 0; i < runs; i++)
+        HOLDS(geyserpan_once(file, file_length, &all, input, input_length, room, sizeof room, &report, &why) == GEYSERPAN_OK);
+    double one = used();
+    for (long i = 0; i < runs; i++)
+        HOLDS(geyserpan_run_image(&image, input, input_length, room, sizeof room, &report) == GEYSERPAN_OK);
+    double kept = used();
+    for (long i = 0; i < runs; i++) {
+        HOLDS(geyserpan_restart(&run, &image) == GEYSERPAN_OK);
+        HOLDS(geyserpan_step(&run, UINT64_MAX, input, input_length, 1, room, sizeof room, &done) == GEYSERPAN_ENDED);
+    }
+    double again = used();
+    printf("once %.2f kept %.2f restarted %.2f\n", (one - begun) / runs, (kept - one) / runs, (again - kept) / runs);
+    geyserpan_run_free(run);
+    geyserpan_image_free(image);
+}
+
+static long word(int count, char **words, int at, long otherwise)
+{
+    return at < count ? atol(words[at]) : otherwise;
+}
+
+int main(int count, char **words)
+{
+    if (count < 3 || geyserpan_abi() != GEYSERPAN_ABI)
+        return 3;
+    FILE *from = fopen(words[2], "rb");
+    if (!from)
+        return 4;
+    file_length = fread(file, 1, sizeof file, from);
+    fclose(from);
+    input_length = fread(input, 1, sizeof input, stdin);
+    const char *mode = words[1];
+    if (!strcmp(mode, "check"))
+        check();
+    else if (!strcmp(mode, "facts"))
+        tell_facts();
+    else if (!strcmp(mode, "assemble"))
+        assemble();
+    else if (!strcmp(mode, "once"))
+        once((uint32_t)word(count, words, 3, 8));
+    else if (!strcmp(mode, "pieces"))
+        pieces((size_t)word(count, words, 3, 1), (size_t)word(count, words, 4, 1), (uint64_t)word(count, words, 5, 1000000));
+    else if (!strcmp(mode, "edges"))
+        edges();
+    else if (!strcmp(mode, "many"))
+        many(word(count, words, 3, 100));
+    else if (!strcmp(mode, "threads"))
+        threads(word(count, words, 3, 8), word(count, words, 4, 100));
+    else if (!strcmp(mode, "cost"))
+        cost(word(count, words, 3, 1000));
+    else
+        return 3;
+    return 0;
+}
