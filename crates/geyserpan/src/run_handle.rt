@@ -1,7 +1,7 @@
 //! The slot of a run in pieces, as a caller outside has it: by its pointer.
 ghost use Rattle.std.specs.Prelude.{◌≡◌};
 ghost use Rattle.std.specs.Box.Ownership.{box_owns};
-ghost use Rattle.libc.specs.Heap.{chunk};
+ghost use Rattle.std.specs.contracts.impls.GlobalAllocator.TheImpl.{ghosts};
 ghost use Rattle.geyserpan.specs.declared.run_slot.RunSlot.{RunSlot};
 ghost use Rattle.geyserpan.specs.contracts.run_slot.RunSlot.{the_row};
 
@@ -19,7 +19,7 @@ pub struct RunHandle {
 }
 
 impl Model for RunHandle {
-    ghost also_owns = { λ h. box_owns chunk the_row h.at h.value };
+    ghost also_owns = { λ h. box_owns (ghosts.dealloc_token h.alloc) the_row h.at h.value };
 }
 
 unsafe impl Send for RunHandle {}

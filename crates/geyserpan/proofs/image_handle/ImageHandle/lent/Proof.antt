@@ -29,7 +29,7 @@ use Rattle.std.proofs.VecSteps.Shapes.{after}
 use Rattle.std.proofs.raw_atomic.Walks.{proved}
 use Rattle.std.proofs.Handle.{heap_val}
 use Rattle.std.specs.contracts.alloc.Global.{the_row as heap}
-use Rattle.libc.specs.Heap.{chunk}
+use Rattle.std.specs.contracts.impls.GlobalAllocator.TheImpl.{ghosts}
 use Rattle.geyserpan.specs.contracts.image_slot.ImageSlot.{the_row as R}
 use Rattle.geyserpan.proofs.ImageHandleValues.{Handle, word, handle_out, handle_in}
 use Rattle.geyserpan.specs.contracts.image_handle.ImageHandle.lent.{ended, clauses}
@@ -43,7 +43,7 @@ with h w = record h { value = w }
 module _ {M : Type 1} {𝓤 : Ura M} (𝓛 : Logic 𝓤) (h : Handle.Denot) (rb ro b o : ℕ) where
   -- all of the handle but what is kept
   abbrev Rest : Fml
-  Rest = fsep (fsep (chunk (bare (lone R.mir)) (block_ptr b o)) (heap.own_val h.alloc (heap_val ∷ []))) (cell_at full_share Handle.mir (word b o ∷ []) rb ro)
+  Rest = fsep (fsep (ghosts.dealloc_token h.alloc (bare (lone R.mir)) (block_ptr b o)) (heap.own_val h.alloc (heap_val ∷ []))) (cell_at full_share Handle.mir (word b o ∷ []) rb ro)
 
   back : h.at ≡ block_ptr b o → (w : R.Denot) → ent 𝓤 (sep 𝓤 (sem 𝓛 ((mem R).own_at w b o)) (sem 𝓛 Rest)) (sem 𝓛 ((mem Handle).own_at (with h w) rb ro))
   unfolding part_of

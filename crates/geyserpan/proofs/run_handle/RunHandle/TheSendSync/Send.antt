@@ -12,7 +12,7 @@ use denote.Struct.Struct.{exits_of}
 use denote.Struct.Owning.{shape, fields, to}
 use Rattle.std.specs.contracts.alloc.Global.{the_row as heap}
 use Rattle.std.proofs.alloc.Global.TheSendSync.{the_field_send as heap_send}
-use Rattle.libc.specs.Heap.{chunk-Keyless}
+use Rattle.std.proofs.Crossing.{frees}
 use Rattle.geyserpan.specs.contracts.run_slot.RunSlot.{the_row as R}
 use Rattle.geyserpan.proofs.run_slot.RunSlot.TheSendSync.{the_send as value_send}
 use Rattle.geyserpan.specs.contracts.run_handle.RunHandle.{the_row, the_type}
@@ -27,5 +27,5 @@ lies R s null_ptr x = tt
 
 pub send : IsSend the_row
 send = let ps : IsSend RawPtr = search sendable in
-    owning_send the_type (ps, (heap_send, tt)) (λ d. (lies R value_send d.at d.value, chunk-Keyless (raw (lone R.mir)) d.at))
+    owning_send the_type (ps, (heap_send, tt)) (λ d. (lies R value_send d.at d.value, frees.frees d.alloc (raw (lone R.mir)) d.at))
     (λ k. quiet (to the_type) (exits_of k (fields the_type)) ((struct_send (shape the_type) (ps, (heap_send, tt))).leaving k))
