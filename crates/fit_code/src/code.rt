@@ -1,6 +1,4 @@
 //! Programs between reading and printing.
-ghost use Rattle.std.specs.Prelude.{◌≡◌};
-
 use sbx_parts::Range;
 use v8_formats::{Instr, Three};
 use v8_word::Cond;
@@ -91,7 +89,7 @@ pub struct Object {
 }
 
 /// A part of the data that lies on pages of its own, as a source's `.region` has it.
-#[derive(Clone, Copy, PartialEq, Eq)]
+#[derive(Clone, Copy)]
 pub struct Region {
     pub readonly: bool,
     /// The address of its first byte, which begins a page.

@@ -1,5 +1,5 @@
 //! Why there is no program.
-use crate::code::Line;
+use crate::code::{Line, NO_LINE};
 use std::alloc::{AllocError, AllocFailed};
 use std::fmt::{self, Error, Formatter, Write};
 use want::Want;
@@ -73,7 +73,7 @@ impl Fault {
 impl From<AllocError> for Fault {
     fn from(error: AllocError) -> Fault {
         Fault {
-            line: crate::code::NO_LINE,
+            line: NO_LINE,
             reason: Reason::Memory(Want::from(error)),
         }
     }
@@ -82,47 +82,66 @@ impl From<AllocError> for Fault {
 impl<T: Drop> From<AllocFailed<T>> for Fault {
     fn from(failed: AllocFailed<T>) -> Fault {
         Fault {
-            line: crate::code::NO_LINE,
+            line: NO_LINE,
             reason: Reason::Memory(Want::from(failed)),
+        }
+    }
+}
+
+impl Reason {
+    /// The reason's text: what stands before a name, the name, and what stands behind it.
+    fn parts(&self) -> (&'static str, &str, &'static str) {
+        match self {
+            Reason::Memory(_want) => ("out of memory", "", ""),
+            Reason::TooMany { what, .. } | Reason::TooGreat { what, .. } => ("", "", what),
+            Reason::Unreadable(what) => (what, "", ""),
+            Reason::Directive(name) => ("the directive ", name.as_str(), " isn't known"),
+            Reason::Instruction(name) => (
+                "the instruction ",
+                name.as_str(),
+                " isn't known, or can't be used here",
+            ),
+            Reason::Operands(name) => ("the operands of ", name.as_str(), " can't be read"),
+            Reason::Floating(name) => (
+                "floating point, ",
+                name.as_str(),
+                ": use integers, or fixed point",
+            ),
+            Reason::CallThroughPointer => (
+                "a call through a pointer: name the function, by a switch",
+                "",
+                "",
+            ),
+            Reason::JumpThroughPointer => (
+                "a jump through a register: compile without tables of jumps",
+                "",
+                "",
+            ),
+            Reason::DefinedTwice(name) => ("", name.as_str(), " is defined twice"),
+            Reason::NotDefined(name) => ("", name.as_str(), " isn't defined"),
+            Reason::AddressOfFunction(name) => (
+                "the address of the function ",
+                name.as_str(),
+                " is taken: name it, by a switch",
+            ),
+            Reason::Recursion(names) => ("recursion: ", names.as_str(), ""),
+            Reason::Form { function, what } => ("", function.as_str(), what),
+            Reason::NoEntry(name) => ("there is no function ", name.as_str(), ""),
         }
     }
 }
 
 impl fmt::Display for Reason {
     fn fmt<W: Write>(&self, f: &mut Formatter<W>) -> Result<(), Error> {
+        let (before, name, after) = self.parts();
         match self {
-            Reason::Memory(_want) => f.write_str("out of memory"),
-            Reason::TooMany { what, most } => write!(f, "more than {most} {what}"),
-            Reason::TooGreat { what, count, most } => write!(
+            Reason::TooMany { most, .. } => write!(f, "more than {most} {after}"),
+            Reason::TooGreat { count, most, .. } => write!(
                 f,
-                "{what} would be {count}, above {most}"
+                "{after} would be {count}, above {most}"
             ),
-            Reason::Unreadable(what) => f.write_str(what),
-            Reason::Directive(name) => write!(f, "the directive {name} isn't known"),
-            Reason::Instruction(name) => write!(
-                f,
-                "the instruction {name} isn't known, or can't be used here"
-            ),
-            Reason::Operands(name) => write!(f, "the operands of {name}"),
-            Reason::Floating(name) => write!(
-                f,
-                "floating point ({name}): use integers, or fixed point"
-            ),
-            Reason::CallThroughPointer => f.write_str(
-                "a call through a pointer: name the function, by a switch",
-            ),
-            Reason::JumpThroughPointer => f.write_str(
-                "a jump through a register: compile without tables of jumps",
-            ),
-            Reason::DefinedTwice(name) => write!(f, "{name} is defined twice"),
-            Reason::NotDefined(name) => write!(f, "{name} isn't defined"),
-            Reason::AddressOfFunction(name) => write!(
-                f,
-                "the address of the function {name}: name the function, by a switch"
-            ),
-            Reason::Recursion(names) => write!(f, "recursion: {names}"),
-            Reason::Form { function, what } => write!(f, "{function}: {what}"),
-            Reason::NoEntry(name) => write!(f, "there is no function {name}"),
+            Reason::Form { .. } => write!(f, "{name}: {after}"),
+            _ => write!(f, "{before}{name}{after}"),
         }
     }
 }

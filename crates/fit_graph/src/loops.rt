@@ -1,7 +1,7 @@
 //! The loops of a function.
-use crate::code::Function;
 use crate::dominators::{Dominators, dominators_of};
 use crate::graph::{predecessors_of, successors_in};
+use fit_code::Function;
 use std::alloc::{AllocError, Global};
 
 /// The blocks that can come back to a head without leaving it behind.
@@ -122,18 +122,22 @@ fn parent_of(loops: &[Loop], number: usize) -> Option<usize> {
     found.map(|(place, _)| place)
 }
 
-/// The loops of a function whose heads are on each way to their blocks, one for each head, an outer one before an inner one.
-pub fn loops_of(alloc: Global, function: &Function) -> Result<Vec<Loop>, AllocError> {
+/// The loops of a function whose heads are on each way to their blocks, one for each head, by their heads' order, without parents.
+fn plain_loops(alloc: Global, function: &Function) -> Result<Vec<Loop>, AllocError> {
     let dominators = dominators_of(alloc, function)?;
     let predecessors = predecessors_of(alloc, function)?;
     let mut loops = Vec::new(alloc);
-    for place in 0..dominators.order.blocks.len() {
-        if let Some(head) = dominators.order.blocks.get(place)
-            && let Some(found) = loop_at(alloc, *head, &dominators, predecessors.as_slice())?
-        {
+    for head in dominators.order.blocks.iter() {
+        if let Some(found) = loop_at(alloc, *head, &dominators, predecessors.as_slice())? {
             loops.push(found)?;
         }
     }
+    Ok(loops)
+}
+
+/// The loops of a function whose heads are on each way to their blocks, one for each head, an outer one before an inner one.
+pub fn loops_of(alloc: Global, function: &Function) -> Result<Vec<Loop>, AllocError> {
+    let mut loops = plain_loops(alloc, function)?;
     for number in 0..loops.len() {
         let parent = parent_of(loops.as_slice(), number);
         if let Some(found) = loops.get_mut(number) {

@@ -1,7 +1,5 @@
 //! Which blocks follow which.
-ghost use Rattle.std.specs.Prelude.{◌≡◌, IfOk, length, vec_len};
-
-use crate::code::Function;
+use fit_code::Function;
 use std::alloc::{AllocError, Global};
 
 /// The blocks that can be reached from the first one, each before those that follow it but where a loop goes back.
