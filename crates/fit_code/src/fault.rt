@@ -4,6 +4,55 @@ use std::alloc::{AllocError, AllocFailed};
 use std::fmt::{self, Error, Formatter, Write};
 use want::Want;
 
+/// Why a name is refused.
+#[derive(Clone, Copy)]
+pub enum Naming {
+    /// A label or another name that is none.
+    Label,
+    /// A section that isn't known.
+    Section,
+    /// A directive that isn't known.
+    Directive,
+    /// A mnemonic that isn't known.
+    Instruction,
+    /// The operands of a mnemonic can't be read.
+    Operands,
+    /// The mnemonic is floating point's.
+    Floating,
+    /// A label at two places.
+    DefinedTwice,
+    /// A name that stands nowhere.
+    NotDefined,
+    /// The address of a function as a number.
+    AddressOfFunction,
+    /// Functions that call each other in a round.
+    Recursion,
+    /// There is no function to begin at.
+    NoEntry,
+}
+
+impl Naming {
+    /// What stands before the name, and what behind it.
+    fn text(self) -> (&'static str, &'static str) {
+        match self {
+            Naming::Label => ("the name ", " can't be read"),
+            Naming::Section => ("the section ", " isn't known"),
+            Naming::Directive => ("the directive ", " isn't known"),
+            Naming::Instruction => ("the instruction ", " isn't known, or can't be used here"),
+            Naming::Operands => ("the operands of ", " can't be read"),
+            Naming::Floating => ("floating point, ", ": use integers, or fixed point"),
+            Naming::DefinedTwice => ("", " is defined twice"),
+            Naming::NotDefined => ("", " isn't defined"),
+            Naming::AddressOfFunction => (
+                "the address of the function ",
+                " is taken: name it, by a switch",
+            ),
+            Naming::Recursion => ("recursion: ", ""),
+            Naming::NoEntry => ("there is no function ", ""),
+        }
+    }
+}
+
 /// Why a program is refused.
 #[derive(Drop)]
 pub enum Reason {
@@ -22,33 +71,17 @@ pub enum Reason {
     },
     /// A line that can't be read.
     Unreadable(&'static str),
-    /// A directive that isn't known.
-    Directive(String),
-    /// A mnemonic that isn't known, or that sandboxed code may not use.
-    Instruction(String),
-    /// An instruction whose operands can't be read, by its mnemonic.
-    Operands(String),
-    /// Floating point, by its mnemonic.
-    Floating(String),
+    /// A name.
+    Named(Naming, String),
     /// A call through a register.
     CallThroughPointer,
     /// A jump through a register that is no return.
     JumpThroughPointer,
-    /// A label at two places.
-    DefinedTwice(String),
-    /// A name that stands nowhere.
-    NotDefined(String),
-    /// The address of a function as a number.
-    AddressOfFunction(String),
-    /// Functions that call each other in a round.
-    Recursion(String),
     /// Something that a function does and may not, with the function's name.
     Form {
         function: String,
         what: &'static str,
     },
-    /// There is no function to begin at.
-    NoEntry(String),
 }
 
 /// Why a program is refused, and where.
@@ -88,60 +121,27 @@ impl<T: Drop> From<AllocFailed<T>> for Fault {
     }
 }
 
-impl Reason {
-    /// The reason's text: what stands before a name, the name, and what stands behind it.
-    fn parts(&self) -> (&'static str, &str, &'static str) {
-        match self {
-            Reason::Memory(_want) => ("out of memory", "", ""),
-            Reason::TooMany { what, .. } | Reason::TooGreat { what, .. } => ("", "", what),
-            Reason::Unreadable(what) => (what, "", ""),
-            Reason::Directive(name) => ("the directive ", name.as_str(), " isn't known"),
-            Reason::Instruction(name) => (
-                "the instruction ",
-                name.as_str(),
-                " isn't known, or can't be used here",
-            ),
-            Reason::Operands(name) => ("the operands of ", name.as_str(), " can't be read"),
-            Reason::Floating(name) => (
-                "floating point, ",
-                name.as_str(),
-                ": use integers, or fixed point",
-            ),
-            Reason::CallThroughPointer => (
-                "a call through a pointer: name the function, by a switch",
-                "",
-                "",
-            ),
-            Reason::JumpThroughPointer => (
-                "a jump through a register: compile without tables of jumps",
-                "",
-                "",
-            ),
-            Reason::DefinedTwice(name) => ("", name.as_str(), " is defined twice"),
-            Reason::NotDefined(name) => ("", name.as_str(), " isn't defined"),
-            Reason::AddressOfFunction(name) => (
-                "the address of the function ",
-                name.as_str(),
-                " is taken: name it, by a switch",
-            ),
-            Reason::Recursion(names) => ("recursion: ", names.as_str(), ""),
-            Reason::Form { function, what } => ("", function.as_str(), what),
-            Reason::NoEntry(name) => ("there is no function ", name.as_str(), ""),
-        }
-    }
-}
-
 impl fmt::Display for Reason {
     fn fmt<W: Write>(&self, f: &mut Formatter<W>) -> Result<(), Error> {
-        let (before, name, after) = self.parts();
         match self {
-            Reason::TooMany { most, .. } => write!(f, "more than {most} {after}"),
-            Reason::TooGreat { count, most, .. } => write!(
+            Reason::Memory(_want) => f.write_str("out of memory"),
+            Reason::TooMany { what, most } => write!(f, "more than {most} {what}"),
+            Reason::TooGreat { what, count, most } => write!(
                 f,
-                "{after} would be {count}, above {most}"
+                "{what} would be {count}, above {most}"
             ),
-            Reason::Form { .. } => write!(f, "{name}: {after}"),
-            _ => write!(f, "{before}{name}{after}"),
+            Reason::Unreadable(what) => f.write_str(what),
+            Reason::Named(naming, name) => {
+                let (before, after) = naming.text();
+                write!(f, "{before}{name}{after}")
+            }
+            Reason::CallThroughPointer => f.write_str(
+                "a call through a pointer: name the function, by a switch",
+            ),
+            Reason::JumpThroughPointer => f.write_str(
+                "a jump through a register: compile without tables of jumps",
+            ),
+            Reason::Form { function, what } => write!(f, "{function}: {what}"),
         }
     }
 }

@@ -6,5 +6,5 @@ mod code;
 mod fault;
 
 pub use code::{Block, End, Function, Line, NO_LINE, Object, Program, Region, Step};
-pub use fault::{Fault, Reason, Shown};
+pub use fault::{Fault, Naming, Reason, Shown};
 pub use sbx_parts::Range;

@@ -1,7 +1,7 @@
 //! The ranges of a program: of the cells of its blocks, and of what its functions are called with and give back.
-use crate::flow::{Flow, Setting};
 use fit_cells::hull;
 use fit_code::{Fault, Function, NO_LINE, Program, Reason};
+use fit_flow::{Flow, Setting};
 use fit_live::{Liveness, Locations};
 use sbx_domain::State;
 use sbx_range::{Cell, Range, all, is_within};

@@ -11,15 +11,15 @@ use sbx_domain::State;
 use sbx_range::{Cell, Range, all};
 use std::alloc::{AllocError, Global};
 
-/// A loop's head is widened to thresholds from the third visit on, and at once to all words from this one on.
-const PATIENCE: u32 = 24;
+/// A loop's head is widened to thresholds from the third change of its cells on, and any block at once to all words from this one on.
+const PATIENCE: u32 = 400;
 
 /// A block is narrowed at most so often.
 const NARROWINGS: u32 = 6;
 
 /// What a function is analysed by: its program and itself, what it is called with, and what calls give it.
 #[derive(Clone, Copy)]
-pub(crate) struct Setting<'a> {
+pub struct Setting<'a> {
     pub alloc: Global,
     pub program: &'a Program,
     pub function: &'a Function,
@@ -29,7 +29,7 @@ pub(crate) struct Setting<'a> {
 
 /// A call with what its callee is given in %o0, %o1, ..; nothing where that is undefined.
 #[derive(Clone, Copy)]
-pub(crate) struct Call {
+pub struct Call {
     pub block: usize,
     pub callee: usize,
     pub given: [Option<Range>; 6],
@@ -37,11 +37,11 @@ pub(crate) struct Call {
 
 /// What is known of one function.
 #[derive(Drop)]
-pub(crate) struct Flow {
+pub struct Flow {
     shape: Shape,
     known: Known,
-    /// How often each block was visited since it was last forgotten, and how often it was narrowed.
-    visits: Vec<u32>,
+    /// How often each block's cells grew since they were last forgotten, and how often they were narrowed.
+    changes: Vec<u32>,
     narrowings: Vec<u32>,
     /// By the places of the order, the blocks that are to be visited.
     pending: Vec<bool>,
@@ -102,7 +102,7 @@ impl Flow {
         let mut flow = Flow {
             shape: Shape::of(alloc, function, live)?,
             known: Known::nothing(alloc),
-            visits: Vec::new(alloc),
+            changes: Vec::new(alloc),
             narrowings: Vec::new(alloc),
             pending: Vec::new(alloc),
             first: 0,
@@ -118,8 +118,8 @@ impl Flow {
     fn extend(&mut self, alloc: Global, function: &Function) -> Result<(), AllocError> {
         let blocks = function.blocks.len();
         self.known.extend(blocks)?;
-        for _ in self.visits.len()..blocks {
-            self.visits.push(0)?;
+        for _ in self.changes.len()..blocks {
+            self.changes.push(0)?;
             self.narrowings.push(0)?;
         }
         self.pending = vec![in alloc; false; self.shape.order.blocks.len()]?;
@@ -162,8 +162,8 @@ impl Flow {
         replace(&mut self.known.cells, block, None);
         replace(&mut self.known.ways, way_of(block, 0), None);
         replace(&mut self.known.ways, way_of(block, 1), None);
-        if let Some(visits) = self.visits.get_mut(block) {
-            *visits = 0;
+        if let Some(changes) = self.changes.get_mut(block) {
+            *changes = 0;
         }
         if let Some(narrowings) = self.narrowings.get_mut(block) {
             *narrowings = 0;
@@ -311,7 +311,7 @@ impl Flow {
         alloc: Global,
         thresholds: &[i32],
         block: usize,
-        visits: u32,
+        changes: u32,
     ) -> Result<Option<Vec<Cell>>, AllocError> {
         let Some(new) = self.known.incoming(alloc, &self.shape, block)? else {
             return Ok(None);
@@ -320,9 +320,9 @@ impl Flow {
             return Ok(Some(new));
         };
         let is_head = self.shape.heads.get(block).copied().unwrap_or(false);
-        Ok(Some(if visits >= PATIENCE {
+        Ok(Some(if changes >= PATIENCE {
             widened_cells(alloc, &[], old, new.as_slice())?
-        } else if is_head && visits > 2 {
+        } else if is_head && changes > 2 {
             widened_cells(alloc, thresholds, old, new.as_slice())?
         } else {
             joined(alloc, old, new.as_slice())?
@@ -341,10 +341,11 @@ impl Flow {
             let Some(block) = self.next() else {
                 return Ok(());
             };
-            let visits = count(&mut self.visits, block);
-            let cells = self.raised(setting.alloc, thresholds, block, visits)?;
+            let changes = self.changes.get(block).copied().unwrap_or(0);
+            let cells = self.raised(setting.alloc, thresholds, block, changes)?;
             let is_new = cells.is_some() && replace(&mut self.known.cells, block, cells);
-            if is_new || (block == 0 && visits == 1) {
+            if is_new || (block == 0 && changes == 0) {
+                count(&mut self.changes, block);
                 self.leave(setting, block, state)?;
             }
         }
@@ -382,7 +383,7 @@ impl Flow {
 
     /// Marks the blocks whose cells don't hold all that comes along their ways.
     fn mark_broken(&mut self) {
-        for block in 0..self.visits.len() {
+        for block in 0..self.changes.len() {
             if !self.known.holds(&self.shape, block) {
                 self.mark(block);
             }

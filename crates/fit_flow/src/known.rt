@@ -5,7 +5,7 @@ use std::alloc::{AllocError, Global};
 
 /// Cells of blocks and ways, by number.
 #[derive(Drop)]
-pub(crate) struct Known {
+pub struct Known {
     /// What is known where a block begins; nothing where no way comes there.
     pub cells: Vec<Option<Vec<Cell>>>,
     /// What is known where a way ends; nothing of one that can't be gone.
@@ -29,11 +29,7 @@ fn at(list: &[Option<Vec<Cell>>], place: usize) -> Option<&[Cell]> {
 }
 
 /// Puts cells in the place of others, if they aren't the same. Says whether they aren't.
-pub(crate) fn replace(
-    list: &mut Vec<Option<Vec<Cell>>>,
-    place: usize,
-    new: Option<Vec<Cell>>,
-) -> bool {
+pub fn replace(list: &mut Vec<Option<Vec<Cell>>>, place: usize, new: Option<Vec<Cell>>) -> bool {
     let is_same = match (at(list.as_slice(), place), &new) {
         (Some(old), Some(new)) => are_same(old, new.as_slice()),
         (None, None) => true,
