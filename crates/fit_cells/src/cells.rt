@@ -1,0 +1,98 @@
+//! Lists of cells, by location: what several ways have in common, and how far it may grow.
+ghost use Rattle.std.specs.Prelude.{◌≡◌, ◌≤◌};
+ghost use Rattle.std.specs.Int.{int_max, int_min};
+
+use crate::thresholds::{lower_threshold, upper_threshold};
+use sbx_range::{Cell, Range, is_within};
+use std::alloc::{AllocError, Global};
+
+/// The range of a location among cells that stand by location.
+pub fn range_in(cells: &[Cell], location: u16) -> Option<Range> {
+    let place = cells.partition_point(|cell| cell.location < location);
+    match cells.get(place) {
+        Some(cell) if cell.location == location => Some(cell.range),
+        _ => None,
+    }
+}
+
+/// The least range that holds the words of both.
+pub fn hull(a: Range, b: Range) -> Range
+    ensures lo { result.lo ≡ int_min a.lo b.lo }
+    ensures hi { result.hi ≡ int_max a.hi b.hi }
+    ensures alignment { (result.alignment ≤ a.alignment) × (result.alignment ≤ b.alignment) }
+{
+    Range {
+        lo: a.lo.min(b.lo),
+        hi: a.hi.max(b.hi),
+        alignment: a.alignment.min(b.alignment),
+    }
+}
+
+/// A range that holds the words of both, whose ends are thresholds where they aren't those of the first.
+fn widened(thresholds: &[i32], old: Range, new: Range) -> Range {
+    Range {
+        lo: if new.lo < old.lo {
+            lower_threshold(thresholds, new.lo)
+        } else {
+            old.lo
+        },
+        hi: if new.hi > old.hi {
+            upper_threshold(thresholds, new.hi)
+        } else {
+            old.hi
+        },
+        alignment: old.alignment.min(new.alignment),
+    }
+}
+
+/// The cells of both lists, each with what its two ranges give.
+fn combined<F: Fn(Range, Range) -> Range>(
+    alloc: Global,
+    a: &[Cell],
+    b: &[Cell],
+    with: &F,
+) -> Result<Vec<Cell>, AllocError>
+    requires { F.IsAlwaysCallable with.now }
+{
+    let mut both = Vec::with_capacity(alloc, a.len())?;
+    for cell in a {
+        if let Some(range) = range_in(b, cell.location) {
+            both.push(Cell {
+                location: cell.location,
+                range: with(cell.range, range),
+            })?;
+        }
+    }
+    Ok(both)
+}
+
+/// What two ways have in common.
+pub fn joined(alloc: Global, a: &[Cell], b: &[Cell]) -> Result<Vec<Cell>, AllocError> {
+    combined(alloc, a, b, &|x, y| hull(x, y))
+}
+
+/// The same, where ends that move go to thresholds.
+pub fn widened_cells(
+    alloc: Global,
+    thresholds: &[i32],
+    old: &[Cell],
+    new: &[Cell],
+) -> Result<Vec<Cell>, AllocError> {
+    combined(alloc, old, new, &|x, y| widened(thresholds, x, y))
+}
+
+/// Whether two lists are the same.
+pub fn are_same(a: &[Cell], b: &[Cell]) -> bool {
+    a.len() == b.len()
+        && a.iter()
+            .zip(b)
+            .all(|(x, y)| x.location == y.location && x.range == y.range)
+}
+
+/// Whether each cell of the second list is defined by the first one, and lies within it.
+pub fn are_within(found: &[Cell], wanted: &[Cell]) -> bool {
+    wanted.iter().all(|cell| match range_in(found, cell.location) {
+        Some(range) => is_within(range, cell.range),
+        None => false,
+    })
+}

@@ -1,0 +1,13 @@
+//! Blocks in the verifier's domain, `sbx_domain`: how their steps run, what several ways that lead to one have in common, and how
+//! far a range that grows may grow at once.
+#![tactic(auto)]
+
+mod cells;
+mod run;
+mod shape;
+mod thresholds;
+
+pub use cells::{are_same, are_within, hull, joined, range_in, widened_cells};
+pub use run::{enter, go_along, opposite, return_from, run_step, run_steps, run_to_call};
+pub use shape::{Shape, way_of};
+pub use thresholds::thresholds_of;

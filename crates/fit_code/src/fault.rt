@@ -1,0 +1,167 @@
+//! Why there is no program.
+use crate::code::{Line, NO_LINE};
+use std::alloc::{AllocError, AllocFailed};
+use std::fmt::{self, Error, Formatter, Write};
+use want::Want;
+
+/// Why a name is refused.
+#[derive(Clone, Copy)]
+pub enum Naming {
+    /// A label or another name that is none.
+    Label,
+    /// A section that isn't known.
+    Section,
+    /// A directive that isn't known.
+    Directive,
+    /// A mnemonic that isn't known.
+    Instruction,
+    /// The operands of a mnemonic can't be read.
+    Operands,
+    /// The mnemonic is floating point's.
+    Floating,
+    /// A label at two places.
+    DefinedTwice,
+    /// A name that stands nowhere.
+    NotDefined,
+    /// The address of a function as a number.
+    AddressOfFunction,
+    /// Functions that call each other in a round.
+    Recursion,
+    /// There is no function to begin at.
+    NoEntry,
+}
+
+impl Naming {
+    /// What stands before the name, and what behind it.
+    fn text(self) -> (&'static str, &'static str) {
+        match self {
+            Naming::Label => ("the name ", " can't be read"),
+            Naming::Section => ("the section ", " isn't known"),
+            Naming::Directive => ("the directive ", " isn't known"),
+            Naming::Instruction => ("the instruction ", " isn't known, or can't be used here"),
+            Naming::Operands => ("the operands of ", " can't be read"),
+            Naming::Floating => ("floating point, ", ": use integers, or fixed point"),
+            Naming::DefinedTwice => ("", " is defined twice"),
+            Naming::NotDefined => ("", " isn't defined"),
+            Naming::AddressOfFunction => (
+                "the address of the function ",
+                " is taken: name it, by a switch",
+            ),
+            Naming::Recursion => ("recursion: ", ""),
+            Naming::NoEntry => ("there is no function ", ""),
+        }
+    }
+}
+
+/// Why a program is refused.
+#[derive(Drop)]
+pub enum Reason {
+    /// Memory was refused.
+    Memory(Want),
+    /// A line, a name or a number that is too long, or more of something than there may be.
+    TooMany {
+        what: &'static str,
+        most: u64,
+    },
+    /// A number of something that has to be smaller.
+    TooGreat {
+        what: &'static str,
+        count: u64,
+        most: u64,
+    },
+    /// A line that can't be read.
+    Unreadable(&'static str),
+    /// A name.
+    Named(Naming, String),
+    /// A call through a register.
+    CallThroughPointer,
+    /// A jump through a register that is no return.
+    JumpThroughPointer,
+    /// Something that a function does and may not, with the function's name.
+    Form {
+        function: String,
+        what: &'static str,
+    },
+}
+
+/// Why a program is refused, and where.
+#[derive(Drop)]
+pub struct Fault {
+    pub line: Line,
+    pub reason: Reason,
+}
+
+impl Fault {
+    /// A fault at a line.
+    pub fn new(line: Line, reason: Reason) -> Fault {
+        Fault { line, reason }
+    }
+
+    /// The fault as one line, with the name of its file.
+    pub fn shown<'f>(&'f self, files: &'f [String]) -> Shown<'f> {
+        Shown { fault: self, files }
+    }
+}
+
+impl From<AllocError> for Fault {
+    fn from(error: AllocError) -> Fault {
+        Fault {
+            line: NO_LINE,
+            reason: Reason::Memory(Want::from(error)),
+        }
+    }
+}
+
+impl<T: Drop> From<AllocFailed<T>> for Fault {
+    fn from(failed: AllocFailed<T>) -> Fault {
+        Fault {
+            line: NO_LINE,
+            reason: Reason::Memory(Want::from(failed)),
+        }
+    }
+}
+
+impl fmt::Display for Reason {
+    fn fmt<W: Write>(&self, f: &mut Formatter<W>) -> Result<(), Error> {
+        match self {
+            Reason::Memory(_want) => f.write_str("out of memory"),
+            Reason::TooMany { what, most } => write!(f, "more than {most} {what}"),
+            Reason::TooGreat { what, count, most } => write!(
+                f,
+                "{what} would be {count}, above {most}"
+            ),
+            Reason::Unreadable(what) => f.write_str(what),
+            Reason::Named(naming, name) => {
+                let (before, after) = naming.text();
+                write!(f, "{before}{name}{after}")
+            }
+            Reason::CallThroughPointer => f.write_str(
+                "a call through a pointer: name the function, by a switch",
+            ),
+            Reason::JumpThroughPointer => f.write_str(
+                "a jump through a register: compile without tables of jumps",
+            ),
+            Reason::Form { function, what } => write!(f, "{function}: {what}"),
+        }
+    }
+}
+
+/// A fault with the names of the files.
+#[derive(Drop)]
+pub struct Shown<'f> {
+    fault: &'f Fault,
+    files: &'f [String],
+}
+
+impl fmt::Display for Shown<'_> {
+    fn fmt<W: Write>(&self, f: &mut Formatter<W>) -> Result<(), Error> {
+        let Line { file, number } = self.fault.line;
+        if number > 0
+            && let Some(name) = self.files.get(file)
+        {
+            write!(f, "{name}:{number}: ")?;
+        }
+        let reason = &self.fault.reason;
+        write!(f, "{reason}")
+    }
+}

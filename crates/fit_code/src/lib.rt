@@ -1,0 +1,10 @@
+//! The intermediate code between compiler-made assembly and an annotated source: functions of blocks, whose steps are instructions
+//! with every number resolved; objects of the data; and faults with lines.
+#![tactic(auto)]
+
+mod code;
+mod fault;
+
+pub use code::{Block, End, Function, Line, NO_LINE, Object, Program, Region, Step};
+pub use fault::{Fault, Naming, Reason, Shown};
+pub use sbx_parts::Range;

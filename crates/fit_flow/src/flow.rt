@@ -1,0 +1,453 @@
+//! The ranges of one function: what is known where its blocks begin, found by going along all ways until nothing new comes.
+use crate::known::{Known, replace};
+use fit_cells::{
+    Shape, enter, go_along, hull, joined, return_from, run_steps, run_to_call, thresholds_of,
+    way_of, widened_cells,
+};
+use fit_code::{End, Fault, Function, Program, Reason, Step};
+use fit_graph::successors_in;
+use fit_live::Locations;
+use sbx_domain::State;
+use sbx_range::{Cell, Range, all};
+use std::alloc::{AllocError, Global};
+
+/// A loop's head is widened to thresholds from the third change of its cells on, and any block at once to all words from this one on.
+const PATIENCE: u32 = 400;
+
+/// A block is narrowed at most so often.
+const NARROWINGS: u32 = 6;
+
+/// What a function is analysed by: its program and itself, what it is called with, and what calls give it.
+#[derive(Clone, Copy)]
+pub struct Setting<'a> {
+    pub alloc: Global,
+    pub program: &'a Program,
+    pub function: &'a Function,
+    pub params: &'a [Range],
+    pub results: &'a [Vec<Range>],
+}
+
+/// A call with what its callee is given in %o0, %o1, ..; nothing where that is undefined.
+#[derive(Clone, Copy)]
+pub struct Call {
+    pub block: usize,
+    pub callee: usize,
+    pub given: [Option<Range>; 6],
+}
+
+/// What is known of one function.
+#[derive(Drop)]
+pub struct Flow {
+    shape: Shape,
+    known: Known,
+    /// How often each block's cells grew since they were last forgotten, and how often they were narrowed.
+    changes: Vec<u32>,
+    narrowings: Vec<u32>,
+    /// By the places of the order, the blocks that are to be visited.
+    pending: Vec<bool>,
+    /// No place before this one is to be visited.
+    first: usize,
+    /// Calls to which control comes.
+    pub calls: Vec<Call>,
+    /// What returns leave in %o0, %o1, ..; nothing where no return is reached.
+    pub returned: Option<[Range; 6]>,
+}
+
+/// What %o0 to %o5 hold.
+fn outs(state: &State) -> [Option<Range>; 6] {
+    [
+        state.range(8),
+        state.range(9),
+        state.range(10),
+        state.range(11),
+        state.range(12),
+        state.range(13),
+    ]
+}
+
+/// The least ranges that hold the words of these, where an undefined one may hold any, and of those before.
+fn hulls(before: Option<[Range; 6]>, outs: [Option<Range>; 6]) -> [Range; 6] {
+    let outs = outs.map(|range| range.unwrap_or(all(0)));
+    match before {
+        Some(before) => [
+            hull(before[0], outs[0]),
+            hull(before[1], outs[1]),
+            hull(before[2], outs[2]),
+            hull(before[3], outs[3]),
+            hull(before[4], outs[4]),
+            hull(before[5], outs[5]),
+        ],
+        None => outs,
+    }
+}
+
+/// Adds 1 to a count.
+fn count(counts: &mut Vec<u32>, place: usize) -> u32 {
+    match counts.get_mut(place) {
+        Some(count) => {
+            *count = count.saturating_add(1);
+            *count
+        }
+        None => 0,
+    }
+}
+
+fn calls(step: &Step) -> bool {
+    step.callee.is_some()
+}
+
+impl Flow {
+    /// Nothing is known of a function's blocks, all of which are to be visited.
+    pub fn new(alloc: Global, function: &Function, live: &[Locations]) -> Result<Flow, AllocError> {
+        let mut flow = Flow {
+            shape: Shape::of(alloc, function, live)?,
+            known: Known::nothing(alloc),
+            changes: Vec::new(alloc),
+            narrowings: Vec::new(alloc),
+            pending: Vec::new(alloc),
+            first: 0,
+            calls: Vec::new(alloc),
+            returned: None,
+        };
+        flow.extend(alloc, function)?;
+        flow.forget(alloc, function, &[0])?;
+        Ok(flow)
+    }
+
+    /// Makes room for a function's blocks, none of which is to be visited.
+    fn extend(&mut self, alloc: Global, function: &Function) -> Result<(), AllocError> {
+        let blocks = function.blocks.len();
+        self.known.extend(blocks)?;
+        for _ in self.changes.len()..blocks {
+            self.changes.push(0)?;
+            self.narrowings.push(0)?;
+        }
+        self.pending = vec![in alloc; false; self.shape.order.blocks.len()]?;
+        self.first = 0;
+        Ok(())
+    }
+
+    /// A block is to be visited.
+    fn mark(&mut self, block: usize) {
+        if let Some(place) = self.shape.order.place(block)
+            && let Some(pending) = self.pending.get_mut(place)
+        {
+            *pending = true;
+            self.first = self.first.min(place);
+        }
+    }
+
+    /// The first block that is to be visited.
+    fn next(&mut self) -> Option<usize> {
+        for place in self.first..self.pending.len() {
+            if let Some(pending) = self.pending.get_mut(place)
+                && *pending
+            {
+                *pending = false;
+                self.first = place;
+                return self.shape.order.blocks.get(place).copied();
+            }
+        }
+        self.first = self.pending.len();
+        None
+    }
+
+    /// Whether some block is to be visited.
+    pub fn is_pending(&self) -> bool {
+        self.pending.iter().any(|pending| *pending)
+    }
+
+    /// Forgets what is known of a block.
+    fn forget_block(&mut self, block: usize) {
+        replace(&mut self.known.cells, block, None);
+        replace(&mut self.known.ways, way_of(block, 0), None);
+        replace(&mut self.known.ways, way_of(block, 1), None);
+        if let Some(changes) = self.changes.get_mut(block) {
+            *changes = 0;
+        }
+        if let Some(narrowings) = self.narrowings.get_mut(block) {
+            *narrowings = 0;
+        }
+        self.mark(block);
+    }
+
+    /// Forgets what is known of some blocks and of all that can be reached from there: they are to be visited.
+    pub fn forget(
+        &mut self,
+        alloc: Global,
+        function: &Function,
+        starts: &[usize],
+    ) -> Result<(), AllocError> {
+        let mut seen = vec![in alloc; false; function.blocks.len()]?;
+        let mut open = Vec::from_slice(alloc, starts)?;
+        // A block is seen once, and has two ways.
+        for _ in 0..function
+            .blocks
+            .len()
+            .saturating_mul(2)
+            .saturating_add(starts.len())
+        {
+            let Some(block) = open.pop() else {
+                break;
+            };
+            if let Some(is_seen) = seen.get_mut(block)
+                && !*is_seen
+            {
+                *is_seen = true;
+                self.forget_block(block);
+                for to in successors_in(function, block).into_iter().flatten() {
+                    open.push(to)?;
+                }
+            }
+        }
+        Ok(())
+    }
+
+    /// Takes over a function whose blocks `changed` are others than before, and at whose blocks other locations may be live.
+    pub fn renew(
+        &mut self,
+        alloc: Global,
+        function: &Function,
+        live: &[Locations],
+        changed: &[usize],
+    ) -> Result<(), AllocError> {
+        let shape = Shape::of(alloc, function, live)?;
+        let mut starts = Vec::from_slice(alloc, changed)?;
+        for (block, list) in self.shape.live.iter().enumerate() {
+            if shape.live.get(block) != Some(list)
+                && let Some(sources) = shape.sources.get(block)
+            {
+                for way in sources {
+                    starts.push(*way / 2)?;
+                }
+            }
+        }
+        self.shape = shape;
+        self.extend(alloc, function)?;
+        self.forget(alloc, function, starts.as_slice())
+    }
+
+    /// What is known where a block begins; nothing where no way comes there.
+    pub fn cells(&self, block: usize) -> Option<&[Cell]> {
+        self.known.cells(block)
+    }
+
+    /// Which ways of a block can be gone.
+    pub fn open_ways(&self, block: usize) -> (bool, bool) {
+        (
+            self.known.is_open(way_of(block, 0)),
+            self.known.is_open(way_of(block, 1)),
+        )
+    }
+
+    /// Begins a block; says whether control can come there.
+    pub fn begin(&self, setting: &Setting, block: usize, state: &mut State) -> bool {
+        if block == 0 {
+            enter(setting.function, setting.params, state);
+            return true;
+        }
+        match self.cells(block) {
+            Some(cells) => {
+                state.start(cells);
+                true
+            }
+            None => false,
+        }
+    }
+
+    /// Runs a block from its beginning along one of its ways; says whether that can be gone.
+    pub fn run(&self, setting: &Setting, block: usize, way: usize, state: &mut State) -> bool {
+        let Some(code) = setting.function.blocks.get(block) else {
+            return false;
+        };
+        if !self.begin(setting, block, state) {
+            return false;
+        }
+        let frame = setting.function.frame;
+        run_steps(frame, setting.results, code, state);
+        go_along(frame, code, way, state)
+    }
+
+    /// The cells of what is live where a block begins.
+    fn collect(&self, alloc: Global, state: &State, to: usize) -> Result<Vec<Cell>, AllocError> {
+        let mut cells = Vec::new(alloc);
+        if let Some(live) = self.shape.live.get(to) {
+            for location in live {
+                if let Some(range) = state.range(*location) {
+                    let location = *location;
+                    cells.push(Cell { location, range })?;
+                }
+            }
+        }
+        Ok(cells)
+    }
+
+    /// Goes along each way of a block; where what is known at its end changes, the block there is to be visited.
+    fn leave(
+        &mut self,
+        setting: &Setting,
+        block: usize,
+        state: &mut State,
+    ) -> Result<(), AllocError> {
+        let ways = successors_in(setting.function, block);
+        for (way, to) in ways.into_iter().enumerate() {
+            if let Some(to) = to {
+                let found = if self.run(setting, block, way, state) {
+                    Some(self.collect(setting.alloc, state, to)?)
+                } else {
+                    None
+                };
+                if replace(&mut self.known.ways, way_of(block, way), found) {
+                    self.mark(to);
+                }
+            }
+        }
+        Ok(())
+    }
+
+    /// What a block's cells become, where more may come along its ways than before.
+    fn raised(
+        &self,
+        alloc: Global,
+        thresholds: &[i32],
+        block: usize,
+        changes: u32,
+    ) -> Result<Option<Vec<Cell>>, AllocError> {
+        let Some(new) = self.known.incoming(alloc, &self.shape, block)? else {
+            return Ok(None);
+        };
+        let Some(old) = self.cells(block) else {
+            return Ok(Some(new));
+        };
+        let is_head = self.shape.heads.get(block).copied().unwrap_or(false);
+        Ok(Some(if changes >= PATIENCE {
+            widened_cells(alloc, &[], old, new.as_slice())?
+        } else if is_head && changes > 2 {
+            widened_cells(alloc, thresholds, old, new.as_slice())?
+        } else {
+            joined(alloc, old, new.as_slice())?
+        }))
+    }
+
+    /// Visits what is to be visited, where cells grow, until nothing is.
+    fn ascend(
+        &mut self,
+        setting: &Setting,
+        thresholds: &[i32],
+        state: &mut State,
+    ) -> Result<(), Fault> {
+        let most = self.pending.len().saturating_add(1).saturating_mul(2_000);
+        for _ in 0..most {
+            let Some(block) = self.next() else {
+                return Ok(());
+            };
+            let changes = self.changes.get(block).copied().unwrap_or(0);
+            let cells = self.raised(setting.alloc, thresholds, block, changes)?;
+            let is_new = cells.is_some() && replace(&mut self.known.cells, block, cells);
+            if is_new || (block == 0 && changes == 0) {
+                count(&mut self.changes, block);
+                self.leave(setting, block, state)?;
+            }
+        }
+        Err(Fault::new(
+            setting.function.line,
+            Reason::TooMany {
+                what: "visits of blocks whose ranges are looked for",
+                most: most as u64,
+            },
+        ))
+    }
+
+    /// Visits each block a few times more, where cells get narrower.
+    fn descend(&mut self, setting: &Setting, state: &mut State) -> Result<(), AllocError> {
+        for place in 0..self.shape.order.blocks.len() {
+            if let Some(block) = self.shape.order.blocks.get(place).copied() {
+                self.mark(block);
+            }
+        }
+        let most = self.pending.len().saturating_mul(16);
+        for _ in 0..most {
+            let Some(block) = self.next() else {
+                return Ok(());
+            };
+            let cells = self.known.incoming(setting.alloc, &self.shape, block)?;
+            if block > 0
+                && replace(&mut self.known.cells, block, cells)
+                && count(&mut self.narrowings, block) <= NARROWINGS
+            {
+                self.leave(setting, block, state)?;
+            }
+        }
+        Ok(())
+    }
+
+    /// Marks the blocks whose cells don't hold all that comes along their ways.
+    fn mark_broken(&mut self) {
+        for block in 0..self.changes.len() {
+            if !self.known.holds(&self.shape, block) {
+                self.mark(block);
+            }
+        }
+    }
+
+    /// Looks for the calls of a block, from its beginning on.
+    fn find_calls(
+        &mut self,
+        setting: &Setting,
+        block: usize,
+        state: &mut State,
+    ) -> Result<(), AllocError> {
+        let Some(code) = setting.function.blocks.get(block) else {
+            return Ok(());
+        };
+        let frame = setting.function.frame;
+        for step in &code.steps {
+            run_to_call(frame, step, state);
+            if let Some(callee) = step.callee {
+                let given = outs(state);
+                self.calls.push(Call {
+                    block,
+                    callee,
+                    given,
+                })?;
+                return_from(setting.results, callee, state);
+            }
+        }
+        if let End::Return(fields) = code.end {
+            if setting.function.framed {
+                state.restore(&fields);
+            }
+            self.returned = Some(hulls(self.returned, outs(state)));
+        }
+        Ok(())
+    }
+
+    /// Looks for what callees are given, and what returns leave.
+    fn summarize(&mut self, setting: &Setting, state: &mut State) -> Result<(), AllocError> {
+        self.calls.clear();
+        self.returned = None;
+        for (block, code) in setting.function.blocks.iter().enumerate() {
+            let is_asked = matches!(code.end, End::Return(_)) || code.steps.iter().any(calls);
+            if is_asked && self.begin(setting, block, state) {
+                self.find_calls(setting, block, state)?;
+            }
+        }
+        Ok(())
+    }
+
+    /// Finds the ranges, by what is to be visited.
+    pub fn settle(&mut self, setting: &Setting, state: &mut State) -> Result<(), Fault> {
+        let thresholds = thresholds_of(
+            setting.alloc,
+            setting.program,
+            setting.function,
+            setting.params,
+        )?;
+        self.ascend(setting, thresholds.as_slice(), state)?;
+        self.descend(setting, state)?;
+        self.mark_broken();
+        self.ascend(setting, thresholds.as_slice(), state)?;
+        self.summarize(setting, state)?;
+        Ok(())
+    }
+}

@@ -1,0 +1,218 @@
+//! Directives.
+use crate::source::{Section, Source};
+use crate::text::{first_operand, first_word, is_name, number_of, unquoted};
+use fit_code::{Fault, Line, Naming, Reason};
+use v8_syntax::beside;
+
+/// What a directive asks for.
+#[derive(Clone, Copy)]
+enum Directive {
+    Section,
+    Enter(Section),
+    Align,
+    PowerAlign,
+    Common,
+    Global,
+    Type,
+    File,
+    Loc,
+    Values(usize),
+    Strings { ends: bool },
+    Room,
+    /// Nothing that matters here.
+    Nothing,
+}
+
+const WRITABLE: Section = Section::Data { readonly: false };
+
+static DIRECTIVES: [(&str, Directive); 39] = [
+    (".section", Directive::Section),
+    (".text", Directive::Enter(Section::Code)),
+    (".data", Directive::Enter(WRITABLE)),
+    (".bss", Directive::Enter(WRITABLE)),
+    (".align", Directive::Align),
+    (".balign", Directive::Align),
+    (".p2align", Directive::PowerAlign),
+    (".comm", Directive::Common),
+    (".common", Directive::Common),
+    (".global", Directive::Global),
+    (".globl", Directive::Global),
+    (".weak", Directive::Global),
+    (".type", Directive::Type),
+    (".file", Directive::File),
+    (".loc", Directive::Loc),
+    (".word", Directive::Values(4)),
+    (".long", Directive::Values(4)),
+    (".uaword", Directive::Values(4)),
+    (".half", Directive::Values(2)),
+    (".uahalf", Directive::Values(2)),
+    (".short", Directive::Values(2)),
+    (".byte", Directive::Values(1)),
+    (".ascii", Directive::Strings { ends: false }),
+    (".asciz", Directive::Strings { ends: true }),
+    (".string", Directive::Strings { ends: true }),
+    (".skip", Directive::Room),
+    (".space", Directive::Room),
+    (".zero", Directive::Room),
+    (".local", Directive::Nothing),
+    (".size", Directive::Nothing),
+    (".ident", Directive::Nothing),
+    (".proc", Directive::Nothing),
+    (".register", Directive::Nothing),
+    (".hidden", Directive::Nothing),
+    (".internal", Directive::Nothing),
+    (".protected", Directive::Nothing),
+    (".addrsig", Directive::Nothing),
+    (".addrsig_sym", Directive::Nothing),
+    (".version", Directive::Nothing),
+];
+
+/// The sections whose names begin so, the first that fits.
+static SECTIONS: [(&str, Section); 11] = [
+    (".text", Section::Code),
+    (".rodata", Section::Data { readonly: true }),
+    (".data.rel.ro", Section::Data { readonly: true }),
+    (".data", WRITABLE),
+    (".sdata", WRITABLE),
+    (".bss", WRITABLE),
+    (".sbss", WRITABLE),
+    (".debug", Section::Ignored),
+    (".comment", Section::Ignored),
+    (".note", Section::Ignored),
+    (".eh_frame", Section::Ignored),
+];
+
+fn section_named(name: &[u8]) -> Option<Section> {
+    for (start, section) in &SECTIONS {
+        if name.starts_with(start.as_bytes()) {
+            return Some(*section);
+        }
+    }
+    None
+}
+
+impl Source {
+    fn section_line(&mut self, text: &[u8]) -> Result<(), Fault> {
+        let (first, _) = first_operand(text);
+        let name = unquoted(first).unwrap_or(first);
+        let Some(section) = section_named(name) else {
+            return Err(self.named(Naming::Section, name));
+        };
+        self.enter(section);
+        Ok(())
+    }
+
+    /// `NAME` is the same in all files.
+    fn global(&mut self, text: &[u8]) -> Result<(), Fault> {
+        if !is_name(text) {
+            return Err(self.named(Naming::Label, text));
+        }
+        let symbol = self.symbol(text)?;
+        if let Some(found) = self.symbols.get_mut(symbol) {
+            found.is_global = true;
+        }
+        Ok(())
+    }
+
+    /// `NAME,#function`, or `@function`; other types don't matter.
+    fn type_line(&mut self, text: &[u8]) -> Result<(), Fault> {
+        let (name, kind) = first_operand(text);
+        if !is_name(name) {
+            return Err(self.named(Naming::Label, name));
+        }
+        if kind.ends_with(b"function") {
+            let symbol = self.symbol(name)?;
+            if let Some(found) = self.symbols.get_mut(symbol) {
+                found.is_function = true;
+            }
+        }
+        Ok(())
+    }
+
+    /// `NUMBER "FOLDER" "NAME"`, where the folder may be left out; a name alone is the assembly's own.
+    fn file_line(&mut self, text: &[u8]) -> Result<(), Fault> {
+        let (number, rest) = first_word(text);
+        let Some(number) = number_of(number) else {
+            return Ok(());
+        };
+        let (first, second) = first_word(rest);
+        let path = if second.is_empty() {
+            first
+        } else {
+            first_word(second).0
+        };
+        let path = unquoted(path).unwrap_or(path);
+        let file = self.add_file(Source::base_name(path))?;
+        self.numbered.insert(number, file)?;
+        Ok(())
+    }
+
+    /// `FILE LINE ..`
+    fn loc_line(&mut self, text: &[u8]) {
+        let (file, rest) = first_word(text);
+        let (number, _) = first_word(rest);
+        if let Some(file) = number_of(file)
+            && let Some(file) = self.numbered.get(&file)
+            && let Some(number) = number_of(number)
+            && 0 < number
+            && number < 0x1_0000_0000
+        {
+            self.origin = Some(Line {
+                file: *file,
+                number: number as u32,
+            });
+        }
+    }
+
+    fn data_line(&mut self, directive: Directive, text: &[u8]) -> Result<(), Fault> {
+        match directive {
+            Directive::Align => self.aligned(text, false),
+            Directive::PowerAlign => self.aligned(text, true),
+            Directive::Values(size) => self.values(size, text),
+            Directive::Strings { ends } => self.strings(ends, text),
+            Directive::Room => self.room(text),
+            _ => Ok(()),
+        }
+    }
+
+    /// A directive that is the same in each section; else the directive.
+    fn common_line(
+        &mut self,
+        directive: Directive,
+        text: &[u8],
+    ) -> Result<Option<Directive>, Fault> {
+        match directive {
+            Directive::Enter(section) => self.enter(section),
+            Directive::Section => self.section_line(text)?,
+            Directive::Common => self.common(text)?,
+            Directive::Global => self.global(text)?,
+            Directive::Type => self.type_line(text)?,
+            Directive::File => self.file_line(text)?,
+            Directive::Loc => self.loc_line(text),
+            Directive::Nothing => {}
+            other => return Ok(Some(other)),
+        }
+        Ok(None)
+    }
+
+    /// A directive, and what stands behind it.
+    pub(crate) fn directive(&mut self, name: &[u8], text: &[u8]) -> Result<(), Fault> {
+        let Some(found) = beside(name, &DIRECTIVES) else {
+            if self.section == Section::Ignored || name.starts_with(b".cfi_") {
+                return Ok(());
+            }
+            return Err(self.named(Naming::Directive, name));
+        };
+        let Some(other) = self.common_line(found, text)? else {
+            return Ok(());
+        };
+        match self.section {
+            Section::Data { .. } => self.data_line(other, text),
+            Section::Ignored => Ok(()),
+            Section::Code => match other {
+                Directive::Align | Directive::PowerAlign => Ok(()),
+                _ => Err(self.fault(Reason::Unreadable("data among instructions"))),
+            },
+        }
+    }
+}

@@ -1,0 +1,225 @@
+//! Instructions: the assembler's own spellings over the statements of the source language.
+use crate::source::{Item, Part, Reference, Source};
+use crate::text::{expression_of, first_operand};
+use fit_code::{Fault, Naming, Reason};
+use sbx_text::{TextFault, push_tokens};
+use std::alloc::AllocError;
+use v8_formats::{Instr, encode};
+use v8_syntax::{Symbols, SyntaxFault, bytes_between, is_same, parse_instr};
+
+/// A statement stands at address 0, and no name has a value there.
+struct Nameless;
+
+impl Symbols for Nameless {
+    ghost use Rattle.std.specs.Prelude.{None};
+
+    ghost values = { λ _ _. None };
+
+    ghost place = { λ _. 0 };
+
+    fn value(&self, _name: &[u8]) -> Option<u32> {
+        None
+    }
+
+    fn here(&self) -> u32 {
+        0
+    }
+}
+
+/// Puts a part of an address into the word of an instruction whose number is 0: the high 22 bits of SETHI, or the low 10 bits of another
+/// one.
+pub fn with_part(instr: u32, part: Part, word: u32) -> u32 {
+    let field = match part {
+        Part::High => word >> 10,
+        Part::Low => word & 0x3ff,
+        Part::Target => 0,
+    };
+    instr | field
+}
+
+/// A part of an address among operands: where it begins, where its parenthesis closes, and which one it is.
+fn part_in(text: &[u8]) -> Option<(usize, usize, Part)> {
+    for start in 0..text.len() {
+        let part = match bytes_between(text, start, start.saturating_add(4)) {
+            b"%hi(" => Part::High,
+            b"%lo(" => Part::Low,
+            _ => continue,
+        };
+        let behind = bytes_between(text, start, text.len());
+        let length = behind.iter().position(|byte| *byte == b')')?;
+        return Some((start, start.saturating_add(length), part));
+    }
+    None
+}
+
+/// Whether a register of the floating-point unit is named.
+fn names_float(text: &[u8]) -> bool {
+    for place in 0..text.len() {
+        if let [b'%', b'f', digit] = bytes_between(text, place, place.saturating_add(3))
+            && digit.is_ascii_digit()
+        {
+            return true;
+        }
+    }
+    false
+}
+
+fn is_floating(word: &[u8], text: &[u8]) -> bool {
+    (word.starts_with(b"f") && !is_same(word, b"flush")) || names_float(text)
+}
+
+/// Whether a number has zeros in front, which would make it octal.
+fn has_octal(text: &[u8]) -> bool {
+    let mut before = b' ';
+    let mut zero = false;
+    for byte in text {
+        if zero && byte.is_ascii_digit() {
+            return true;
+        }
+        zero = *byte == b'0' && !before.is_ascii_alphanumeric() && before != b'.' && before != b'_';
+        before = *byte;
+    }
+    false
+}
+
+fn is_branch(word: &[u8]) -> bool {
+    word.starts_with(b"b") && !matches!(word, b"btst" | b"bset" | b"bclr" | b"btog")
+}
+
+/// A statement with a blank between its parts.
+fn push_statement(word: &[u8], text: &[u8], out: &mut Vec<u8>) -> Result<(), AllocError> {
+    out.extend_from_slice(word)?;
+    out.push(b' ')?;
+    out.extend_from_slice(text)?;
+    Ok(())
+}
+
+impl Source {
+    /// A statement of the source language, which has no name in it; of a reference its number is a part.
+    fn statement(
+        &mut self,
+        word: &[u8],
+        line: &[u8],
+        reference: Option<Reference>,
+    ) -> Result<(), Fault> {
+        let mut tokens = Vec::new(self.alloc);
+        match push_tokens(line, &mut tokens) {
+            Ok(()) => {}
+            Err(TextFault::Memory(want)) => return Err(self.fault(Reason::Memory(want))),
+            Err(_) => return Err(self.named(Naming::Operands, word)),
+        }
+        let found = match parse_instr(line, tokens.as_slice(), &Nameless) {
+            Ok(found) => found,
+            Err(SyntaxFault::UnknownMnemonic) => return Err(self.named(Naming::Instruction, word)),
+            Err(_) => return Err(self.named(Naming::Operands, word)),
+        };
+        let line = self.line();
+        for instr in found.as_slice() {
+            self.add_item(&Item::Instr {
+                word: encode(instr),
+                line,
+                reference,
+            })?;
+        }
+        Ok(())
+    }
+
+    /// The symbol that a branch or a call goes to.
+    fn target(&mut self, word: &[u8], text: &[u8]) -> Result<Reference, Fault> {
+        let (operand, _) = first_operand(text);
+        match expression_of(operand) {
+            Some((name, 0)) if !name.is_empty() => Ok(Reference {
+                part: Part::Target,
+                symbol: self.symbol(name)?,
+                offset: 0,
+            }),
+            _ => Err(self.named(Naming::Operands, word)),
+        }
+    }
+
+    fn call(&mut self, word: &[u8], text: &[u8]) -> Result<(), Fault> {
+        if text.starts_with(b"%") {
+            return Err(self.fault(Reason::CallThroughPointer));
+        }
+        let reference = Some(self.target(word, text)?);
+        let line = self.line();
+        self.add_item(&Item::Instr {
+            word: encode(&Instr::Call(0)),
+            line,
+            reference,
+        })
+    }
+
+    fn branch(&mut self, word: &[u8], text: &[u8]) -> Result<(), Fault> {
+        let reference = self.target(word, text)?;
+        let mut line = Vec::new(self.alloc);
+        push_statement(word, b"0", &mut line)?;
+        self.statement(word, line.as_slice(), Some(reference))
+    }
+
+    /// A statement with `%hi(..)` or `%lo(..)` in it.
+    fn relocated(
+        &mut self,
+        word: &[u8],
+        text: &[u8],
+        place: (usize, usize, Part),
+    ) -> Result<(), Fault> {
+        let (start, end, part) = place;
+        let inner = bytes_between(text, start.saturating_add(4), end);
+        let Some((name, offset)) = expression_of(inner.trim_ascii()) else {
+            return Err(self.named(Naming::Operands, word));
+        };
+        let mut line = Vec::new(self.alloc);
+        push_statement(word, bytes_between(text, 0, start), &mut line)?;
+        line.push(b'0')?;
+        line.extend_from_slice(bytes_between(text, end.saturating_add(1), text.len()))?;
+        if name.is_empty() {
+            return self.numbered_statement(word, line.as_slice(), part, offset);
+        }
+        let symbol = self.symbol(name)?;
+        let reference = Reference {
+            part,
+            symbol,
+            offset,
+        };
+        self.statement(word, line.as_slice(), Some(reference))
+    }
+
+    /// A statement whose number is a part of a number.
+    fn numbered_statement(
+        &mut self,
+        word: &[u8],
+        line: &[u8],
+        part: Part,
+        number: i64,
+    ) -> Result<(), Fault> {
+        self.statement(word, line, None)?;
+        let number = (number as i128).rem_euclid(0x1_0000_0000) as u32;
+        self.fill_last(part, number);
+        Ok(())
+    }
+
+    /// An instruction, and what stands behind its mnemonic.
+    pub(crate) fn instruction(&mut self, word: &[u8], text: &[u8]) -> Result<(), Fault> {
+        if is_floating(word, text) {
+            return Err(self.named(Naming::Floating, word));
+        }
+        if has_octal(text) {
+            return Err(self.named(Naming::Operands, word));
+        }
+        if is_same(word, b"call") {
+            return self.call(word, text);
+        }
+        if is_branch(word) {
+            return self.branch(word, text);
+        }
+        match part_in(text) {
+            Some(place) => self.relocated(word, text, place),
+            None => {
+                let mut line = Vec::new(self.alloc);
+                push_statement(word, text, &mut line)?;
+                self.statement(word, line.as_slice(), None)
+            }
+        }
+    }
+}

@@ -1,0 +1,14 @@
+//! Compiler-made assembly, gcc's and clang's, read as code with references to names, and as objects of data.
+#![tactic(auto)]
+
+mod data;
+mod directives;
+mod instructions;
+mod linking;
+mod source;
+mod strings;
+mod text;
+
+pub use instructions::with_part;
+pub use linking::{Linked, links_of};
+pub use source::{Code, Datum, Fix, Item, Part, Place, Reference, Source, Symbol};

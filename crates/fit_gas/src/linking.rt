@@ -1,0 +1,53 @@
+//! What the names of several files stand for.
+use crate::source::{Place, Source};
+use fit_code::{Fault, Naming, Reason};
+use std::alloc::Global;
+use std::collections::BTreeMap;
+
+/// For each symbol of a source where it stands, in whichever file.
+#[derive(Drop)]
+pub struct Linked {
+    places: Vec<Place>,
+}
+
+impl Linked {
+    /// Where a symbol stands.
+    pub fn place(&self, symbol: usize) -> Place {
+        self.places.get(symbol).copied().unwrap_or(Place::Nowhere)
+    }
+}
+
+/// The global names that stand somewhere.
+fn globals(alloc: Global, source: &Source) -> Result<BTreeMap<String, Place>, Fault> {
+    let mut found: BTreeMap<String, Place> = BTreeMap::new(alloc);
+    for symbol in source.symbols.iter() {
+        if symbol.is_global && symbol.place != Place::Nowhere {
+            if found.contains_key(symbol.name.as_str()) {
+                let name = symbol.name.clone()?;
+                return Err(Fault::new(symbol.line, Reason::Named(Naming::DefinedTwice, name)));
+            }
+            found.insert(symbol.name.clone()?, symbol.place)?;
+        }
+    }
+    Ok(found)
+}
+
+/// Finds for each symbol where it stands: in its own file, else as a global name of another one.
+///
+/// # Errors
+/// A global name that stands at two places. A name that stands nowhere is no fault as long as nothing needs it.
+pub fn links_of(alloc: Global, source: &Source) -> Result<Linked, Fault> {
+    let globals = globals(alloc, source)?;
+    let mut places = Vec::new(alloc);
+    for symbol in source.symbols.iter() {
+        let place = match symbol.place {
+            Place::Nowhere => globals
+                .get(symbol.name.as_str())
+                .copied()
+                .unwrap_or(Place::Nowhere),
+            place => place,
+        };
+        places.push(place)?;
+    }
+    Ok(Linked { places })
+}

@@ -1,0 +1,171 @@
+//! The parts of a line.
+use v8_syntax::bytes_between;
+
+/// Numbers lie below this.
+const LIMIT: i64 = 0x100_0000_0000;
+
+fn is_blank(byte: u8) -> bool {
+    byte == b' ' || byte == b'\t' || byte == b'\r'
+}
+
+fn is_name_byte(byte: u8) -> bool {
+    byte.is_ascii_alphanumeric() || byte == b'_' || byte == b'.' || byte == b'$'
+}
+
+/// Whether some bytes are a name: letters, digits, `_`, `.` and `$`, no digit first.
+pub fn is_name(bytes: &[u8]) -> bool {
+    match bytes.first() {
+        Some(first) => !first.is_ascii_digit() && bytes.iter().all(|byte| is_name_byte(*byte)),
+        None => false,
+    }
+}
+
+/// The text of a name, which is ASCII; of other bytes a question mark.
+pub fn shown(bytes: &[u8]) -> &str {
+    match std::str::from_utf8(bytes) {
+        Ok(text) => text,
+        Err(_) => "?",
+    }
+}
+
+/// Where a byte stands first outside of quotes and parentheses; the length where it doesn't.
+fn place_of(wanted: u8, text: &[u8]) -> usize {
+    let mut quoted = false;
+    let mut escaped = false;
+    let mut depth: u32 = 0;
+    for (place, byte) in text.iter().enumerate() {
+        if quoted {
+            quoted = escaped || *byte != b'"';
+            escaped = !escaped && *byte == b'\\';
+        } else if *byte == wanted && depth == 0 {
+            return place;
+        } else {
+            quoted = *byte == b'"';
+            depth = match *byte {
+                b'(' => depth.saturating_add(1),
+                b')' => depth.saturating_sub(1),
+                _ => depth,
+            };
+        }
+    }
+    text.len()
+}
+
+/// A line without its comment and the blanks around it. A line that begins with `#` is a comment.
+pub fn content(line: &[u8]) -> &[u8] {
+    let text = bytes_between(line, 0, place_of(b'!', line)).trim_ascii();
+    match text.first() {
+        Some(b'#') => &[],
+        _ => text,
+    }
+}
+
+/// What stands before the first blank, and what stands behind it.
+pub fn first_word(text: &[u8]) -> (&[u8], &[u8]) {
+    let end = text
+        .iter()
+        .position(|byte| is_blank(*byte))
+        .unwrap_or(text.len());
+    let rest = bytes_between(text, end, text.len()).trim_ascii();
+    (bytes_between(text, 0, end), rest)
+}
+
+/// The first of some operands with commas between them, and the others.
+pub fn first_operand(text: &[u8]) -> (&[u8], &[u8]) {
+    let end = place_of(b',', text);
+    let rest = bytes_between(text, end.saturating_add(1), text.len());
+    (bytes_between(text, 0, end).trim_ascii(), rest.trim_ascii())
+}
+
+/// The name of the label that a line begins with, and what stands behind it.
+pub fn first_label(text: &[u8]) -> Option<(&[u8], &[u8])> {
+    let end = text
+        .iter()
+        .position(|byte| !is_name_byte(*byte))
+        .unwrap_or(text.len());
+    match text.get(end) {
+        Some(b':') => {
+            let rest = bytes_between(text, end.saturating_add(1), text.len());
+            Some((bytes_between(text, 0, end), rest.trim_ascii()))
+        }
+        _ => None,
+    }
+}
+
+/// The value of a digit or a letter; 36 of another byte.
+fn digit_value(byte: u8) -> u8 {
+    match byte {
+        b'0'..=b'9' => byte - b'0',
+        b'a'..=b'z' => byte - b'a' + 10,
+        b'A'..=b'Z' => byte - b'A' + 10,
+        _ => 36,
+    }
+}
+
+/// The number of some digits, below 2^40.
+pub fn digits_of(digits: &[u8], radix: u8) -> Option<i64> {
+    let mut value: i64 = 0;
+    for byte in digits {
+        let digit = digit_value(*byte);
+        value = value
+            .saturating_mul(i64::from(radix))
+            .saturating_add(i64::from(digit));
+        if digit >= radix || value >= LIMIT {
+            return None;
+        }
+    }
+    if digits.is_empty() { None } else { Some(value) }
+}
+
+/// A number as the assembler reads it: hexadecimal behind `0x`, octal behind `0`, else decimal.
+fn natural_of(text: &[u8]) -> Option<i64> {
+    match text {
+        [b'0', b'x', digits @ ..] => digits_of(digits, 16),
+        [b'0', _, ..] => digits_of(text, 8),
+        _ => digits_of(text, 10),
+    }
+}
+
+/// A number, perhaps behind a sign.
+pub fn number_of(text: &[u8]) -> Option<i64> {
+    match text {
+        [b'-', rest @ ..] => Some(0i64.saturating_sub(natural_of(rest)?)),
+        _ => natural_of(text),
+    }
+}
+
+/// The number behind a name: 0 where there is nothing.
+fn offset_of(text: &[u8]) -> Option<i64> {
+    match text {
+        [] => Some(0),
+        [b'+', rest @ ..] => number_of(rest.trim_ascii()),
+        [b'-', rest @ ..] => Some(0i64.saturating_sub(number_of(rest.trim_ascii())?)),
+        _ => None,
+    }
+}
+
+/// A name, perhaps with a number behind it; or a number, with no name.
+pub fn expression_of(text: &[u8]) -> Option<(&[u8], i64)> {
+    if let Some(number) = number_of(text) {
+        return Some((&[], number));
+    }
+    let end = text
+        .iter()
+        .position(|byte| !is_name_byte(*byte))
+        .unwrap_or(text.len());
+    let name = bytes_between(text, 0, end);
+    let offset = offset_of(bytes_between(text, end, text.len()).trim_ascii())?;
+    if is_name(name) {
+        Some((name, offset))
+    } else {
+        None
+    }
+}
+
+/// What stands between two quotes.
+pub fn unquoted(text: &[u8]) -> Option<&[u8]> {
+    match text {
+        [b'"', inner @ .., b'"'] => Some(inner),
+        _ => None,
+    }
+}

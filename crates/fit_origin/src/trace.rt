@@ -1,0 +1,82 @@
+//! What is known of the operands of a block's steps.
+use fit_cells::run_step;
+use fit_code::{Block, Step};
+use sbx_domain::{State, frame_word_of};
+use sbx_range::{Range, known};
+use std::alloc::{AllocError, Global};
+use v8_formats::{Instr, Operand, Reg};
+use v8_meaning::{Operation, operation_of};
+
+/// The ranges of a step's first operand and of its second one, before the step; nothing where one is undefined, or
+/// the step has none.
+pub type Operands = [Option<Range>; 2];
+
+/// The operands of each step of a block.
+#[derive(Drop)]
+pub struct Trace {
+    pub operands: Vec<Operands>,
+}
+
+/// The operands of an instruction that has two. Of a load or a store they are the parts of its address, and one of a
+/// frame word has none.
+pub fn operands_of(frame: u32, instr: &Instr) -> Option<(Reg, Operand)> {
+    match operation_of(instr) {
+        Operation::Compute(_, fields) | Operation::Divide(_, fields) => {
+            Some((fields.rs1, fields.operand2))
+        }
+        Operation::Transfer(_, operand) => match frame_word_of(frame, &operand) {
+            Some(_) => None,
+            None => Some((operand.rs1, operand.operand2)),
+        },
+        Operation::WriteY(fields) => Some((fields.rs1, fields.operand2)),
+        _ => None,
+    }
+}
+
+/// The range of a register's word; nothing where it is undefined.
+pub fn register_range(register: Reg, state: &State) -> Option<Range> {
+    if register == Reg::G0 {
+        Some(known(0))
+    } else {
+        state.range(u16::from(register.number()))
+    }
+}
+
+/// The range of an operand; nothing where it is undefined.
+pub fn operand_range(operand: Operand, state: &State) -> Option<Range> {
+    match operand {
+        Operand::Register(register) => register_range(register, state),
+        Operand::Immediate(word) => Some(known(word)),
+    }
+}
+
+/// What is known of a step's operands before it.
+fn known_operands(frame: u32, step: &Step, state: &State) -> Operands {
+    match operands_of(frame, &step.instr) {
+        Some((first, second)) => [register_range(first, state), operand_range(second, state)],
+        None => [None, None],
+    }
+}
+
+/// The operands of a block's steps, where the state is that before the first one.
+pub fn trace_of(
+    alloc: Global,
+    frame: u32,
+    results: &[Vec<Range>],
+    block: &Block,
+    state: &mut State,
+) -> Result<Trace, AllocError> {
+    let mut operands = Vec::with_capacity(alloc, block.steps.len())?;
+    for step in &block.steps {
+        operands.push(known_operands(frame, step, state))?;
+        run_step(frame, results, step, state);
+    }
+    Ok(Trace { operands })
+}
+
+impl Trace {
+    /// The operands of a step, by its place in the block.
+    pub fn at(&self, place: usize) -> Operands {
+        self.operands.get(place).copied().unwrap_or([None, None])
+    }
+}

@@ -1,0 +1,194 @@
+//! What instructions read and write.
+use v8_formats::{Instr, Operand, Three, bits_of, encode, three_of};
+use v8_word::Reg;
+
+/// A word read as a signed number.
+pub fn signed(word: u32) -> i64 {
+    if word < 0x8000_0000 {
+        i64::from(word)
+    } else {
+        i64::from(word) - 0x1_0000_0000
+    }
+}
+
+/// A signed number as a word, without the bits that don't fit.
+pub fn word_of(number: i64) -> u32 {
+    (number as i128).rem_euclid(0x1_0000_0000) as u32
+}
+
+/// Whether an instruction has the fields rd, rs1 and operand2.
+fn has_fields(word: u32) -> bool {
+    word >> 30 >= 2
+}
+
+/// The fields rd, rs1 and operand2; none of an instruction that hasn't these.
+pub fn fields_of(instr: &Instr) -> Option<Three> {
+    let word = encode(instr);
+    if has_fields(word) {
+        Some(three_of(word))
+    } else {
+        None
+    }
+}
+
+/// The bit of a register; %g0 has none.
+pub fn bit_of(register: Reg) -> u32 {
+    match register.number() {
+        0 => 0,
+        number => 1u32.checked_shl(u32::from(number)).unwrap_or(0),
+    }
+}
+
+/// The registers that the operands name.
+pub fn operands_read(fields: &Three) -> u32 {
+    let second = match fields.operand2 {
+        Operand::Register(register) => bit_of(register),
+        Operand::Immediate(_) => 0,
+    };
+    bit_of(fields.rs1) | second
+}
+
+/// An access to memory: its fields, how many bytes it moves, and whether it stores them.
+#[derive(Clone, Copy)]
+pub struct Access {
+    pub fields: Three,
+    pub bytes: u32,
+    pub stores: bool,
+}
+
+fn access_with(fields: &Three, bytes: u32, stores: bool) -> Option<Access> {
+    Some(Access {
+        fields: *fields,
+        bytes,
+        stores,
+    })
+}
+
+/// The access that an instruction makes.
+pub fn access_of(instr: &Instr) -> Option<Access> {
+    match instr {
+        Instr::LoadUnsignedByte(fields) | Instr::LoadSignedByte(fields) => access_with(
+            fields, 1, false,
+        ),
+        Instr::LoadUnsignedHalf(fields) | Instr::LoadSignedHalf(fields) => access_with(
+            fields, 2, false,
+        ),
+        Instr::Load(fields) => access_with(fields, 4, false),
+        Instr::LoadDouble(fields) => access_with(fields, 8, false),
+        Instr::StoreByte(fields) | Instr::LoadStoreUnsignedByte(fields) => access_with(
+            fields, 1, true,
+        ),
+        Instr::StoreHalf(fields) => access_with(fields, 2, true),
+        Instr::Store(fields) | Instr::Swap(fields) => access_with(fields, 4, true),
+        Instr::StoreDouble(fields) => access_with(fields, 8, true),
+        _ => None,
+    }
+}
+
+fn is_plain_store(instr: &Instr) -> bool {
+    matches!(
+        instr,
+        Instr::StoreByte(_) | Instr::StoreHalf(_) | Instr::Store(_) | Instr::StoreDouble(_)
+    )
+}
+
+/// The register next to an even one.
+pub fn next_register(register: Reg) -> Reg {
+    match register.number().checked_add(1) {
+        Some(number) => Reg::new(number).unwrap_or(register),
+        None => register,
+    }
+}
+
+/// The registers that an instruction writes, a bit a register. A call writes more.
+pub fn written(instr: &Instr) -> u32 {
+    match instr {
+        Instr::Sethi(upper) => bit_of(upper.rd),
+        Instr::Call(_) => bit_of(Reg::O7),
+        Instr::LoadDouble(fields) => bit_of(fields.rd) | bit_of(next_register(fields.rd)),
+        // The service get leaves a byte in %o0.
+        Instr::Ticc(_) => 0x100,
+        Instr::WriteY(_) => 0,
+        other if is_plain_store(other) => 0,
+        other => match fields_of(other) {
+            Some(fields) => bit_of(fields.rd),
+            None => 0,
+        },
+    }
+}
+
+/// The registers that an instruction reads, a bit a register. A call and a service read more.
+pub fn read_by(instr: &Instr) -> u32 {
+    let stored = match instr {
+        Instr::StoreDouble(fields) => bit_of(fields.rd) | bit_of(next_register(fields.rd)),
+        Instr::Swap(fields) => bit_of(fields.rd),
+        other if is_plain_store(other) => match fields_of(other) {
+            Some(fields) => bit_of(fields.rd),
+            None => 0,
+        },
+        _ => 0,
+    };
+    match instr {
+        Instr::ReadY(_) => 0,
+        other => match fields_of(other) {
+            Some(fields) => stored | operands_read(&fields),
+            None => stored,
+        },
+    }
+}
+
+/// The minor opcode of an arithmetic or logic instruction (appendix F, "Format 3").
+fn minor_of(instr: &Instr) -> Option<u32> {
+    let word = encode(instr);
+    if word >> 30 == 2 {
+        Some(bits_of(word, 19, 6))
+    } else {
+        None
+    }
+}
+
+/// Whether an instruction sets the condition codes.
+pub fn sets_codes(instr: &Instr) -> bool {
+    match minor_of(instr) {
+        Some(minor) => 0x10 <= minor && minor <= 0x24,
+        None => false,
+    }
+}
+
+/// Whether an instruction reads the condition codes: ADDX, SUBX and MULScc.
+pub fn reads_codes(instr: &Instr) -> bool {
+    matches!(
+        instr,
+        Instr::Addx(_) | Instr::Subx(_) | Instr::AddxCc(_) | Instr::SubxCc(_) | Instr::MulsCc(_)
+    )
+}
+
+/// Whether an instruction does nothing: SETHI of %g0.
+pub fn is_nop(instr: &Instr) -> bool {
+    match instr {
+        Instr::Sethi(upper) => upper.rd == Reg::G0,
+        _ => false,
+    }
+}
+
+/// Whether sandboxed code may have an instruction within a block: arithmetic, loads and stores of the data's space,
+/// SETHI, reads and writes of Y, and the services get and put.
+pub fn is_allowed(instr: &Instr) -> bool {
+    match instr {
+        Instr::Sethi(_) | Instr::ReadY(_) | Instr::WriteY(_) => true,
+        Instr::Ticc(trap) => match trap.operand2 {
+            Operand::Immediate(number) => {
+                trap.rs1 == Reg::G0
+                    && trap.cond == v8_word::Cond::Always
+                    && 1 <= number
+                    && number <= 2
+            }
+            Operand::Register(_) => false,
+        },
+        Instr::TaddCcTv(_) | Instr::TsubCcTv(_) => false,
+        other => match minor_of(other) {
+            Some(minor) => minor <= 0x27,
+            None => access_of(other).is_some(),
+        },
+    }
+}

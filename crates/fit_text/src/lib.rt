@@ -1,0 +1,11 @@
+//! A program as an annotated source.
+#![tactic(auto)]
+
+mod annotations;
+mod code;
+mod data;
+mod lines;
+mod names;
+
+pub use annotations::{Annotations, BlockNotes, FunctionNotes};
+pub use code::push_source;

@@ -1,0 +1,76 @@
+//! Lines of instructions.
+use arrayvec::ArrayString;
+use fit_code::{Line, Program};
+use std::alloc::AllocError;
+use v8_formats::Instr;
+use v8_forms::print_instr;
+
+/// The column at which a comment begins.
+const COMMENT: usize = 40;
+
+/// The lines of C that instructions come from, as far as they have been told.
+#[derive(Drop)]
+pub struct Told<'p> {
+    program: &'p Program,
+    last: Line,
+}
+
+impl<'p> Told<'p> {
+    pub fn new(program: &'p Program) -> Self {
+        Told {
+            program,
+            last: fit_code::NO_LINE,
+        }
+    }
+
+    /// Ends a line of some length; tells the line of C, unless it was the last one told.
+    fn end(&mut self, out: &mut String, length: usize, line: Line) -> Result<(), AllocError> {
+        if line.number > 0
+            && line != self.last
+            && let Some(file) = self.program.files.get(line.file)
+        {
+            self.last = line;
+            let number = line.number;
+            for _ in length..COMMENT {
+                out.push_str(" ")?;
+            }
+            write!(out, "! {file}:{number}")?;
+        }
+        out.push_str("\n")
+    }
+
+    /// The line of an instruction.
+    pub fn push_instr(
+        &mut self,
+        out: &mut String,
+        instr: &Instr,
+        line: Line,
+    ) -> Result<(), AllocError> {
+        let mut text: ArrayString<64> = ArrayString::new();
+        print_instr(instr, &mut text);
+        self.push_text(out, text.as_str(), line)
+    }
+
+    /// The line of an instruction's text.
+    pub fn push_text(
+        &mut self,
+        out: &mut String,
+        text: &str,
+        line: Line,
+    ) -> Result<(), AllocError> {
+        write!(out, "    {text}")?;
+        self.end(out, text.len().saturating_add(4), line)
+    }
+}
+
+/// The line of a delay slot.
+pub fn push_slot(out: &mut String, slot: Option<Instr>) -> Result<(), AllocError> {
+    match slot {
+        Some(instr) => {
+            let mut text: ArrayString<64> = ArrayString::new();
+            print_instr(&instr, &mut text);
+            writeln!(out, "    {text}")
+        }
+        None => out.push_str("    nop\n"),
+    }
+}

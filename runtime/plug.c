@@ -1,0 +1,125 @@
+/* What a compiler calls without being asked: it copies and clears structures by memcpy and memset, and computes with 64 bits by
+   functions of these names. Of the program's own calls plug.h has the bodies. */
+typedef __SIZE_TYPE__ size_t;
+typedef unsigned long long u64;
+typedef long long s64;
+typedef unsigned int u32;
+
+void *memcpy(void *to, const void *from, size_t n) {
+    for (size_t i = 0; i < n; i++) ((char *)to)[i] = ((const char *)from)[i];
+    return to;
+}
+
+void *memmove(void *to, const void *from, size_t n) {
+    if (to < from) {
+        for (size_t i = 0; i < n; i++) ((char *)to)[i] = ((const char *)from)[i];
+    } else {
+        while (n-- > 0) ((char *)to)[n] = ((const char *)from)[n];
+    }
+    return to;
+}
+
+void *memset(void *to, int c, size_t n) {
+    for (size_t i = 0; i < n; i++) ((char *)to)[i] = (char)c;
+    return to;
+}
+
+int memcmp(const void *a, const void *b, size_t n) {
+    for (size_t i = 0; i < n; i++) {
+        int less = ((const unsigned char *)a)[i] - ((const unsigned char *)b)[i];
+        if (less) return less;
+    }
+    return 0;
+}
+
+static u32 high(u64 x) { return (u32)(x >> 32); }
+static u32 low(u64 x) { return (u32)x; }
+static u64 joined(u32 high, u32 low) { return (u64)high << 32 | low; }
+
+u64 __ashldi3(u64 x, int n) {
+    if (n & 32) return joined(low(x) << (n & 31), 0);
+    return n ? joined(high(x) << n | low(x) >> (32 - n), low(x) << n) : x;
+}
+
+u64 __lshrdi3(u64 x, int n) {
+    if (n & 32) return high(x) >> (n & 31);
+    return n ? joined(high(x) >> n, low(x) >> n | high(x) << (32 - n)) : x;
+}
+
+s64 __ashrdi3(s64 x, int n) {
+    int top = (int)high((u64)x);
+    if (n & 32) return (s64)joined((u32)(top >> 31), (u32)(top >> (n & 31)));
+    return n ? (s64)joined((u32)(top >> n), low((u64)x) >> n | (u32)top << (32 - n)) : x;
+}
+
+u64 __muldi3(u64 a, u64 b) { return (u64)low(a) * low(b) + joined(low(a) * high(b) + high(a) * low(b), 0); }
+
+/* The quotient, bit by bit, and what is left. */
+static u64 divided(u64 n, u64 by, u64 *rest) {
+    u64 quotient = 0, left = 0;
+    for (int i = 0; i < 64; i++) {
+        left = left << 1 | high(n) >> 31;
+        n <<= 1;
+        quotient <<= 1;
+        if (left >= by) {
+            left -= by;
+            quotient |= 1;
+        }
+    }
+    *rest = left;
+    return quotient;
+}
+
+static u64 magnitude(s64 x) { return x < 0 ? -(u64)x : (u64)x; }
+
+u64 __udivdi3(u64 n, u64 by) {
+    u64 rest;
+    return divided(n, by, &rest);
+}
+
+u64 __umoddi3(u64 n, u64 by) {
+    u64 rest;
+    divided(n, by, &rest);
+    return rest;
+}
+
+s64 __divdi3(s64 n, s64 by) {
+    u64 rest, quotient = divided(magnitude(n), magnitude(by), &rest);
+    return (s64)((n < 0) != (by < 0) ? -quotient : quotient);
+}
+
+s64 __moddi3(s64 n, s64 by) {
+    u64 rest;
+    divided(magnitude(n), magnitude(by), &rest);
+    return (s64)(n < 0 ? -rest : rest);
+}
+
+/* 0, 1 or 2: less, equal, greater. */
+int __cmpdi2(s64 a, s64 b) { return a < b ? 0 : a == b ? 1 : 2; }
+int __ucmpdi2(u64 a, u64 b) { return a < b ? 0 : a == b ? 1 : 2; }
+
+int __clzsi2(u32 x) {
+    int n = 0;
+    for (int step = 16; step > 0; step >>= 1) {
+        if (x >> (32 - step) == 0) {
+            n += step;
+            x <<= step;
+        }
+    }
+    return n;
+}
+
+int __ctzsi2(u32 x) { return 31 - __clzsi2(x & -x); }
+
+int __ffssi2(u32 x) { return x ? __ctzsi2(x) + 1 : 0; }
+
+int __popcountsi2(u32 x) {
+    x -= x >> 1 & 0x55555555;
+    x = (x & 0x33333333) + (x >> 2 & 0x33333333);
+    x = (x + (x >> 4)) & 0x0F0F0F0F;
+    return (int)(x * 0x01010101 >> 24);
+}
+
+int __paritysi2(u32 x) { return __popcountsi2(x) & 1; }
+
+u32 __bswapsi2(u32 x) { return x << 24 | (x & 0xFF00) << 8 | (x >> 8 & 0xFF00) | x >> 24; }
