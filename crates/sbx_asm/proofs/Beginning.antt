@@ -73,7 +73,7 @@ in_data before i (Ok (statements.Directive _)) h = absurd (cc)
 in_data before i (Ok _) h = absurd (cc)
 in_data before i (Err f) h = absurd (cc)
 
-wanted : (t u : Bool) → t ≡ true → when (t && not u) causes.Directive ≡ [] → u ≡ true
+pub wanted : (t u : Bool) → t ≡ true → when (t && not u) causes.Directive ≡ [] → u ≡ true
 wanted true true e h = refl
 wanted true false e h = cons_nil h
 wanted false u e h = absurd (cc)
@@ -84,7 +84,7 @@ no_cause false h = refl
 
 module _ (values : Values) where
   -- data in the code have a fault, so what stands there has no bytes
-  none_in_code : (before : List Item) (number : ℕ) (labels : List (List ℕ)) (bytes : List ℕ) (tokens : List Token) (s : Said)
+  pub none_in_code : (before : List Item) (number : ℕ) (labels : List (List ℕ)) (bytes : List ℕ) (tokens : List Token) (s : Said)
       → in_code before ≡ true → line_rules values before (item number labels bytes tokens s) s ≡ [] → bytes_at values before (item number labels bytes tokens s) [] ≡ []
   none_in_code before number labels bytes tokens (Ok (statements.Directive (directives.Values w n))) e clean = cons_nil (sym (ap (λ (x : Bool). when x causes.Directive) e) ∙ nil_left (when (in_code before) causes.Directive) _ (nil_left (data_rules before (bytes_of_width w * n)) (value_rules (result_err (data_of values bytes w tokens))) clean))
   none_in_code before number labels bytes tokens (Ok (statements.Directive (directives.Skip n))) e clean = cons_nil (sym (ap (λ (x : Bool). when x causes.Directive) e) ∙ nil_left (when (in_code before) causes.Directive) _ clean)
@@ -161,7 +161,7 @@ module _ (values : Values) where
         ∙ ap (λ (s : ℕ). start_in (slice_get (placed_from s rs) n)) start ∙ h
 
   -- what a `.region` asks
-  asks : (before : List Item) (i : Item) (s : Said) → is_region (record i { said = s }) ≡ true → line_rules values before i s ≡ another_region before
+  pub asks : (before : List Item) (i : Item) (s : Said) → is_region (record i { said = s }) ≡ true → line_rules values before i s ≡ another_region before
   asks before i (Ok (statements.Directive (directives.Region writable))) h = refl
   asks before i (Ok (statements.Directive _)) h = absurd (cc)
   asks before i (Ok _) h = absurd (cc)

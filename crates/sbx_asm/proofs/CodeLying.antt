@@ -61,7 +61,7 @@ module _ (values : Values) (before : List Item) (number : ℕ) (labels : List (L
   length_is (Err f) clean = cons_nil clean
 
   -- and the code holds them
-  room_is : (s : Said) → line_rules values before (it s) s ≡ [] → code_offset before + code_length (it s) ≤ section_room
+  pub room_is : (s : Said) → line_rules values before (it s) s ≡ [] → code_offset before + code_length (it s) ≤ section_room
   room_is (Ok statements.Instruction) clean =
       let n = 4 * statement_length bytes tokens in
       let fits : fits_behind (code_offset before) n ≡ true = no_cause (fits_behind (code_offset before) n) causes.Limit (nil_left (when (not (fits_behind (code_offset before) n)) causes.Limit) _ (nil_right (when (not (in_code before && in_function before)) causes.Directive) _ clean)) in
@@ -83,7 +83,7 @@ module _ (values : Values) (before : List Item) (number : ℕ) (labels : List (L
 -- ---- so many words stand before a line
 
 module _ (values : Values) where
-  words_before : (front before more : List Item) → each (faults_at values) before (front ++ more) ≡ [] → code_offset (behind before front) ≡ code_offset before + 4 * length (each (words_at values) before front)
+  pub words_before : (front before more : List Item) → each (faults_at values) before (front ++ more) ≡ [] → code_offset (behind before front) ≡ code_offset before + 4 * length (each (words_at values) before front)
   words_before [] before more clean = omega arith
   words_before (i ∷ front) before more clean =
       let mine : line_rules values before i i.said ≡ [] = line_clean values before i (front ++ more) (nil_left (faults_at values before i (front ++ more)) (each (faults_at values) (i ∷ before) (front ++ more)) clean) in

@@ -26,4 +26,10 @@ mod ValueCounts
 mod Lying
 mod Beginning
 mod CodeLying
+mod Passing
+mod Bounds
+mod KeptData
+mod KeptBlocks
+mod KeptCode
+mod Wholeness
 pub mod Fitting

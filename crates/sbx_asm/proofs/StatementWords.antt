@@ -56,7 +56,7 @@ step_all P Q (Err e) f h go = tt
 abbrev Reads : Result ℕ SyntaxFault → Type 0
 Reads r = IfOk r IsWord
 
-abbrev IsRegister : ℕ → Type 0
+abbrev pub IsRegister : ℕ → Type 0
 IsRegister r = r < 32
 
 abbrev Named : Option ℕ → Type 0
@@ -85,11 +85,11 @@ named_small name =
 
 -- ---- words of a line
 
-abbrev IsSmall : Word → Type 0
+abbrev pub IsSmall : Word → Type 0
 IsSmall (words.Register r) = IsRegister r
 IsSmall _ = Unit {0}
 
-abbrev AreSmall : List Word → Type 0
+abbrev pub AreSmall : List Word → Type 0
 AreSmall ws = AllByRecursion IsSmall ws
 
 percent_is_small : (r : Option ℕ) (s : Option Special) → Named r → IsSmall (unwrap_or (option_or (option_map words.Register r) (option_map words.Special s)) words.Unknown)
@@ -105,7 +105,7 @@ word_is_small line start stop kinds.Percent =
 word_is_small line start stop (kinds.Number n) = tt
 word_is_small line start stop kinds.Sign = tt
 
-words_are_small : (line : List ℕ) (ts : List Token) → AreSmall (words_of line ts)
+pub words_are_small : (line : List ℕ) (ts : List Token) → AreSmall (words_of line ts)
 unfolding word_of
 words_are_small line [] = tt
 words_are_small line (t ∷ ts) = (word_is_small line t.start t.stop t.kind, words_are_small line ts)

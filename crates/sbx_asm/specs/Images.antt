@@ -1,5 +1,5 @@
 -- What a source means. Without faults that is its image, a map over its lines: words and bytes one after the other, functions and blocks as groups.
-use Rattle.std.specs.Prelude.{◌≡◌, ◌⊎◌, ℕ, ◌+◌, ◌-◌, ◌%◌, pos, Bool, true, not, ◌&&◌, ◌==◌, nat_lt, if◌then◌else◌, List, [], ◌∷◌, ◌++◌, length, map, get_or, replicate, Option, Some, None, Result, Ok, Err, MatchResult}
+use Rattle.std.specs.Prelude.{◌≡◌, ◌⊎◌, ℕ, ◌+◌, ◌-◌, ◌%◌, ◌<◌, ◌≤◌, pos, Bool, true, not, ◌&&◌, ◌==◌, nat_lt, if◌then◌else◌, List, [], ◌∷◌, ◌++◌, length, map, get_or, replicate, Option, Some, None, Result, Ok, Err, MatchResult}
 use Rattle.std.specs.Result.{result_unwrap_or}
 use Rattle.std.specs.List.{flat_map, list_any}
 use Rattle.v8_formats.specs.Spelling.{spelling}
@@ -15,7 +15,7 @@ use Rattle.sbx_directives.specs.declared.directive.Directive.TheVariants as dire
 use Rattle.sbx_directives.specs.declared.directive.Statement.TheVariants as statements
 use Rattle.sbx_directives.specs.Data.{data_of}
 use Rattle.sbx_asm.specs.declared.fault.Cause.TheVariants as causes
-use Rattle.sbx_asm.specs.Items.{Item, items_of, each, up_to, ends_function, ends_block, is_region, services, stacks, params, results, depths, fuels, cells, terms, has}
+use Rattle.sbx_asm.specs.Items.{Item, items_of, each, up_to, count, starts_function, ends_function, ends_block, is_region, services, stacks, params, results, depths, fuels, cells, terms, has}
 use Rattle.sbx_asm.specs.Addresses.{padding_of, code_address, data_offset, values_of}
 use Rattle.sbx_asm.specs.Rules.{AsmFault, Cause, Values, at, faults_of, least_of}
 
@@ -105,6 +105,12 @@ image_of items =
 -- why parts are no image: they have no function, or their data take more than 64 pages
 abbrev pub whole_cause : Parts → Cause
 whole_cause p = if not (length p.functions == 0) && nat_lt 64 (length (page_rights p.regions)) then causes.Limit else causes.Directive
+
+-- why lines without faults are no image: none is a `.function`, or one is, and the data take more than 64 pages
+abbrev pub IsOfTheWhole : List Item → Cause → Type 0
+IsOfTheWhole items c =
+    (faults_of items ≡ [])
+    × (((c ≡ causes.Directive) × (count starts_function items ≡ 0)) ⊎ ((c ≡ causes.Limit) × (1 ≤ count starts_function items) × (64 < length (page_rights (image_of items).regions))))
 
 -- the fault of the lines where one is told, else their image; what is none though no line has a fault is told at the line after the last
 abbrev pub judged : ℕ → Option AsmFault → Parts → Result Parts AsmFault

@@ -1,16 +1,16 @@
 -- What holds of the meaning of sources, as anyone knows assemblers.
-use Rattle.std.specs.Prelude.{◌≡◌, ℕ, ◌+◌, ◌-◌, ◌*◌, ◌/◌, ◌%◌, ◌≤◌, ◌⊎◌, true, false, ◌&&◌, ◌==◌, nat_le, if◌then◌else◌, List, [], ◌∷◌, ◌++◌, length, map, reverse, slice_get, Option, None, Some, Ok, Err}
+use Rattle.std.specs.Prelude.{◌≡◌, ℕ, ◌+◌, ◌-◌, ◌*◌, ◌/◌, ◌%◌, ◌≤◌, ◌<◌, ◌⊎◌, true, false, ◌&&◌, ◌==◌, nat_le, if◌then◌else◌, List, [], ◌∷◌, ◌++◌, length, map, reverse, slice_get, Option, None, Some, Ok, Err}
 use Rattle.std.specs.List.{AllByRecursion}
 use Rattle.v8_map.specs.declared.TheConstants.{CODE_START}
 use Rattle.sbx_text.specs.Tokens.{tokens_of}
 use Rattle.sbx_image.specs.Function.{Function}
-use Rattle.sbx_image.specs.Regions.{data_at, start_of}
+use Rattle.sbx_image.specs.Regions.{data_at, start_of, page_rights}
 use Rattle.sbx_image.specs.Spelling.{IsTyped}
 use Rattle.sbx_directives.specs.declared.directive.Statement.TheVariants as statements
 use Rattle.sbx_asm.specs.Items.{Item, item_of, items_of, each, count, starts_function, is_region}
 use Rattle.sbx_asm.specs.Addresses.{Label, code_address, label_address, worth_in, values_of}
 use Rattle.sbx_asm.specs.Rules.{AsmFault, at, is_earlier, duplicates, faults_of, least_of}
-use Rattle.sbx_asm.specs.Images.{Parts, words_at, bytes_at, image_of, source_image, whole_cause}
+use Rattle.sbx_asm.specs.Images.{Parts, words_at, bytes_at, image_of, source_image, whole_cause, IsOfTheWhole}
 
 -- each of its numbers is one that its field can hold, and its regions have bytes
 abbrev pub MeantImagesFitTheirFields : Type 0
@@ -86,3 +86,12 @@ TheLeastFaultIsTold = (source : List ℕ) (f : AsmFault) → source_image source
     let faults : List AsmFault = faults_of (items_of source) in
     (((front : List AsmFault) × (rest : List AsmFault) × (faults ≡ front ++ f ∷ rest)) × AllByRecursion (λ g. is_earlier g f ≡ false) faults)
     ⊎ ((faults ≡ []) × (f ≡ at (length (items_of source) + 1) (whole_cause (image_of (items_of source)))))
+
+-- Lines without faults are an image, where one of them is a `.function` and the data take at most 64 pages.
+abbrev pub LinesWithoutFaultsAreAnImage : Type 0
+LinesWithoutFaultsAreAnImage = (source : List ℕ) → faults_of (items_of source) ≡ [] → 1 ≤ count starts_function (items_of source)
+    → length (page_rights (image_of (items_of source)).regions) ≤ 64 → source_image source ≡ Ok (image_of (items_of source))
+
+-- So what is told at the line after the last is one of two: no line has a fault, and either there is no `.function`, or the data take more than 64 pages.
+abbrev pub TwoFaultsAreOfTheWhole : Type 0
+TwoFaultsAreOfTheWhole = (source : List ℕ) (f : AsmFault) → source_image source ≡ Err f → f.line ≡ length (items_of source) + 1 → IsOfTheWhole (items_of source) f.cause

@@ -1,5 +1,5 @@
 //! What holds of the source meaning itself. Each law is the contract of a function that does nothing.
-ghost use Rattle.sbx_asm.specs.Laws.{MeantImagesFitTheirFields, CodeIsItsStatements, CodeLiesWhereLabelsSay, FunctionsBeginWhereNamesSay, DataLieWhereLabelsSay, RegionsBeginWhereLabelsSay, WordsLookAheadByLabelsAlone, BlankLinesSayNothing, BlankLinesChangeNothing, NumbersShowInFaultsAlone, LabelsMayBeRenamed, TheLeastFaultIsTold};
+ghost use Rattle.sbx_asm.specs.Laws.{MeantImagesFitTheirFields, CodeIsItsStatements, CodeLiesWhereLabelsSay, FunctionsBeginWhereNamesSay, DataLieWhereLabelsSay, RegionsBeginWhereLabelsSay, WordsLookAheadByLabelsAlone, BlankLinesSayNothing, BlankLinesChangeNothing, NumbersShowInFaultsAlone, LabelsMayBeRenamed, TheLeastFaultIsTold, LinesWithoutFaultsAreAnImage, TwoFaultsAreOfTheWhole};
 
 /// Of each image that a source means, each number is one that its field can hold, and its regions have bytes.
 pub fn meant_images_fit_their_fields()
@@ -51,4 +51,11 @@ pub fn labels_may_be_renamed()
 #[tactic(auto, using(crate::proofs::Meanings::least_told))]
 pub fn the_least_fault_is_told()
     ensures { TheLeastFaultIsTold }
+{}
+
+/// Lines without faults are an image, where one is a `.function` and the data take at most 64 pages. So the fault at the line after
+/// the last is one of these two, and no third.
+pub fn lines_without_faults_are_an_image()
+    ensures image { LinesWithoutFaultsAreAnImage }
+    ensures whole { TwoFaultsAreOfTheWhole }
 {}
