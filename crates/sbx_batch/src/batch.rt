@@ -1,5 +1,5 @@
 //! Runs that follow one another on one board.
-ghost use Rattle.std.specs.Prelude.{◌≡◌, ◌≤◌, IfErr, IfOk, OnOk};
+ghost use Rattle.std.specs.Prelude.{◌≡◌, ◌≤◌, [], IfErr, IfOk, OnOk};
 ghost use Rattle.v8_loaded.specs.States.{IsState};
 ghost use Rattle.sbx_sound.specs.Law.{IsFormed};
 ghost use Rattle.sbx_batch.specs.Batches.{AreAnswers, LeavesNext, with_input};
@@ -64,6 +64,17 @@ fn run_next<'a, const N: usize>(
     })
 }
 
+/// No answer yet, and room for so many, so that a run that is over wants no memory.
+fn with_room(alloc: Global, count: usize) -> Result<Vec<Finished>, RunFault>
+    ensures empty { IfOk result (λ answers. answers.items ≡ []) }
+    ensures fault { IfErr result (λ fault. fault ≡ RunFault.Memory refused) }
+{
+    match Vec::with_capacity(alloc, count) {
+        Ok(empty) => Ok(empty),
+        Err(error) => Err(RunFault::from(error)),
+    }
+}
+
 /// Runs accepted images, each on its input and to its end, one after another on one board of `N` windows, 4 to 32, and gives what each
 /// run gave, in order. Between two of them the board is loaded, and nothing is cleared: registers, Y and the stack's bytes are what
 /// the run before left. Yet status, output, turns, overflows, underflows and pages are those of `run_accepted` on the image and the
@@ -81,7 +92,7 @@ pub fn run_batch<const N: usize>(
         Ok(board) => board,
         Err(error) => return Err(RunFault::from(error)),
     };
-    let mut answers = Vec::new(alloc);
+    let mut answers = with_room(alloc, batch.len())?;
     for each in batch {
         let finished = run_next(alloc, &mut board, each.image, each.input)?;
         match answers.push(finished) {

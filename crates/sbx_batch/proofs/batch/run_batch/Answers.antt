@@ -17,7 +17,7 @@ loop-each-init g c =
         board,
         new,
         new_is_silent g.row.N [] board new,
-        subst (λ (done : List Finished). Completes g.row.N board batch done board batch) (sym c.new-answers.ensures.items) (λ more end rest. rest),
+        subst (λ (done : List Finished). Completes g.row.N board batch done board batch) (sym c.in_ok-answers.ensures.empty) (λ more end rest. rest),
       ),
     )
 
