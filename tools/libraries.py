@@ -18,6 +18,10 @@ from crates import TOP, all_below, crates, lanes, lines_of, lowest_first
 SOURCES = ("src", "specs", "proofs")
 # What `rt` keeps of a library in its folder out/.
 BUILT, WORK = "rlib", "incremental"
+# The kit's `rt`, which reads each crate's sources once.
+RT = f"{TOP}/tools/rt-once"
+# What removes rooms that are done with: no build waits for it, and the process ends after it.
+SWEEPER = ThreadPoolExecutor(1)
 
 
 class Failed(Exception):
@@ -95,6 +99,19 @@ def sweep(out):
             shutil.rmtree(f"{out}/{name}", ignore_errors=True)
 
 
+def build_in(children, room, name, below):
+    """Builds one library in a room. Returns what `rt` ended with and said."""
+    out, folder = f"{TOP}/crates/{name}/out", f"{room}/crates/{name}"
+    lay_out(room, name, below)
+    move(out, f"{folder}/out", (BUILT, WORK))
+    status, said = 1, ""
+    try:
+        status, said = children.run([RT, "lib", "--jobs", "1"], folder)
+    finally:
+        move(f"{folder}/out", out, (WORK,) if status else (BUILT, WORK))
+    return status, said
+
+
 def build(children, name, below):
     """Builds one library over those below it, which stand built. Returns what `rt` said where it failed, else None. What is half
     built isn't kept, but for the work that `rt` goes on from."""
@@ -105,15 +122,11 @@ def build(children, name, below):
     fcntl.flock(held, fcntl.LOCK_EX)
     try:
         sweep(out)
-        with tempfile.TemporaryDirectory(prefix="build-", dir=out) as room:
-            folder = f"{room}/crates/{name}"
-            lay_out(room, name, below)
-            move(out, f"{folder}/out", (BUILT, WORK))
-            status, said = 1, ""
-            try:
-                status, said = children.run(["rt", "lib", "--jobs", "1"], folder)
-            finally:
-                move(f"{folder}/out", out, (WORK,) if status else (BUILT, WORK))
+        room = tempfile.mkdtemp(prefix="build-", dir=out)
+        try:
+            status, said = build_in(children, room, name, below)
+        finally:
+            SWEEPER.submit(shutil.rmtree, room, ignore_errors=True)
     finally:
         os.close(held)
     return said if status else None
