@@ -10,9 +10,9 @@ use Rattle.sbx_asm.specs.Images.{source_image}
 use Rattle.sbx_rules.specs.Verdicts.{Checked}
 use Rattle.sbx_listing.specs.Listing.{listing}
 use Rattle.sbx_put.specs.Fronts.{WroteSome}
-use Rattle.sbx_command.specs.declared.stops.Stop.{Stop}
-use Rattle.sbx_command.specs.declared.stops.Stop.TheVariants.{Source, Image, Refused, File, Input, Output, Memory, NoRoom}
-use Rattle.sbx_command.specs.Stops.{IsEarly, IsOfOutput}
+use Rattle.sbx_stops.specs.declared.stops.Stop.{Stop}
+use Rattle.sbx_stops.specs.declared.stops.Stop.TheVariants.{Source, Image, Refused, File, Input, Output, Memory, NoRoom}
+use Rattle.sbx_stops.specs.Stops.{IsEarly, IsOfOutput}
 use Rattle.sbx_command.specs.Verdicts.{BeginsListing, BeginsObject, BeginsVerdict, FrontLeaves, FrontLeft, Listed}
 
 nothing_left : (IsFront : List ℕ → Type 0) (stop : Stop) → IsEarly stop → FrontLeaves IsFront stop []

@@ -5,4 +5,3 @@ pub mod Streamed
 pub mod Pieces
 pub mod Sources
 pub mod Safe
-pub mod Lines

@@ -8,7 +8,7 @@ use Rattle.sbx_image.specs.Reading.{reading}
 use Rattle.sbx_reader.specs.Fronts.{Kept, IsFed, front}
 use Rattle.sbx_reader.proofs.Lasting.{front_lasts}
 use Rattle.want.specs.Wants.{refused}
-use Rattle.sbx_command.specs.Stops.{IsEarly, IsTrueOfImage, stop_of_image}
+use Rattle.sbx_stops.specs.Stops.{IsEarly, IsTrueOfImage, stop_of_image}
 
 -- the reader joined what the file gave so far
 abbrev pub Joined : Option (List ℕ) → Option (List ℕ) → Kept → Type 0

@@ -5,9 +5,9 @@ use Rattle.sbx_image.specs.Parts.{Parts}
 use Rattle.sbx_image.specs.Spelling.{spelling}
 use Rattle.sbx_asm.specs.declared.fault.AsmFault.{AsmFault}
 use Rattle.sbx_asm.specs.Images.{source_image}
-use Rattle.sbx_command.specs.declared.stops.Stop.{Stop}
-use Rattle.sbx_command.specs.declared.stops.Stop.TheVariants.{Source, Image, Refused, File, Input, Output, Memory, NoRoom}
-use Rattle.sbx_command.specs.Stops.{IsTrueOfSource, IsRefusal}
+use Rattle.sbx_stops.specs.declared.stops.Stop.{Stop}
+use Rattle.sbx_stops.specs.declared.stops.Stop.TheVariants.{Source, Image, Refused, File, Input, Output, Memory, NoRoom}
+use Rattle.sbx_stops.specs.Stops.{IsTrueOfSource, IsRefusal}
 use Rattle.sbx_command.specs.Verdicts.{IsSource, Assembled, FitsItsFields}
 
 pub faulty_is_no_source : (bytes : List ℕ) (fault : AsmFault) → source_image bytes ≡ Err fault → IsSource bytes → ⊥

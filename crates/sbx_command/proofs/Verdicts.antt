@@ -9,11 +9,11 @@ use Rattle.sbx_rules.specs.declared.cause.Refusal.{Refusal}
 use Rattle.sbx_rules.specs.Verdicts.{Checked, IsFirst}
 use Rattle.sbx_stream.specs.Refusals.{IsRefusal as IsRefused}
 use Rattle.sbx_stream.proofs.Refusals.{broken_rule}
-use Rattle.sbx_command.specs.declared.jobs.Job.{Job}
-use Rattle.sbx_command.specs.declared.jobs.Job.TheVariants.{Asm, Verify, Run, List as Listing, Trace}
-use Rattle.sbx_command.specs.declared.stops.Stop.{Stop}
-use Rattle.sbx_command.specs.declared.stops.Stop.TheVariants.{Source, Image, Refused, File, Input, Output, Memory, NoRoom}
-use Rattle.sbx_command.specs.Stops.{IsRefusal, IsTrueOf, IsTrueOfImage, status_of}
+use Rattle.sbx_jobs.specs.declared.jobs.Job.{Job}
+use Rattle.sbx_jobs.specs.declared.jobs.Job.TheVariants.{Asm, Verify, Run, List as Listing, Trace}
+use Rattle.sbx_stops.specs.declared.stops.Stop.{Stop}
+use Rattle.sbx_stops.specs.declared.stops.Stop.TheVariants.{Source, Image, Refused, File, Input, Output, Memory, NoRoom}
+use Rattle.sbx_stops.specs.Stops.{IsRefusal, IsTrueOf, IsTrueOfImage, status_of}
 use Rattle.sbx_command.proofs.Sources.{source_stops}
 use Rattle.sbx_command.specs.Verdicts.{Deserves, IsAccepted, IsBefore, IsImage, IsTold, StopsFor}
 
@@ -77,3 +77,8 @@ pub stops_for : (job : Job) (known : Option (List ℕ)) (Untouched : Type 0) (Le
     → IfSome known (IsTold job stop) → (IsBefore job stop → Untouched) → LeftAt stop → StopsFor job known Untouched LeftAt status
 stops_for job known Untouched LeftAt stop status is told untouched left =
     (stop, is, told, (λ refuses. known_is_refused known job stop refuses told), untouched, left)
+
+-- what is said of a stop without its line
+pub without_line : (job : Job) (known : Option (List ℕ)) (Untouched : Type 0) (LeftAt Line : Stop → Type 0) (status : ℕ)
+    → StopsFor job known Untouched (λ stop. LeftAt stop × Line stop) status → StopsFor job known Untouched LeftAt status
+without_line job known Untouched LeftAt Line status (stop, is, told, refuses, untouched, left) = (stop, is, told, refuses, untouched, left.0)

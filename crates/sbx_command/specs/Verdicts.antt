@@ -11,13 +11,13 @@ use Rattle.sbx_image.specs.Reading.{reading}
 use Rattle.sbx_image.specs.Spelling.{IsTyped, spelling}
 use Rattle.sbx_asm.specs.Images.{source_image}
 use Rattle.sbx_rules.specs.Verdicts.{Checked}
-use Rattle.sbx_command.specs.declared.jobs.Job.{Job}
-use Rattle.sbx_command.specs.declared.jobs.Job.TheVariants.{Asm, Verify, Run, List as Listing, Trace}
-use Rattle.sbx_command.specs.declared.stops.Stop.{Stop}
-use Rattle.sbx_command.specs.declared.stops.Stop.TheVariants.{Source, Image, Refused, File, Input, Output, Memory, NoRoom}
+use Rattle.sbx_jobs.specs.declared.jobs.Job.{Job}
+use Rattle.sbx_jobs.specs.declared.jobs.Job.TheVariants.{Asm, Verify, Run, List as Listing, Trace}
+use Rattle.sbx_stops.specs.declared.stops.Stop.{Stop}
+use Rattle.sbx_stops.specs.declared.stops.Stop.TheVariants.{Source, Image, Refused, File, Input, Output, Memory, NoRoom}
 use Rattle.v8_map.specs.declared.TheConstants.{CODE_START}
 use Rattle.sbx_command.specs.Streaming.{Left, Ran}
-use Rattle.sbx_command.specs.Stops.{IsOfFile, IsOfOutput, IsRefusal, IsTrueOf, IsTrueOfImage, IsTrueOfSource, status_of}
+use Rattle.sbx_stops.specs.Stops.{IsOfFile, IsOfOutput, IsRefusal, IsTrueOf, IsTrueOfImage, IsTrueOfSource, status_of}
 
 -- the bytes spell an image
 abbrev pub IsImage : List ℕ → Type 0
@@ -164,3 +164,13 @@ abbrev pub StopsFor : Job → Option (List ℕ) → Type 0 → (Stop → Type 0)
 StopsFor job file Untouched LeftAt status =
     (stop : Stop) × (status ≡ status_of stop) × IfSome file (IsTold job stop)
     × (IsRefusal stop → IfSome file (λ bytes. Deserves job bytes → ⊥)) × (IsBefore job stop → Untouched) × LeftAt stop
+
+-- ---- the same in closed words, which a proof opens by `unfolding`
+
+-- what a job that is done has read and put out, and that its status is the one that it deserves: of a run that of its exit word
+unfoldable pub HasGiven : Job → Option (List ℕ) → Option (List ℕ) → Option (List ℕ) → Option (List ℕ) → Option (List ℕ) → ℕ → Type 0
+HasGiven job file input input_now old new status = Gave job file input input_now old new status
+
+-- whose status it is where a job stops, and what that stop leaves
+unfoldable pub HasStopped : Job → Option (List ℕ) → Option (List ℕ) → Option (List ℕ) → Option (List ℕ) → Option (List ℕ) → Type 0 → ℕ → Type 0
+HasStopped job file input input_now old new Untouched status = StopsFor job file Untouched (LeftBy job file input input_now old new) status

@@ -4,14 +4,14 @@ ghost use Rattle.std.specs.Io.KnownBytes.{Appends};
 ghost use Rattle.sbx_image.specs.Spelling.{spelling};
 ghost use Rattle.sbx_asm.specs.Images.{source_image};
 ghost use Rattle.sbx_put.specs.Fronts.{WroteSome};
-ghost use Rattle.sbx_command.specs.Stops.{IsEarly, IsOfOutput, IsTrueOfSource};
+ghost use Rattle.sbx_stops.specs.Stops.{IsEarly, IsOfOutput, IsTrueOfSource};
 ghost use Rattle.sbx_command.specs.Verdicts.{BeginsObject, FrontLeft, IsSource, Assembled, FitsItsFields};
 
 use crate::reading::{MOST, ReadFault, read_whole};
-use crate::stops::Stop;
 use sbx_asm::assemble;
 use sbx_image::{Image, write};
 use sbx_put::put_through;
+use sbx_stops::Stop;
 use std::alloc::Global;
 use std::io::{Read, Write};
 use want::Want;

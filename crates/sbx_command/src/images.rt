@@ -1,11 +1,11 @@
 //! The image that a file holds.
 ghost use Rattle.std.specs.Prelude.{◌≡◌, [], Ok, IfErr, IfOk, IfSome, OnOk};
 ghost use Rattle.sbx_image.specs.Reading.{reading};
-ghost use Rattle.sbx_command.specs.Stops.{IsEarly, IsTrueOfImage};
+ghost use Rattle.sbx_stops.specs.Stops.{IsEarly, IsTrueOfImage};
 
-use crate::stops::Stop;
 use sbx_image::Image;
 use sbx_reader::ImageReader;
+use sbx_stops::Stop;
 use std::alloc::Global;
 use std::io::Read;
 

@@ -1,11 +1,11 @@
 //! The command `list`.
 ghost use Rattle.std.specs.Prelude.{◌≡◌, IfErr, IfSome, OnOk};
-ghost use Rattle.sbx_command.specs.Stops.{IsOfOutput, IsTrueOfImage};
+ghost use Rattle.sbx_stops.specs.Stops.{IsOfOutput, IsTrueOfImage};
 ghost use Rattle.sbx_command.specs.Verdicts.{BeginsListing, FrontLeft, IsImage, Listed};
 
 use crate::images::image_in;
-use crate::stops::Stop;
 use sbx_listing::put_listing;
+use sbx_stops::Stop;
 use std::alloc::Global;
 use std::io::{Read, Write};
 

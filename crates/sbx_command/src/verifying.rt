@@ -3,12 +3,12 @@ ghost use Rattle.std.specs.Prelude.{◌≡◌, IfErr, IfOk, IfSome, Ok, OnOk, co
 ghost use Rattle.std.specs.Io.KnownBytes.{Appends};
 ghost use Rattle.sbx_image.specs.Reading.{reading};
 ghost use Rattle.sbx_rules.specs.Verdicts.{Checked};
-ghost use Rattle.sbx_command.specs.Stops.{IsEarly, IsOfOutput, IsTrueOf};
+ghost use Rattle.sbx_stops.specs.Stops.{IsEarly, IsOfOutput, IsTrueOf};
 ghost use Rattle.sbx_command.specs.Verdicts.{BeginsVerdict, FrontLeft, IsAccepted};
 
 use crate::images::image_in;
-use crate::stops::Stop;
 use sbx_put::put_through;
+use sbx_stops::Stop;
 use sbx_stream::{Accepted, Cause};
 use sbx_verify::verify;
 use std::alloc::Global;
