@@ -1,7 +1,7 @@
 //! What is told of the image of a file.
 ghost use Rattle.std.specs.Prelude.{◌≡◌, ◌⊎◌, IfErr, IfOk, IfSome, OnOk};
 ghost use Rattle.std.specs.Io.KnownBytes.{Appends};
-ghost use Rattle.sbx_stops.specs.Stops.{IsOfTrace, IsTrueOfImage};
+ghost use Rattle.sbx_command.specs.Stops.{IsOfTrace, IsTrueOfImage};
 ghost use Rattle.sbx_declare.specs.Images.{image_text};
 ghost use Rattle.sbx_raw.specs.Fronts.{Wrote};
 ghost use Rattle.sbx_tell.specs.Reports.{run_text};

@@ -3,11 +3,9 @@ ghost use Rattle.std.specs.Prelude.{◌≡◌, ◌<◌, ◌≤◌, IfErr, IfOk, 
 ghost use Rattle.sbx_stops.specs.Stops.{Told};
 ghost use Rattle.sbx_command.specs.Verdicts.{Deserves, Gave, HasGiven, HasStopped, IsBefore, IsTold, LeftBy, StopsFor};
 
-use crate::assembling::assemble_file;
-use crate::listing::list_file;
 use crate::running::run_file;
 use crate::tracing::trace_file;
-use crate::verifying::verify_file;
+use sbx_filing::{assemble_file, list_file, verify_file};
 use sbx_jobs::Job;
 use sbx_stops::{Ended, Stop};
 use std::alloc::Global;
