@@ -94,6 +94,14 @@ def move(source, target, parts):
             os.rename(f"{source}/{part}", f"{target}/{part}")
 
 
+def clear(room):
+    """Has a room removed beside the builds; where the process is ending, at once."""
+    try:
+        SWEEPER.submit(shutil.rmtree, room, ignore_errors=True)
+    except RuntimeError:
+        shutil.rmtree(room, ignore_errors=True)
+
+
 def sweep(out):
     """Removes the rooms of builds that were killed."""
     for name in os.listdir(out):
@@ -128,7 +136,7 @@ def build(children, name, below, jobs):
         try:
             status, said = build_in(children, room, name, below, jobs)
         finally:
-            SWEEPER.submit(shutil.rmtree, room, ignore_errors=True)
+            clear(room)
     finally:
         os.close(held)
     return said if status else None
