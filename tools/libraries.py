@@ -18,6 +18,12 @@ from crates import TOP, all_below, crates, lanes, lines_of, lowest_first
 SOURCES = ("src", "specs", "proofs")
 # What `rt` keeps of a library in its folder out/.
 BUILT, WORK = "rlib", "incremental"
+# The kit's `rt`, which reads each crate's sources once.
+RT = f"{TOP}/tools/rt-once"
+# The most jobs of one check that help.
+MOST_JOBS = 4
+# What removes rooms that are done with: no build waits for it, and the process ends after it.
+SWEEPER = ThreadPoolExecutor(1)
 
 
 class Failed(Exception):
@@ -88,6 +94,14 @@ def move(source, target, parts):
             os.rename(f"{source}/{part}", f"{target}/{part}")
 
 
+def clear(room):
+    """Has a room removed beside the builds; where the process is ending, at once."""
+    try:
+        SWEEPER.submit(shutil.rmtree, room, ignore_errors=True)
+    except RuntimeError:
+        shutil.rmtree(room, ignore_errors=True)
+
+
 def sweep(out):
     """Removes the rooms of builds that were killed."""
     for name in os.listdir(out):
@@ -95,7 +109,20 @@ def sweep(out):
             shutil.rmtree(f"{out}/{name}", ignore_errors=True)
 
 
-def build(children, name, below):
+def build_in(children, room, name, below, jobs):
+    """Builds one library in a room, with so many jobs. Returns what `rt` ended with and said."""
+    out, folder = f"{TOP}/crates/{name}/out", f"{room}/crates/{name}"
+    lay_out(room, name, below)
+    move(out, f"{folder}/out", (BUILT, WORK))
+    status, said = 1, ""
+    try:
+        status, said = children.run([RT, "lib", "--jobs", str(jobs)], folder)
+    finally:
+        move(f"{folder}/out", out, (WORK,) if status else (BUILT, WORK))
+    return status, said
+
+
+def build(children, name, below, jobs):
     """Builds one library over those below it, which stand built. Returns what `rt` said where it failed, else None. What is half
     built isn't kept, but for the work that `rt` goes on from."""
     out = f"{TOP}/crates/{name}/out"
@@ -105,15 +132,11 @@ def build(children, name, below):
     fcntl.flock(held, fcntl.LOCK_EX)
     try:
         sweep(out)
-        with tempfile.TemporaryDirectory(prefix="build-", dir=out) as room:
-            folder = f"{room}/crates/{name}"
-            lay_out(room, name, below)
-            move(out, f"{folder}/out", (BUILT, WORK))
-            status, said = 1, ""
-            try:
-                status, said = children.run(["rt", "lib", "--jobs", "1"], folder)
-            finally:
-                move(f"{folder}/out", out, (WORK,) if status else (BUILT, WORK))
+        room = tempfile.mkdtemp(prefix="build-", dir=out)
+        try:
+            status, said = build_in(children, room, name, below, jobs)
+        finally:
+            clear(room)
     finally:
         os.close(held)
     return said if status else None
@@ -138,20 +161,22 @@ def libraries_below(crate):
 
 
 def build_all(children, crate, tell):
-    """Builds the libraries that the crate stands on, lowest first, and first those that the longest chains wait for; says of each how
-    many stand. Raises Failed with what the first failure said."""
+    """Builds the libraries that the crate stands on, lowest first, and first those that the longest chains wait for, with the processors
+    that no other one waits for as further jobs; says of each how many stand. Raises Failed with what the first failure said."""
     names, below = libraries_below(crate)
     behind, left, given = chains(names, crates()), list(names), set()
     with ThreadPoolExecutor(lanes()) as pool:
         running = {}
         try:
             while left or running:
-                ready = [it for it in left if given.issuperset(below[it])]
-                for it in sorted(ready, key=lambda it: -behind[it])[: lanes() - len(running)]:
+                ready = sorted((it for it in left if given.issuperset(below[it])), key=lambda it: -behind[it])
+                for at, it in enumerate(ready[: max(lanes() - len(running), 0)]):
+                    spare = (lanes() - sum(jobs for _, jobs in running.values())) // (len(ready) - at)
+                    jobs = max(1, min(spare, MOST_JOBS))
                     left.remove(it)
-                    running[pool.submit(build, children, it, below[it])] = it
+                    running[pool.submit(build, children, it, below[it], jobs)] = it, jobs
                 for it in wait(running, return_when=FIRST_COMPLETED).done:
-                    name, said = running.pop(it), it.result()
+                    (name, _), said = running.pop(it), it.result()
                     if said is not None:
                         raise Failed(f"{said}{name} could not be built")
                     given.add(name)

@@ -14,9 +14,9 @@ use Rattle.sbx_stream.specs.RunFault.{RunFault}
 use Rattle.sbx_stream.specs.RunFault.TheVariants as runs
 use Rattle.sbx_stream.specs.Streams.{IsAnswerWritten, IsFront, IsStreamed}
 use Rattle.sbx_command.specs.Laws.{KnownInputsAreAnswered}
-use Rattle.sbx_command.specs.declared.stops.Stop.{Stop}
-use Rattle.sbx_command.specs.declared.stops.Stop.TheVariants.{Source, Image, Refused, File, Input, Output, Memory, NoRoom}
-use Rattle.sbx_command.specs.Stops.{IsEarly, IsOfFile, IsTrueOf, stop_of_run}
+use Rattle.sbx_stops.specs.declared.stops.Stop.{Stop}
+use Rattle.sbx_stops.specs.declared.stops.Stop.TheVariants.{Source, Image, Refused, File, Input, Output, Memory, NoRoom}
+use Rattle.sbx_stops.specs.Stops.{IsEarly, IsOfFile, IsTrueOf, stop_of_run}
 use Rattle.sbx_command.specs.Streaming.{HasFront, HasNothing, Leaves, LeavesOn, Left, OfAccepted, Ran, RanOn, RunGives, status_of_word}
 use Rattle.sbx_put.proofs.Written.{kept_after}
 

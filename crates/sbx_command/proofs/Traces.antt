@@ -9,10 +9,11 @@ use Rattle.sbx_stream.specs.RunFault.{RunFault}
 use Rattle.sbx_stream.specs.RunFault.TheVariants as runs
 use Rattle.sbx_put.specs.Fronts.{Wrote}
 use Rattle.sbx_stream.specs.Traces.{IsTrace, Leaves}
-use Rattle.sbx_command.specs.declared.stops.Stop.{Stop}
-use Rattle.sbx_command.specs.declared.stops.Stop.TheVariants.{Source, Image, Refused, File, Input, Output, Memory, NoRoom}
-use Rattle.sbx_command.specs.Stops.{IsEarly, IsOfFile, IsOfTrace, IsTrueOfImage, stop_of_run}
-use Rattle.sbx_command.specs.Verdicts.{IsImage, OfSpelled, TraceGives, TraceLeaves, TraceLeft, Traced}
+use Rattle.sbx_stops.specs.declared.stops.Stop.{Stop}
+use Rattle.sbx_stops.specs.declared.stops.Stop.TheVariants.{Source, Image, Refused, File, Input, Output, Memory, NoRoom}
+use Rattle.sbx_stops.specs.Stops.{IsEarly, IsOfFile, IsOfTrace, IsTrueOfImage, stop_of_run}
+use Rattle.sbx_filing.specs.Files.{IsImage}
+use Rattle.sbx_command.specs.Verdicts.{OfSpelled, TraceGives, TraceLeaves, TraceLeft, Traced}
 
 -- a trace on as many windows as another number says
 pub trace_at : (n windows : ℕ) (parts : Parts) (input : List ℕ) (limit : ℕ) (old new : Option (List ℕ)) (result : Result Outcome RunFault) → windows ≡ n

@@ -1,21 +1,17 @@
 -- A job that is refused did not deserve to be done.
-use Rattle.std.proofs.Common.{◌≡◌, subst, sym, ℕ, List, Option, None, Some, IfSome, Ok, Err, rules}
+use Rattle.std.proofs.Common.{◌≡◌, ℕ, List, Option, None, Some, IfSome, Ok, Err, rules}
 use Rattle.sbx_image.specs.ImageFault.{ImageFault}
 use Rattle.sbx_image.specs.Parts.{Parts}
 use Rattle.sbx_image.specs.Reading.{reading}
-use Rattle.want.specs.Wants.{refused}
-use Rattle.sbx_rules.specs.declared.cause.Cause.TheVariants.{NoMemory}
-use Rattle.sbx_rules.specs.declared.cause.Refusal.{Refusal}
 use Rattle.sbx_rules.specs.Verdicts.{Checked, IsFirst}
-use Rattle.sbx_stream.specs.Refusals.{IsRefusal as IsRefused}
-use Rattle.sbx_stream.proofs.Refusals.{broken_rule}
-use Rattle.sbx_command.specs.declared.jobs.Job.{Job}
-use Rattle.sbx_command.specs.declared.jobs.Job.TheVariants.{Asm, Verify, Run, List as Listing, Trace}
-use Rattle.sbx_command.specs.declared.stops.Stop.{Stop}
-use Rattle.sbx_command.specs.declared.stops.Stop.TheVariants.{Source, Image, Refused, File, Input, Output, Memory, NoRoom}
-use Rattle.sbx_command.specs.Stops.{IsRefusal, IsTrueOf, IsTrueOfImage, status_of}
-use Rattle.sbx_command.proofs.Sources.{source_stops}
-use Rattle.sbx_command.specs.Verdicts.{Deserves, IsAccepted, IsBefore, IsImage, IsTold, StopsFor}
+use Rattle.sbx_jobs.specs.declared.jobs.Job.{Job}
+use Rattle.sbx_jobs.specs.declared.jobs.Job.TheVariants.{Asm, Verify, Run, List as Listing, Trace}
+use Rattle.sbx_stops.specs.declared.stops.Stop.{Stop}
+use Rattle.sbx_stops.specs.declared.stops.Stop.TheVariants.{Source, Image, Refused, File, Input, Output, Memory, NoRoom}
+use Rattle.sbx_stops.specs.Stops.{IsRefusal, IsTrueOf, IsTrueOfImage, status_of}
+use Rattle.sbx_filing.proofs.Sources.{source_stops}
+use Rattle.sbx_filing.specs.Files.{IsAccepted, IsImage}
+use Rattle.sbx_command.specs.Verdicts.{Deserves, IsBefore, IsTold, StopsFor}
 
 pub faulty_is_no_image : (bytes : List ℕ) (fault : ImageFault) → reading bytes ≡ Err fault → IsImage bytes → ⊥
 faulty_is_no_image bytes fault faulty image =
@@ -28,16 +24,6 @@ fault_is_not_checked parts other bytes refusal read least same checked =
     let equal : parts ≡ other = search rules in
     let kept : Checked parts = rw equal checked in
     kept refusal.function refusal.address refusal.cause least.told
-
--- a refusal that isn't for want of memory names a broken rule
-pub broken : (parts : Parts) (refusal : Refusal) → IsRefused parts refusal → (refusal.cause ≡ NoMemory refused → ⊥) → IsFirst parts refusal
-broken parts refusal told other = broken_rule parts refusal told other
-
--- what is accepted of known bytes
-pub accepted_of : (known : Option (List ℕ)) (image accepted : Parts) → IfSome known (λ bytes. reading bytes ≡ Ok image) → (accepted ≡ image) × Checked image
-    → IfSome known (λ bytes. (reading bytes ≡ Ok accepted) × Checked accepted)
-accepted_of None image accepted read verdict = tt
-accepted_of (Some bytes) image accepted read verdict = (subst (λ (p : Parts). reading bytes ≡ Ok p) (sym verdict.0) read, subst Checked (sym verdict.0) verdict.1)
 
 pub image_stop : (stop : Stop) (bytes : List ℕ) → IsRefusal stop → IsTrueOfImage stop bytes → IsImage bytes → ⊥
 image_stop (Source fault) bytes refuses told image = told
@@ -77,3 +63,8 @@ pub stops_for : (job : Job) (known : Option (List ℕ)) (Untouched : Type 0) (Le
     → IfSome known (IsTold job stop) → (IsBefore job stop → Untouched) → LeftAt stop → StopsFor job known Untouched LeftAt status
 stops_for job known Untouched LeftAt stop status is told untouched left =
     (stop, is, told, (λ refuses. known_is_refused known job stop refuses told), untouched, left)
+
+-- what is said of a stop without its line
+pub without_line : (job : Job) (known : Option (List ℕ)) (Untouched : Type 0) (LeftAt Line : Stop → Type 0) (status : ℕ)
+    → StopsFor job known Untouched (λ stop. LeftAt stop × Line stop) status → StopsFor job known Untouched LeftAt status
+without_line job known Untouched LeftAt Line status (stop, is, told, refuses, untouched, left) = (stop, is, told, refuses, untouched, left.0)

@@ -11,8 +11,8 @@ use Rattle.sbx_rules.specs.Verdicts.{Checked}
 use Rattle.sbx_stream.specs.Finished.{Finished}
 use Rattle.sbx_stream.specs.RunFault.{RunFault}
 use Rattle.sbx_stream.specs.Streams.{IsAnswerWritten, IsFront, IsStreamed}
-use Rattle.sbx_command.specs.declared.stops.Stop.{Stop}
-use Rattle.sbx_command.specs.declared.stops.Stop.TheVariants.{Source, Image, Refused, File, Input, Output, Memory, NoRoom}
+use Rattle.sbx_stops.specs.declared.stops.Stop.{Stop}
+use Rattle.sbx_stops.specs.declared.stops.Stop.TheVariants.{Source, Image, Refused, File, Input, Output, Memory, NoRoom}
 
 -- 0 where the exit word is 0, else 1
 abbrev pub status_of_word : ℕ → ℕ

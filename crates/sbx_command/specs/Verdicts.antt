@@ -3,33 +3,17 @@ use Rattle.std.specs.Prelude.{◌≡◌, ◌⊎◌, ℕ, List, [], Result, Ok, E
 use Rattle.std.specs.Io.KnownBytes.{Appends}
 use Rattle.sbx_stream.specs.Outcome.{Outcome}
 use Rattle.sbx_stream.specs.RunFault.{RunFault}
-use Rattle.sbx_listing.specs.Listing.{listing}
-use Rattle.sbx_put.specs.Fronts.{Begins, Wrote}
+use Rattle.sbx_put.specs.Fronts.{Wrote}
 use Rattle.sbx_stream.specs.Traces.{BeginsTrace, IsTrace, Leaves}
 use Rattle.sbx_image.specs.Parts.{Parts}
 use Rattle.sbx_image.specs.Reading.{reading}
-use Rattle.sbx_image.specs.Spelling.{IsTyped, spelling}
-use Rattle.sbx_asm.specs.Images.{source_image}
-use Rattle.sbx_rules.specs.Verdicts.{Checked}
-use Rattle.sbx_command.specs.declared.jobs.Job.{Job}
-use Rattle.sbx_command.specs.declared.jobs.Job.TheVariants.{Asm, Verify, Run, List as Listing, Trace}
-use Rattle.sbx_command.specs.declared.stops.Stop.{Stop}
-use Rattle.sbx_command.specs.declared.stops.Stop.TheVariants.{Source, Image, Refused, File, Input, Output, Memory, NoRoom}
-use Rattle.v8_map.specs.declared.TheConstants.{CODE_START}
+use Rattle.sbx_jobs.specs.declared.jobs.Job.{Job}
+use Rattle.sbx_jobs.specs.declared.jobs.Job.TheVariants.{Asm, Verify, Run, List as Listing, Trace}
+use Rattle.sbx_stops.specs.declared.stops.Stop.{Stop}
+use Rattle.sbx_stops.specs.declared.stops.Stop.TheVariants.{Source, Image, Refused, File, Input, Output, Memory, NoRoom}
+use Rattle.sbx_filing.specs.Files.{Assembled, BeginsListing, BeginsObject, BeginsVerdict, FrontLeft, IsAccepted, IsImage, IsSource, Listed}
 use Rattle.sbx_command.specs.Streaming.{Left, Ran}
-use Rattle.sbx_command.specs.Stops.{IsOfFile, IsOfOutput, IsRefusal, IsTrueOf, IsTrueOfImage, IsTrueOfSource, status_of}
-
--- the bytes spell an image
-abbrev pub IsImage : List ℕ → Type 0
-IsImage bytes = (parts : Parts) × (reading bytes ≡ Ok parts)
-
--- the bytes spell an image that breaks no rule
-abbrev pub IsAccepted : List ℕ → Type 0
-IsAccepted bytes = (parts : Parts) × (reading bytes ≡ Ok parts) × Checked parts
-
--- the bytes are a source that means an image
-abbrev pub IsSource : List ℕ → Type 0
-IsSource bytes = (parts : Parts) × (source_image bytes ≡ Ok parts)
+use Rattle.sbx_stops.specs.Stops.{IsOfFile, IsOfOutput, IsRefusal, IsTrueOf, IsTrueOfImage, IsTrueOfSource, status_of}
 
 -- what a job needs to be done
 abbrev pub Deserves : Job → List ℕ → Type 0
@@ -46,18 +30,6 @@ IsTold (Verify image) stop bytes = IsTrueOf stop bytes
 IsTold (Run image windows) stop bytes = IsTrueOf stop bytes
 IsTold (Listing image) stop bytes = IsTrueOfImage stop bytes
 IsTold (Trace image windows limit) stop bytes = IsTrueOfImage stop bytes
-
--- each number of the parts is one that its field can hold
-abbrev pub FitsItsFields : Parts → Type 0
-FitsItsFields parts = IsTyped parts
-
--- The output grew by the spelling of the image that the bytes of the file mean, where they are known. Each of its numbers fits its field:
--- so a law says that it is read again, and is safe where it breaks no rule.
-abbrev pub AssembledFrom : List ℕ → Option (List ℕ) → Option (List ℕ) → Type 0
-AssembledFrom bytes old new = (parts : Parts) × (source_image bytes ≡ Ok parts) × FitsItsFields parts × Appends old new (spelling parts)
-
-abbrev pub Assembled : Option (List ℕ) → Option (List ℕ) → Option (List ℕ) → Type 0
-Assembled file old new = IfSome file (λ bytes. AssembledFrom bytes old new)
 
 -- The output grew by the trace of an image on an input, on so many windows, up to a limit.
 abbrev pub WroteTrace : ℕ → Parts → List ℕ → ℕ → Option (List ℕ) → Option (List ℕ) → Type 0
@@ -103,36 +75,6 @@ Traced windows limit file input old new = IfSome file (λ bytes. IfSome input (�
 abbrev pub OfSpelled : Parts → (Option (List ℕ) → Type 0) → Type 0
 OfSpelled parts P = (file : Option (List ℕ)) → IfSome file (λ bytes. reading bytes ≡ Ok parts) → P file
 
--- The output grew by the listing of the image that the bytes of the file spell, where they are known.
-abbrev pub Listed : Option (List ℕ) → Option (List ℕ) → Option (List ℕ) → Type 0
-Listed file old new = IfSome file (λ bytes. (parts : Parts) × (reading bytes ≡ Ok parts) × Appends old new (listing CODE_START parts.words))
-
--- The first bytes of what a job puts out when all else is done: of the object of a source, of the line of an accepted image, of the
--- listing of an image.
-abbrev pub BeginsObject : List ℕ → List ℕ → Type 0
-BeginsObject bytes written = (parts : Parts) × (source_image bytes ≡ Ok parts) × Begins written (spelling parts)
-
-abbrev pub BeginsVerdict : List ℕ → List ℕ → Type 0
-BeginsVerdict bytes written = IsAccepted bytes × Begins written (codes "accepted\n")
-
-abbrev pub BeginsListing : List ℕ → List ℕ → Type 0
-BeginsListing bytes written = (parts : Parts) × (reading bytes ≡ Ok parts) × Begins written (listing CODE_START parts.words)
-
--- What a stop of such a job leaves: the output's own the first bytes, any other none.
-abbrev pub FrontLeaves : (List ℕ → Type 0) → Stop → List ℕ → Type 0
-FrontLeaves IsFront Output written = IsFront written
-FrontLeaves IsFront (NoRoom full) written = IsFront written
-FrontLeaves IsFront (Source fault) written = written ≡ []
-FrontLeaves IsFront (Image fault) written = written ≡ []
-FrontLeaves IsFront (Refused refusal) written = written ≡ []
-FrontLeaves IsFront File written = written ≡ []
-FrontLeaves IsFront Input written = written ≡ []
-FrontLeaves IsFront (Memory want) written = written ≡ []
-
--- the same where the bytes of the file are known
-abbrev pub FrontLeft : (List ℕ → List ℕ → Type 0) → Option (List ℕ) → Option (List ℕ) → Option (List ℕ) → Stop → Type 0
-FrontLeft IsFrontOf file old new stop = IfSome file (λ bytes. Wrote old new (FrontLeaves (IsFrontOf bytes) stop))
-
 -- what a job that is done has read and put out
 abbrev pub Gave : Job → Option (List ℕ) → Option (List ℕ) → Option (List ℕ) → Option (List ℕ) → Option (List ℕ) → ℕ → Type 0
 Gave (Asm source object) file input input_now old new status = Assembled file old new × (status ≡ 0)
@@ -164,3 +106,13 @@ abbrev pub StopsFor : Job → Option (List ℕ) → Type 0 → (Stop → Type 0)
 StopsFor job file Untouched LeftAt status =
     (stop : Stop) × (status ≡ status_of stop) × IfSome file (IsTold job stop)
     × (IsRefusal stop → IfSome file (λ bytes. Deserves job bytes → ⊥)) × (IsBefore job stop → Untouched) × LeftAt stop
+
+-- ---- the same in closed words, which a proof opens by `unfolding`
+
+-- what a job that is done has read and put out, and that its status is the one that it deserves: of a run that of its exit word
+unfoldable pub HasGiven : Job → Option (List ℕ) → Option (List ℕ) → Option (List ℕ) → Option (List ℕ) → Option (List ℕ) → ℕ → Type 0
+HasGiven job file input input_now old new status = Gave job file input input_now old new status
+
+-- whose status it is where a job stops, and what that stop leaves
+unfoldable pub HasStopped : Job → Option (List ℕ) → Option (List ℕ) → Option (List ℕ) → Option (List ℕ) → Option (List ℕ) → Type 0 → ℕ → Type 0
+HasStopped job file input input_now old new Untouched status = StopsFor job file Untouched (LeftBy job file input input_now old new) status

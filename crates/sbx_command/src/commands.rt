@@ -1,15 +1,13 @@
 //! A command from its job to its exit status.
 ghost use Rattle.std.specs.Prelude.{◌≡◌, ◌<◌, ◌≤◌, IfErr, IfOk, IfSome, true};
-ghost use Rattle.sbx_command.specs.Stops.{Told};
-ghost use Rattle.sbx_command.specs.Verdicts.{Deserves, Gave, IsBefore, IsTold, LeftBy, StopsFor};
+ghost use Rattle.sbx_stops.specs.Stops.{Told};
+ghost use Rattle.sbx_command.specs.Verdicts.{Deserves, Gave, HasGiven, HasStopped, IsBefore, IsTold, LeftBy, StopsFor};
 
-use crate::assembling::assemble_file;
-use crate::jobs::Job;
-use crate::listing::list_file;
 use crate::running::run_file;
-use crate::stops::{Ended, Stop};
 use crate::tracing::trace_file;
-use crate::verifying::verify_file;
+use sbx_filing::{assemble_file, list_file, verify_file};
+use sbx_jobs::Job;
+use sbx_stops::{Ended, Stop};
 use std::alloc::Global;
 use std::io::{Read, Write};
 
@@ -91,8 +89,8 @@ pub fn command<F: Read, I: Read, O: Write, E: Write>(
     }
 }
 
-/// Does a job as [`command`] does, and gives its exit status alone: for a caller that has nothing more to say of it, since what
-/// `command` promises is long.
+/// Does a job as [`command`] does, and gives its exit status alone. It says of the status what `command` says, and nothing of standard
+/// error; in closed words, so that a caller that has nothing to prove by them doesn't bear what they stand on.
 pub fn exit_status<F: Read, I: Read, O: Write, E: Write>(
     alloc: Global,
     job: &Job<'_>,
@@ -103,6 +101,10 @@ pub fn exit_status<F: Read, I: Read, O: Write, E: Write>(
 ) -> u8
     ensures range { result < 6 }
     ensures done { result < 2 → IfSome (F.remaining file.old) (Deserves job.now) }
+    ensures ran { result < 2 → HasGiven job.now (F.remaining file.old) (I.remaining input.old) (I.remaining input.new)
+        (O.contents out.old) (O.contents out.new) result }
+    ensures stopped { 2 ≤ result → HasStopped job.now (F.remaining file.old) (I.remaining input.old) (I.remaining input.new)
+        (O.contents out.old) (O.contents out.new) ((input.new ≡ input.old) × (out.new ≡ out.old)) result }
 {
     command(alloc, job, file, input, out, err).status
 }

@@ -1,14 +1,14 @@
 //! The command `run`.
 ghost use Rattle.std.specs.Prelude.{◌≡◌, ◌<◌, IfErr, IfOk, IfSome};
 ghost use Rattle.sbx_port.specs.Streams.{Streamed};
-ghost use Rattle.sbx_command.specs.Stops.{IsOfFile, IsTrueOf};
+ghost use Rattle.sbx_stops.specs.Stops.{IsOfFile, IsTrueOf};
 ghost use Rattle.sbx_command.specs.Streaming.{LeavesOn, Left, Ran, RanOn, status_of_word};
-ghost use Rattle.sbx_command.specs.Verdicts.{IsAccepted};
+ghost use Rattle.sbx_filing.specs.Files.{IsAccepted};
 
-use crate::counts::Windows;
-use crate::stops::Stop;
 use crate::streaming::stream_windows;
-use crate::verifying::accepted_in;
+use sbx_filing::accepted_in;
+use sbx_jobs::Windows;
+use sbx_stops::Stop;
 use sbx_stream::Accepted;
 use std::alloc::Global;
 use std::io::{Read, Write};

@@ -2,8 +2,8 @@
 ghost use Rattle.std.specs.Prelude.{◌≡◌, ◌≤◌};
 ghost use Rattle.sbx_command.specs.Streaming.{RunGives};
 
-use crate::counts::Windows;
 use sbx_counts::on_windows;
+use sbx_jobs::Windows;
 use sbx_stream::{Accepted, Finished, RunFault, run_stream};
 use std::alloc::Global;
 use std::io::{Read, Write};

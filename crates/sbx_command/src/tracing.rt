@@ -1,15 +1,15 @@
 //! The command `trace`.
 ghost use Rattle.std.specs.Prelude.{◌≡◌, ◌≤◌, ◌⊎◌, IfErr, IfOk, IfSome, OnOk};
-ghost use Rattle.sbx_command.specs.Stops.{IsOfFile, IsOfTrace, IsTrueOfImage};
-ghost use Rattle.sbx_command.specs.Verdicts.{IsImage, OfSpelled, TraceGives, TraceLeft, Traced};
+ghost use Rattle.sbx_stops.specs.Stops.{IsOfFile, IsOfTrace, IsTrueOfImage};
+ghost use Rattle.sbx_filing.specs.Files.{IsImage};
+ghost use Rattle.sbx_command.specs.Verdicts.{OfSpelled, TraceGives, TraceLeft, Traced};
 ghost use Rattle.want.specs.Wants.{refused};
 
-use crate::counts::Windows;
-use crate::images::image_in;
-use crate::reading::{MOST, ReadFault, read_whole};
-use crate::stops::Stop;
 use sbx_counts::on_windows;
+use sbx_filing::{MOST, ReadFault, image_in, read_whole};
 use sbx_image::Image;
+use sbx_jobs::Windows;
+use sbx_stops::Stop;
 use sbx_stream::{Outcome, RunFault, trace};
 use std::alloc::Global;
 use std::io::{Read, Write};

@@ -1,6 +1,7 @@
 //! The command `asm` on files.
 use crate::files::{done_on, is_same_file, stored};
-use sbx_words::{Job, Stop};
+use sbx_command::Stop;
+use sbx_words::Job;
 
 /// Assembles the source at a path. The object is opened only where the source means an image; the source itself is no object.
 pub fn assemble_to(

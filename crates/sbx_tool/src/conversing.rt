@@ -12,7 +12,8 @@
 ghost use Rattle.std.specs.Io.Buffered.{reader_remaining};
 
 use crate::files::done_on;
-use sbx_words::{Job, Stop};
+use sbx_command::Stop;
+use sbx_words::Job;
 use std::cell::RefCell;
 use std::io;
 use std::io::{BufReader, LineWriter, Read, Write};

@@ -17,8 +17,8 @@ use Rattle.clap.specs.declared.parser.matches.ArgMatches.{ArgMatches}
 use Rattle.clap.specs.declared.parser.matches.Found.{Found}
 use Rattle.clap.specs.declared.parser.matches.SubCommand.{SubCommand}
 use Rattle.clap.specs.declared.parser.matches.ArgMatches.TheViews.{out-SubCommand}
-use Rattle.sbx_command.specs.declared.jobs.Job.{Job}
-use Rattle.sbx_command.specs.declared.jobs.Job.TheVariants.{Asm, Verify, Run, List as Listing, Trace}
+use Rattle.sbx_jobs.specs.declared.jobs.Job.{Job}
+use Rattle.sbx_jobs.specs.declared.jobs.Job.TheVariants.{Asm, Verify, Run, List as Listing, Trace}
 use Rattle.sbx_words.specs.declared.Usage.{Usage}
 use Rattle.sbx_words.specs.declared.Usage.TheVariants.{Text as Told, Memory, NoRoom}
 use Rattle.sbx_words.specs.Lines.{Adds, HasLimit, HasPath, HasWindows, IsAlone, IsGiven, IsText, IsTrueOfWords, Means, MeansJob, Takes, sandbox_app, shape_with}

@@ -3,8 +3,8 @@
 
 ghost use Rattle.std.specs.Prelude.{◌≡◌, ◌≢◌, ℕ, false, [], ◌∷◌, None, IfErr, IfOk, IsErr, codes, map};
 ghost use Rattle.clap.specs.Words.{app_of, fault_of, first_of, found_of, kind_of, rows_of, rule_of, subcommand_of, subcommand_rows_of};
-ghost use Rattle.sbx_command.specs.declared.jobs.Job.{Job};
-ghost use Rattle.sbx_command.specs.Jobs.{IsInRange};
+ghost use Rattle.sbx_jobs.specs.declared.jobs.Job.{Job};
+ghost use Rattle.sbx_jobs.specs.Jobs.{IsInRange};
 ghost use Rattle.want.specs.Wants.{refused};
 ghost use Rattle.sbx_words.specs.Lines.{Adds, AskFor, HasLimit, HasPath, HasWindows, IsAlone, IsText, IsTrueOfWords, Means, MeansJob, Takes, asm_shape, bare_shape, image_rule, number_rule, path_rule, run_shape, sandbox_app, shape_with, trace_shape};
 
@@ -12,8 +12,8 @@ mod starved;
 
 use clap::error::ErrorKind;
 use clap::{Arg, ArgAction, ArgMatches, Command, Error};
-pub use sbx_command::{Full, Job, Stop, Windows};
-use sbx_command::{turns, window_count};
+pub use sbx_jobs::{Job, Windows};
+use sbx_jobs::{turns, window_count};
 pub use starved::Starved;
 use std::alloc::{AllocError, Global};
 use std::convert::AsStr;

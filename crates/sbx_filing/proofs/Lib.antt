@@ -1,0 +1,4 @@
+pub mod Accepting
+pub mod Fronts
+pub mod Pieces
+pub mod Sources

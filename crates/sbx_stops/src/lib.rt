@@ -1,0 +1,6 @@
+//! Why a command stops, with its line on standard error and its exit status.
+#![tactic(auto)]
+
+mod stops;
+
+pub use stops::{Ended, Full, Stop};
