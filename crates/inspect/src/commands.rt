@@ -21,7 +21,7 @@ use std::io::{Read, Write};
 use want::Want;
 
 /// The most bytes that the input of a run may have.
-const MOST: usize = 16_777_216;
+pub const MOST: usize = 16_777_216;
 
 /// All of standard input.
 fn input_of<I: Read>(alloc: Global, input: &mut I) -> Result<Vec<u8>, Stop>

@@ -2,28 +2,34 @@
 #![tactic(auto)]
 
 mod commands;
+mod faults;
 mod progress;
 mod words;
 
-use commands::{explain_image, run_image, show_image, trace_image};
+use commands::{MOST, explain_image, run_image, show_image, trace_image};
+use faults::Fault;
 use progress::Lines;
 use sbx_command::{Full, Stop};
+use sbx_files::{Counted, FileFault, hold_streams, open_file};
 use sbx_tell::Progress;
 use std::alloc::{AllocError, Global};
 use std::fs::File;
 use std::io::{BufWriter, Read, Write};
 use std::process::ExitCode;
-use std::{env, fs, io};
-use words::{Job, USAGE, read_words};
+use std::{env, io};
+use words::{Job, USAGE, number_wanted, read_words};
 
 /// The exit status of words that ask for nothing.
 const OTHER_WORDS: u8 = 3;
 
 /// The file at a path, to be read.
-fn opened(rt: &HostRuntime, path: &str) -> Result<File, Stop> {
-    match fs::open(rt, path) {
+fn opened<'a>(rt: &HostRuntime, path: &'a str) -> Result<File, Fault<'a>> {
+    match open_file(rt, path) {
         Ok(file) => Ok(file),
-        Err(error) => Err(Stop::of(&error, Stop::File)),
+        Err(error) => Err(match Full::of(&error) {
+            Some(full) => Fault::Stop(Stop::NoRoom(full)),
+            None => Fault::File(path, FileFault::of(&error)),
+        }),
     }
 }
 
@@ -51,25 +57,40 @@ fn tell<F: Read, I: Read, O: Write, P: Progress>(
     }
 }
 
+/// Does a job on the file at a path, and tells on standard output.
+fn perform_on<'a>(
+    rt: &HostRuntime,
+    job: &Job<'a>,
+    path: &'a str,
+    mut file: File,
+) -> Result<(), Fault<'a>> {
+    let mut out = match BufWriter::new(rt.alloc(), rt.stdout()) {
+        Ok(out) => out,
+        Err(error) => return Err(Fault::Stop(Stop::of(&error, Stop::Output))),
+    };
+    let (alloc, mut input) = (rt.alloc(), Counted::new(rt.stdin()));
+    match tell(
+        alloc,
+        job,
+        &mut file,
+        &mut input,
+        &mut out,
+        &mut Lines::new(rt),
+    ) {
+        Ok(()) => Ok(()),
+        Err(Stop::File) => Err(Fault::File(path, FileFault::Failing)),
+        Err(Stop::Input) if input.count() > MOST as u64 => Err(Fault::Input(FileFault::TooLong)),
+        Err(stop) => Err(Fault::Stop(stop)),
+    }
+}
+
 /// Does a job, and tells on standard output.
-fn perform(rt: &HostRuntime, job: &Job<'_>) -> Result<(), Stop> {
+fn perform<'a>(rt: &HostRuntime, job: &Job<'a>) -> Result<(), Fault<'a>> {
     let (Job::Image { image }
     | Job::Run { image, .. }
     | Job::Trace { image, .. }
     | Job::Why { image }) = *job;
-    let mut file = opened(rt, image)?;
-    let mut out = match BufWriter::new(rt.alloc(), rt.stdout()) {
-        Ok(out) => out,
-        Err(error) => return Err(Stop::of(&error, Stop::Output)),
-    };
-    tell(
-        rt.alloc(),
-        job,
-        &mut file,
-        &mut rt.stdin(),
-        &mut out,
-        &mut Lines::new(rt),
-    )
+    perform_on(rt, job, image, opened(rt, image)?)
 }
 
 /// The words after the program's name.
@@ -82,28 +103,37 @@ fn words_of(rt: &HostRuntime) -> io::Result<Vec<String>> {
 }
 
 /// Does what the words ask for, and gives the exit status.
-fn answer(rt: &HostRuntime, words: &[String]) -> Result<u8, Stop> {
+fn answer<'a>(rt: &HostRuntime, words: &'a [String]) -> Result<u8, Fault<'a>> {
     let Some(job) = read_words(words) else {
-        let _ = eprint!(rt; "{USAGE}");
+        let _ = match number_wanted(words) {
+            Some(wanted) => eprintln!(rt; "inspect: {wanted}"),
+            None => eprint!(rt; "{USAGE}"),
+        };
         return Ok(OTHER_WORDS);
     };
     perform(rt, &job)?;
     Ok(0)
 }
 
+/// Does what the words ask for, and gives the exit status. What goes wrong is told on standard error.
+fn status_of(rt: &HostRuntime, words: &[String]) -> u8 {
+    match answer(rt, words) {
+        Ok(status) => status,
+        Err(fault) => fault.report(rt),
+    }
+}
+
 fn main(rt: HostRuntime) -> ExitCode {
+    let _held = hold_streams(&rt);
     let status = match words_of(&rt) {
-        Ok(words) => answer(&rt, words.as_slice()),
+        Ok(words) => status_of(&rt, words.as_slice()),
         Err(error) => match Full::of(&error) {
-            Some(full) => Err(Stop::NoRoom(full)),
+            Some(full) => Fault::Stop(Stop::NoRoom(full)).report(&rt),
             None => {
                 let _ = eprint!(rt; "{USAGE}");
-                Ok(OTHER_WORDS)
+                OTHER_WORDS
             }
         },
     };
-    match status {
-        Ok(status) => ExitCode::from(status),
-        Err(stop) => ExitCode::from(stop.report(&mut rt.stderr()).status),
-    }
+    ExitCode::from(status)
 }

@@ -39,12 +39,18 @@ pub const USAGE: &str = "Usage: inspect COMMAND [--windows N] [--limit T] IMG
   trace IMG    runs any image on standard input and tells each turn: place, instruction,
                and what it changed
   why IMG      tells why an image is refused: the rule, the word, and what is known there
-  --version    of the script ./inspect: the commit of the sources, and the kit
+  --version    of the script ./inspect: the version, the commit of the sources, and the kit
 
 run, trace: --windows N is the count of register windows, 4 to 32 (8);
             --limit T the most turns, 0 to 9999999999 (100000).
 Status 0: told. 2: no image. 3: other words. 4: a file, the input or the output fails. 5: memory.
 ";
+
+/// What the number of windows is.
+const WINDOWS: &str = "--windows wants a decimal number from 4 to 32";
+
+/// What the limit of turns is.
+const LIMIT: &str = "--limit wants a decimal number from 0 to 9999999999";
 
 /// What the words after the command give, each at most once.
 #[derive(Clone, Copy)]
@@ -152,4 +158,22 @@ pub fn read_words<S: AsStr>(words: &[S]) -> Option<Job<'_>>
     let (command, rest) = words.split_first()?;
     let options = options_of(rest)?;
     job_of(command.as_str(), options.image?, &options)
+}
+
+/// What is told where words ask for nothing since one of them isn't the number that it stands for.
+pub fn number_wanted<S: AsStr>(words: &[S]) -> Option<&'static str> {
+    let mut before = "";
+    for word in words {
+        let word = word.as_str();
+        match before {
+            "--windows" if window_count(Some(word)).is_none() => return Some(WINDOWS),
+            "--limit" if turns(Some(word)).is_none() => return Some(LIMIT),
+            _ => before = word,
+        }
+    }
+    match before {
+        "--windows" => Some(WINDOWS),
+        "--limit" => Some(LIMIT),
+        _ => None,
+    }
 }

@@ -1,0 +1,35 @@
+//! Why nothing is told, and how that is told.
+use sbx_command::Stop;
+use sbx_files::FileFault;
+use std::io::Write;
+
+/// The status where a file or a stream fails.
+const FILE: u8 = 4;
+
+/// Why nothing is told.
+#[derive(Clone, Copy)]
+pub enum Fault<'a> {
+    /// The job has stopped.
+    Stop(Stop),
+    /// There is something wrong with the file at a path.
+    File(&'a str, FileFault),
+    /// There is something wrong with the input.
+    Input(FileFault),
+}
+
+impl Fault<'_> {
+    /// Tells it on standard error, and gives the exit status.
+    pub fn report(self, rt: &HostRuntime) -> u8 {
+        match self {
+            Fault::Stop(stop) => stop.report(&mut rt.stderr()).status,
+            Fault::File(path, fault) => {
+                let _ = eprintln!(rt; "inspect: {path}: {fault}");
+                FILE
+            }
+            Fault::Input(fault) => {
+                let _ = eprintln!(rt; "inspect: input: {fault}");
+                FILE
+            }
+        }
+    }
+}
