@@ -18,7 +18,8 @@ pub enum Stand {
     Full,
     /// As many turns as were allowed are made.
     Paused,
-    /// The board has read what nobody gave it, or has ended otherwise than by an exit. No turn of an accepted image does either.
+    /// The board has read what nobody gave it, or has ended otherwise than by an exit. No turn of an accepted image does either. What
+    /// was written so far is the image's all the same.
     Lost,
 }
 
@@ -150,6 +151,7 @@ impl<const N: usize> Session<N> {
         ensures lacks { IfSome result (λ slice. slice.lacks ≡ true → self.new.board.state.world.memory.device.input ≡ unknown) }
         ensures within { IfSome result (λ slice. slice.turns ≤ most) }
         ensures left { IfSome result (λ slice. self.new.left ≡ self.old.left - slice.turns) }
+        ensures met { self.new.met ≡ self.old.met }
     {
         let slice = advance(&mut self.board, most);
         self.left -= slice.turns;

@@ -61,9 +61,12 @@ returns-in-Some-ended g c =
 
 pub returns-in_default-go : goal.returns-in_default-go
 returns-in_default-go g c =
-    lost g.row.N c.args.self.now c.go.new.self c.args.input.now c.args.last c.args.room.now c.deliver.new.room c.in-Some-feed.next c.in-Some.behind
-    c.in-Some-feed.ensures.within c.in-Some.ensures.within
-    (c.in-Some.ensures.behind ∙ behind_more c.rounds.written c.in-Some.behind c.rounds.room c.args.room.now c.in-Some.ensures.more c.rounds.invariant.behind)
+    let so = c.rounds.invariant in
+    lost g.row.N c.args.self.now c.feed.new.self c.go.new.self c.args.input.now c.args.last c.args.room.now c.deliver.new.room
+    c.in-Some-feed.next c.in-Some.behind c.in-Some-feed.ensures.within c.in-Some.ensures.within
+    (c.in-Some.ensures.behind ∙ behind_more c.rounds.written c.in-Some.behind c.rounds.room c.args.room.now c.in-Some.ensures.more so.behind)
+    (λ parts so_far all goes. c.in-Some-feed.ensures.goes parts so_far _ (c.in-Some.ensures.goes parts _ all (so.goes parts so_far all goes)))
+    c.in_default-go.ensures.met
 
 pub rounds-preserved : goal.rounds-preserved
 rounds-preserved g c =
