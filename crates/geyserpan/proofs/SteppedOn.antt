@@ -1,5 +1,5 @@
 -- A step into the front of a room.
-use Rattle.std.proofs.Common.{◌≡◌, ◌≢◌, ◌-◌, ◌<◌, ◌≤◌, ℕ, ◌+◌, Bool, List, Some, refl, ◌++◌, drop, length, take, sym, ap, subst, ◌∙◌, arith, length-append}
+use Rattle.std.proofs.Common.{◌≡◌, ◌≢◌, ◌-◌, ◌≤◌, ℕ, ◌+◌, Bool, List, Some, refl, ◌++◌, drop, length, take, sym, ap, subst, ◌∙◌, arith, length-append}
 use Rattle.std.proofs.lemmas.List.{take-append-le, drop-append-le}
 use Rattle.sbx_image.specs.Parts.{Parts}
 use Rattle.sbx_session.specs.Going.{Goes, IsAllOf, IsFrontOf}

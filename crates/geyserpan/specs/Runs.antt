@@ -62,9 +62,10 @@ pub record StepsSo (old new : RunSlot) (input before after : List ℕ) (done : D
   pub full : status ≡ FULL → done.written ≡ length after
   pub output : status ≡ OUTPUT → granted_of new ≡ 0
 
--- the handle holds a run of the kept image, which has read and written nothing, and is granted as much output as its terms say
+-- the handle holds a run of the kept image, which has read and written nothing, is granted as much output as its terms say, and wasn't
+-- told that its input has ended
 abbrev pub Begins : Kept → RunSlot → Type 0
-Begins kept slot = Runs slot kept.accepted [] [] × (granted_of slot ≡ kept.terms.output)
+Begins kept slot = Runs slot kept.accepted [] [] × (granted_of slot ≡ kept.terms.output) × (met_of slot ≡ false)
 
 -- and this handle held that image
 abbrev pub BeginsOf : ImageSlot → RunSlot → Type 0

@@ -1,6 +1,6 @@
 //! The calls of runs in pieces.
 ghost use Rattle.std.specs.Prelude.{◌≡◌, ◌≢◌, None};
-ghost use Rattle.geyserpan.specs.Runs.{BeginsOf, StepsSo};
+ghost use Rattle.geyserpan.specs.Runs.{BeginsOf, StepsSo, met_of};
 
 use crate::image_handle::ImageHandle;
 use crate::run_handle::RunHandle;
@@ -72,6 +72,7 @@ pub extern "C" fn geyserpan_step(
 ) -> u32
     ensures steps { StepsSo run.old.value run.new.value input.now room.old room.new done.new result }
     ensures empty { result ≡ HANDLE → (done.new ≡ done.old) × (run.new.value ≡ run.old.value) }
+    ensures met { last ≡ 0 → met_of run.new.value ≡ met_of run.old.value }
 {
     match &mut run.lent().going {
         Some(going) => going.step(turns, input, last != 0, room, done),

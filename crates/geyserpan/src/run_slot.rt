@@ -1,5 +1,5 @@
 //! What the handle of a run in pieces holds.
-ghost use Rattle.std.specs.Prelude.{◌≡◌, ◌≢◌, ◌<◌, ◌≤◌};
+ghost use Rattle.std.specs.Prelude.{◌≡◌, ◌≢◌, ◌<◌, ◌≤◌, false};
 ghost use Rattle.sbx_session.specs.Steps.{IsVouched};
 
 use crate::image_slot::Kept;
@@ -65,7 +65,8 @@ impl Going {
         room: &mut [u8],
         done: &mut Done,
     ) -> u32
-        ensures { IsGoingOn self.old self.new input.now room.old room.new done.new result }
+        ensures goes { IsGoingOn self.old self.new input.now room.old room.new done.new result }
+        ensures met { last ≡ false → self.new.session.met ≡ self.old.session.met }
     {
         let most = room.len().min(self.granted as usize);
         let size = room.len();

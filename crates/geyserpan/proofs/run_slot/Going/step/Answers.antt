@@ -5,8 +5,11 @@ use Rattle.geyserpan.specs.declared.run_slot.Going.{Going}
 use Rattle.geyserpan.proofs.SteppedOn.{stepped_on}
 use Rattle.geyserpan.proofs.run_slot.Going.step.Goals as goal
 
-pub returns : goal.returns
-returns c =
+pub returns-clause-met : goal.returns-clause-met
+returns-clause-met c = c.step-step.ensures.met
+
+pub returns-clause-goes : goal.returns-clause-goes
+returns-clause-goes c =
     let room = c.args.room.now in
     let front = c.split_at_mut-front.result.0.now in
     let rest = c.split_at_mut-front.result.1.now in
