@@ -2,7 +2,9 @@
 
    An image is a program with its annotations. Before its first instruction runs, a verifier has shown that it ends within the turns
    that it declares, and reaches nothing but its own pages, its input and its output. Verifier and machine are proved, and so is what
-   the comments below say of OK and of the other statuses, but for what they call "only tested".
+   the comments below say of what a status tells, of what is written and of what a handle then holds, for whoever keeps what he owes.
+   Only tested are: which statuses a call can answer; that MEMORY is told where memory was refused, and at no other time; that `new`
+   writes a handle; the bits of pages; and what is marked so.
 
    What you owe, and nobody checks:
 
@@ -21,9 +23,11 @@
 
    Statuses. Each call answers one of the numbers below, and where it isn't said otherwise:
 
-   - a status other than OK writes nothing: no byte of `room`, and none of the structs but those named beside the status;
+   - a status other than OK writes nothing: no byte of `room`, and none of the structs and numbers but those named beside the status;
    - handles hold what they held;
    - the call may be made again with what was wrong set right, and MEMORY at any time.
+
+   Where there are several reasons the first of these is told: WINDOWS, then NO_IMAGE or REFUSED, then SERVICES, then TURNS (only tested).
 
    An image declares its turns and its services, and the verifier holds it to them; it doesn't judge whether they are too many. That
    is for you: give terms. */
@@ -42,7 +46,7 @@ extern "C" {
 uint32_t geyserpan_abi(void);
 
 /* The version of the library's sources as text, without an end mark: its length, at most 32, and the text at the front of the room,
-   if it fits there. */
+   if it fits there; else nothing is written. The text is only tested. */
 size_t geyserpan_version(uint8_t *room, size_t room_length);
 
 enum geyserpan_status {
@@ -56,17 +60,21 @@ enum geyserpan_status {
     GEYSERPAN_TURNS = 6,     /* the image declares more turns than the terms grant: it wasn't run */
     GEYSERPAN_ROOM = 7,      /* the room is smaller than what was to be written: report->output, or *needed, is that length, and the
                                 rest of the report is that of the run */
-    GEYSERPAN_ENDED = 8,     /* of step: the run has ended, and done->exit is its exit word; a further step answers the same again */
+    GEYSERPAN_ENDED = 8,     /* of step: the run has ended, what was written is all of its output, and done->exit is its exit word; a
+                                further step answers the same again, with nothing read or written (only tested) */
     GEYSERPAN_WANTS = 9,     /* of step: the whole piece is read, and the program waits for more */
     GEYSERPAN_FULL = 10,     /* of step: the room is full, and there is more to put out */
     GEYSERPAN_PAUSED = 11,   /* of step: so many turns as were asked for are made */
-    GEYSERPAN_HANDLE = 12,   /* the handle of an image holds none, or that of a run holds no run */
+    GEYSERPAN_HANDLE = 12,   /* the handle of an image holds none, or that of a run holds no run; nothing is written, and of step and
+                                facts_of not `done` and `facts` either */
     GEYSERPAN_SOURCE = 13,   /* the source has a fault: why->number is the cause, 1 to 4 of X1 to X4, 5 to 9 of S1 to S5, 10 to 13 of A1
                                 to A4, and why->address the line */
-    GEYSERPAN_OUTPUT = 14,   /* the output is longer than the terms grant. Of run_image and once: report as with ROOM. Of step: what is
-                                granted was put out, and each further step answers the same with no byte read or written */
-    GEYSERPAN_LOST = 15      /* of step: the board has done what no turn does, and the library can't vouch for the run any more. It has
-                                never been seen; begin again, or end */
+    GEYSERPAN_OUTPUT = 14,   /* the output is longer than the terms grant. Of run_image and once, which make the run to its end and then
+                                compare: report as with ROOM. Of step, which stops there: what is granted was written, and a further
+                                step answers the same with nothing read or written (only tested; into a room of 0 bytes: FULL) */
+    GEYSERPAN_LOST = 15      /* of step: the board has done what no turn does: it has read what nobody gave it, or has ended without an
+                                exit. What was written so far is the image's all the same, but the library can't vouch for the run any
+                                more: begin again, or end. It has never been seen */
 };
 
 /* What a program may ask for: to end, to read a byte of its input, to write a byte of its output. */
@@ -119,7 +127,8 @@ uint32_t geyserpan_check(const uint8_t *image, size_t image_length, geyserpan_fa
 
 /* Checks an image, compares it with the terms, and runs it to its end on the input: OK writes the output to the front of the room, and the
    report. Else NO_IMAGE, REFUSED (why); WINDOWS, SERVICES, TURNS, MEMORY; ROOM, OUTPUT (report). It takes memory for the board, 1 MiB,
-   the image, and the whole output, also one that is too long: at most a byte for 5 turns of the budget. */
+   the image, and the whole output, also one that is too long, in a vector that grows by doubling: at most a byte for 5 turns of the
+   budget. A host to which that is too much steps: `step` keeps no output, and stops at the limit. */
 uint32_t geyserpan_once(const uint8_t *image, size_t image_length, const geyserpan_terms *terms, const uint8_t *input,
                         size_t input_length, uint8_t *room, size_t room_length, geyserpan_report *report, geyserpan_why *why);
 
@@ -133,7 +142,7 @@ typedef struct {
     void *at;
 } geyserpan_image;
 
-/* Makes a handle that holds no image: OK or MEMORY, which writes no handle. */
+/* Makes a handle that holds no image: OK, or MEMORY, which leaves the struct as it was. */
 uint32_t geyserpan_image_new(geyserpan_image *image);
 
 /* Ends a handle, with the image that it holds. */
@@ -159,7 +168,7 @@ typedef struct {
     void *at;
 } geyserpan_run;
 
-/* Makes a handle that holds no run: OK or MEMORY, which writes no handle. */
+/* Makes a handle that holds no run: OK, or MEMORY, which leaves the struct as it was. */
 uint32_t geyserpan_run_new(geyserpan_run *run);
 
 /* Ends a handle, with its run and its board. */
@@ -170,13 +179,16 @@ void geyserpan_run_free(geyserpan_run run);
    run that there was goes on. */
 uint32_t geyserpan_begin(geyserpan_run *run, geyserpan_image *image);
 
-/* The same on the board that the handle has, without taking memory: OK; WINDOWS, or HANDLE where there is no image or no board. */
+/* The same on the board that the handle has, without taking memory: OK; WINDOWS, or HANDLE where there is no image or no board: the run
+   that there was goes on. */
 uint32_t geyserpan_restart(geyserpan_run *run, geyserpan_image *image);
 
-/* Goes on with the run for at most so many turns, with the next piece of its input. Where `last` isn't 0 the input ends behind this piece.
+/* Goes on with the run for at most so many turns, with the next piece of its input. Where `last` isn't 0 the input ends behind this piece;
+   where it is 0 the program isn't told of an end.
    ENDED, WANTS, FULL, PAUSED, OUTPUT, LOST, each with done; or HANDLE. Pieces and rooms have any size, 0 too: what is put out
-   depends on the bytes alone. What was written so far is a front of the image's output on the bytes read so far, and with ENDED all of it.
-   Where the input has ended, later pieces aren't read. */
+   depends on the bytes alone. What was written so far is a front of the image's output on the bytes read so far, with each status, and
+   with ENDED all of it; it is never more than the terms grant that the image was opened on. Behind what is written the room stays as it
+   was. Where the input has ended, later pieces aren't read (only tested). It takes no memory. */
 uint32_t geyserpan_step(geyserpan_run *run, uint64_t turns, const uint8_t *input, size_t input_length, uint32_t last, uint8_t *room,
                         size_t room_length, geyserpan_done *done);
 

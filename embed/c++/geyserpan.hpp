@@ -67,7 +67,7 @@ public:
     geyserpan_facts facts()
     {
         geyserpan_facts told;
-        check(geyserpan_facts_of(&handle, &told));
+        check(geyserpan_facts_of(open(), &told));
         return told;
     }
 
@@ -83,12 +83,19 @@ public:
         return { reinterpret_cast<const char *>(room.data()), static_cast<std::size_t>(report.output) };
     }
 
-    geyserpan_image handle = {};
+    // The handle. One that was moved from holds none.
+    geyserpan_image *open()
+    {
+        if (!handle.at)
+            throw std::logic_error("the image was moved");
+        return &handle;
+    }
 
 private:
+    geyserpan_image handle = {};
     uint32_t attempt(std::string_view input, geyserpan_report &report)
     {
-        return geyserpan_run_image(&handle, bytes_of(input), input.size(), room.data(), room.size(), &report);
+        return geyserpan_run_image(open(), bytes_of(input), input.size(), room.data(), room.size(), &report);
     }
     std::vector<uint8_t> room = std::vector<uint8_t>(256);
 };
@@ -109,16 +116,22 @@ public:
             geyserpan_run_free(handle);
     }
 
-    void begin(image &of) { check(geyserpan_begin(&handle, &of.handle)); }
+    void begin(image &of) { check(geyserpan_begin(open(), of.open())); }
 
     // A status of geyserpan_step. What was written stands at the front of the room.
     uint32_t step(uint64_t turns, std::string_view piece, bool last, std::vector<uint8_t> &room, geyserpan_done &done)
     {
         static uint8_t none;
-        return geyserpan_step(&handle, turns, bytes_of(piece), piece.size(), last, room.empty() ? &none : room.data(), room.size(), &done);
+        return geyserpan_step(open(), turns, bytes_of(piece), piece.size(), last, room.empty() ? &none : room.data(), room.size(), &done);
     }
 
 private:
+    geyserpan_run *open()
+    {
+        if (!handle.at)
+            throw std::logic_error("the run was moved");
+        return &handle;
+    }
     geyserpan_run handle = {};
 };
 

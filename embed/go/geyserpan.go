@@ -6,6 +6,7 @@ package geyserpan
 import "C"
 
 import (
+	"errors"
 	"runtime"
 	"unsafe"
 )
@@ -26,7 +27,11 @@ const (
 	Wants  Status = C.GEYSERPAN_WANTS
 	Full   Status = C.GEYSERPAN_FULL
 	Paused Status = C.GEYSERPAN_PAUSED
+	Output Status = C.GEYSERPAN_OUTPUT
 )
+
+// ErrClosed is told where an image or a run is used after its Close.
+var ErrClosed = errors.New("it was closed")
 
 // Refusal is a status that refuses, with the numbers that tell why.
 type Refusal struct {
@@ -92,6 +97,9 @@ func Open(bytes []byte, terms Terms) (*Image, error) {
 // Run runs it on an input. The output is the front of the room.
 func (i *Image) Run(input, room []byte) ([]byte, Report, error) {
 	var told C.geyserpan_report
+	if i.handle == nil {
+		return nil, Report{}, ErrClosed
+	}
 	status := C.geyserpan_run_image(i.handle, first(input), C.size_t(len(input)), first(room), C.size_t(len(room)), &told)
 	report := Report{uint64(told.turns), uint64(told.overflows), uint64(told.underflows), uint64(told.output), uint32(told.exit)}
 	runtime.KeepAlive(i)
@@ -129,8 +137,12 @@ func Begin(image *Image) (*Run, error) {
 
 // Begin begins a run of an image on its board; that which there was is given up.
 func (r *Run) Begin(image *Image) error {
+	if r.handle == nil || image.handle == nil {
+		return ErrClosed
+	}
 	status := C.geyserpan_begin(r.handle, image.handle)
 	runtime.KeepAlive(image)
+	runtime.KeepAlive(r)
 	return refusal(status, &C.geyserpan_why{})
 }
 
@@ -141,9 +153,13 @@ type Done struct {
 	Exit          uint32
 }
 
-// Step goes on for at most so many turns, with the next piece of the input, behind which there is none where last is set.
+// Step goes on for at most so many turns, with the next piece of the input, behind which there is none where last is set. With Output
+// what is granted was put out, and there is more.
 func (r *Run) Step(turns uint64, piece []byte, last bool, room []byte) (Status, Done, error) {
 	var done C.geyserpan_done
+	if r.handle == nil {
+		return 0, Done{}, ErrClosed
+	}
 	var end C.uint32_t
 	if last {
 		end = 1
@@ -152,7 +168,7 @@ func (r *Run) Step(turns uint64, piece []byte, last bool, room []byte) (Status, 
 	runtime.KeepAlive(r)
 	told := Done{uint64(done.turns), int(done.read), int(done.written), uint32(done.exit)}
 	switch Status(status) {
-	case Ended, Wants, Full, Paused:
+	case Ended, Wants, Full, Paused, Output:
 		return Status(status), told, nil
 	}
 	return Status(status), told, refusal(status, &C.geyserpan_why{})

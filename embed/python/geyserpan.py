@@ -112,41 +112,20 @@ def assemble(source):
         room = needed.value
 
 
-class Image:
-    """An image that was checked once. A context manager; one call at a time."""
+class _Handle:
+    """A handle of the library's, which is let go once. A context manager; one call at a time."""
 
-    def __init__(self, data, terms):
-        self._handle, why = c_void_p(), Why()
-        _check(_library.geyserpan_image_new(byref(self._handle)))
-        self._output = terms.output
-        self._room = min(terms.output, 4096)
-        try:
-            _check(_library.geyserpan_open(byref(self._handle), data, len(data), byref(terms), byref(why)), why)
-        except BaseException:
-            self.close()
-            raise
+    _handle, _free = None, None
 
-    def facts(self):
-        """What it declares and is made of."""
-        facts = Facts()
-        _check(_library.geyserpan_facts_of(byref(self._handle), byref(facts)))
-        return facts
-
-    def run(self, data):
-        """The output of a run on this input, and its report."""
-        report = Report()
-        while True:
-            buffer = ctypes.create_string_buffer(max(self._room, 1))
-            status = _library.geyserpan_run_image(byref(self._handle), data, len(data), buffer, self._room, byref(report))
-            if status != ROOM:
-                _check(status)
-                return buffer.raw[:report.output], report
-            self._room = report.output
+    def _open(self):
+        if not self._handle:
+            raise ValueError("it was closed")
+        return byref(self._handle)
 
     def close(self):
         if self._handle:
-            _library.geyserpan_image_free(self._handle)
-            self._handle = c_void_p()
+            type(self)._free(self._handle)
+            self._handle = None
 
     __del__ = close
 
@@ -157,8 +136,42 @@ class Image:
         self.close()
 
 
-class Run:
-    """A run in pieces, on a board that is used again. A context manager; one call at a time."""
+class Image(_Handle):
+    """An image that was checked once."""
+
+    _free = _library.geyserpan_image_free
+
+    def __init__(self, data, terms):
+        self._handle, self._room, why = c_void_p(), min(terms.output, 4096), Why()
+        _check(_library.geyserpan_image_new(byref(self._handle)))
+        try:
+            _check(_library.geyserpan_open(self._open(), data, len(data), byref(terms), byref(why)), why)
+        except BaseException:
+            self.close()
+            raise
+
+    def facts(self):
+        """What it declares and is made of."""
+        facts = Facts()
+        _check(_library.geyserpan_facts_of(self._open(), byref(facts)))
+        return facts
+
+    def run(self, data):
+        """The output of a run on this input, and its report."""
+        report = Report()
+        while True:
+            buffer = ctypes.create_string_buffer(max(self._room, 1))
+            status = _library.geyserpan_run_image(self._open(), data, len(data), buffer, self._room, byref(report))
+            if status != ROOM:
+                _check(status)
+                return buffer.raw[:report.output], report
+            self._room = report.output
+
+
+class Run(_Handle):
+    """A run in pieces, on a board that is used again."""
+
+    _free = _library.geyserpan_run_free
 
     def __init__(self, image=None):
         self._handle, self.exit, self.turns = c_void_p(), None, 0
@@ -168,29 +181,16 @@ class Run:
 
     def begin(self, image):
         """Begins a run of an image; that which there was is given up."""
-        _check(_library.geyserpan_begin(byref(self._handle), byref(image._handle)))
+        _check(_library.geyserpan_begin(self._open(), image._open()))
         self.exit, self.turns = None, 0
 
     def step(self, piece=b"", last=False, turns=1_000_000, room=4096):
-        """The status, how many bytes of the piece were read, and what was put out."""
+        """The status (ENDED, WANTS, FULL, PAUSED, OUTPUT), how many bytes of the piece were read, and what was put out."""
         buffer, done = ctypes.create_string_buffer(max(room, 1)), Done()
-        status = _library.geyserpan_step(byref(self._handle), turns, piece, len(piece), last, buffer, room, byref(done))
+        status = _library.geyserpan_step(self._open(), turns, piece, len(piece), last, buffer, room, byref(done))
         if status in (HANDLE, LOST):
             raise Refusal(status)
         self.turns = done.turns
         if status == ENDED:
             self.exit = done.exit
         return status, done.read, buffer.raw[:done.written]
-
-    def close(self):
-        if self._handle:
-            _library.geyserpan_run_free(self._handle)
-            self._handle = c_void_p()
-
-    __del__ = close
-
-    def __enter__(self):
-        return self
-
-    def __exit__(self, *_):
-        self.close()

@@ -166,6 +166,12 @@ static void edges(void)
     geyserpan_done done;
     uint8_t small[64];
     memset(small, 0xA5, sizeof small);
+    memset(&facts, 0xA5, sizeof facts);
+    memset(&why, 0xA5, sizeof why);
+    const geyserpan_why no_why = why;
+    const geyserpan_facts no_facts = facts;
+    HOLDS(geyserpan_check(file, 3, &facts, &why) == GEYSERPAN_NO_IMAGE && why.number == 1 && !memcmp(&facts, &no_facts, sizeof facts));
+    why = no_why;
     memset(&report, 0xA5, sizeof report);
     before = report;
 
@@ -186,7 +192,7 @@ static void edges(void)
     keeps(geyserpan_once(file, file_length, &terms, input, input_length, small, sizeof small, &report, &why), GEYSERPAN_TURNS, small, sizeof small);
     terms = (geyserpan_terms){ UINT64_MAX, UINT64_MAX, 7 & ~GEYSERPAN_PUT, 8 };
     keeps(geyserpan_once(file, file_length, &terms, input, input_length, small, sizeof small, &report, &why), GEYSERPAN_SERVICES, small, sizeof small);
-    HOLDS(!memcmp(&report, &before, sizeof report));
+    HOLDS(!memcmp(&report, &before, sizeof report) && !memcmp(&why, &no_why, sizeof why));
 
     /* exactly the terms that it needs; a room that is too small by one byte */
     terms = (geyserpan_terms){ facts.budget, UINT64_MAX, facts.services, 8 };
@@ -215,7 +221,10 @@ static void edges(void)
     keeps(geyserpan_run_image(&image, input, input_length, small, sizeof small, &report), GEYSERPAN_HANDLE, small, sizeof small);
     HOLDS(geyserpan_facts_of(&image, &facts) == GEYSERPAN_HANDLE);
     HOLDS(geyserpan_begin(&run, &image) == GEYSERPAN_HANDLE && geyserpan_restart(&run, &image) == GEYSERPAN_HANDLE);
+    memset(&done, 0xA5, sizeof done);
+    geyserpan_done no_done = done;
     keeps(geyserpan_step(&run, 1, input, input_length, 1, small, sizeof small, &done), GEYSERPAN_HANDLE, small, sizeof small);
+    HOLDS(!memcmp(&done, &no_done, sizeof done));
     geyserpan_close(&image);
     geyserpan_end(&run);
 
@@ -227,6 +236,7 @@ static void edges(void)
     HOLDS(geyserpan_open(&image, file, file_length, &terms, &why) == GEYSERPAN_TURNS);
     HOLDS(geyserpan_open(&image, file, 3, &all, &why) == GEYSERPAN_NO_IMAGE && why.number == 1 && !why.function && !why.address);
     HOLDS(geyserpan_open(&image, file, 0, &all, &why) == GEYSERPAN_NO_IMAGE && why.number == 1);
+    HOLDS(geyserpan_open(&image, file, sizeof file, &all, &why) == GEYSERPAN_NO_IMAGE && why.number == 6);
     HOLDS(geyserpan_run_image(&image, input, input_length, small, sizeof small, &report) == GEYSERPAN_OK && report.output == length);
     memset(small, 0xA5, sizeof small);
 
@@ -341,7 +351,8 @@ static double used(void)
     return now.tv_sec * 1e6 + now.tv_nsec * 1e-3;
 }
 
-static void cost(long runs)
+/* Runs of one kind: the microseconds of each. */
+static void cost(long runs, const char *kind)
 {
     geyserpan_image image = opened(&all);
     geyserpan_run run;
@@ -349,19 +360,18 @@ static void cost(long runs)
     geyserpan_why why;
     geyserpan_done done;
     HOLDS(geyserpan_run_new(&run) == GEYSERPAN_OK && geyserpan_begin(&run, &image) == GEYSERPAN_OK);
+    int is_once = !strcmp(kind, "once"), is_kept = !strcmp(kind, "kept");
     double begun = used();
     for (long i = 0; i < runs; i++)
-        HOLDS(geyserpan_once(file, file_length, &all, input, input_length, room, sizeof room, &report, &why) == GEYSERPAN_OK);
-    double one = used();
-    for (long i = 0; i < runs; i++)
-        HOLDS(geyserpan_run_image(&image, input, input_length, room, sizeof room, &report) == GEYSERPAN_OK);
-    double kept = used();
-    for (long i = 0; i < runs; i++) {
-        HOLDS(geyserpan_restart(&run, &image) == GEYSERPAN_OK);
-        HOLDS(geyserpan_step(&run, UINT64_MAX, input, input_length, 1, room, sizeof room, &done) == GEYSERPAN_ENDED);
-    }
-    double again = used();
-    printf("once %.2f kept %.2f restarted %.2f\n", (one - begun) / runs, (kept - one) / runs, (again - kept) / runs);
+        if (is_once) {
+            HOLDS(geyserpan_once(file, file_length, &all, input, input_length, room, sizeof room, &report, &why) == GEYSERPAN_OK);
+        } else if (is_kept) {
+            HOLDS(geyserpan_run_image(&image, input, input_length, room, sizeof room, &report) == GEYSERPAN_OK);
+        } else {
+            HOLDS(geyserpan_restart(&run, &image) == GEYSERPAN_OK);
+            HOLDS(geyserpan_step(&run, UINT64_MAX, input, input_length, 1, room, sizeof room, &done) == GEYSERPAN_ENDED);
+        }
+    printf("%.2f\n", (used() - begun) / runs);
     geyserpan_run_free(run);
     geyserpan_image_free(image);
 }
@@ -399,7 +409,7 @@ int main(int count, char **words)
     else if (!strcmp(mode, "threads"))
         threads(word(count, words, 3, 8), word(count, words, 4, 100));
     else if (!strcmp(mode, "cost"))
-        cost(word(count, words, 3, 1000));
+        cost(word(count, words, 3, 1000), count > 4 ? words[4] : "restarted");
     else
         return 3;
     return 0;

@@ -1,5 +1,5 @@
 -- What the handle of an image holds, and what is told of it.
-use Rattle.std.specs.Prelude.{◌≡◌, ℕ, List, Some}
+use Rattle.std.specs.Prelude.{◌≡◌, ℕ, ◌<◌, ◌≤◌, List, Some}
 use Rattle.sbx_image.specs.Parts.{Parts}
 use Rattle.geyserpan.specs.declared.facts.Facts.{Facts}
 use Rattle.geyserpan.specs.declared.image_slot.ImageSlot.{ImageSlot}
@@ -21,6 +21,13 @@ HasFactsOf slot facts = (kept : Kept) × (slot.kept ≡ Some kept) × HasFacts k
 abbrev pub HasReportOf : ImageSlot → List ℕ → Report → Type 0
 HasReportOf slot input report = (kept : Kept) × (slot.kept ≡ Some kept) × HasReport kept.accepted kept.terms.windows input report
 
--- and the room begins with the run's output, and goes on as it was
+-- and its output is longer than its terms grant
+abbrev pub IsTooMuchOf : ImageSlot → List ℕ → Report → Type 0
+IsTooMuchOf slot input report =
+    (kept : Kept) × (slot.kept ≡ Some kept) × HasReport kept.accepted kept.terms.windows input report × (kept.terms.output < report.output)
+
+-- and the room begins with the run's output, no more than its terms grant, and goes on as it was
 abbrev pub HasRunOf : ImageSlot → List ℕ → List ℕ → List ℕ → Report → Type 0
-HasRunOf slot input before after report = (kept : Kept) × (slot.kept ≡ Some kept) × HasRun kept.accepted kept.terms.windows input before after report
+HasRunOf slot input before after report =
+    (kept : Kept) × (slot.kept ≡ Some kept) × HasRun kept.accepted kept.terms.windows input before after report
+    × (report.output ≤ kept.terms.output)

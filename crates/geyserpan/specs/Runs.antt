@@ -1,5 +1,5 @@
 -- What the handle of a run in pieces holds, and what a step does to it.
-use Rattle.std.specs.Prelude.{ℕ, ◌≡◌, ◌≢◌, ◌≤◌, Bool, false, List, [], ◌++◌, drop, length, take, Option, Some, None}
+use Rattle.std.specs.Prelude.{ℕ, ◌≡◌, ◌≢◌, ◌+◌, ◌≤◌, Bool, false, List, [], ◌++◌, drop, length, take, Option, Some, None}
 use Rattle.sbx_image.specs.Parts.{Parts}
 use Rattle.sbx_session.specs.Going.{Goes, IsAllOf, IsFrontOf}
 use Rattle.geyserpan.specs.declared.image_slot.ImageSlot.{ImageSlot}
@@ -7,7 +7,7 @@ use Rattle.geyserpan.specs.declared.image_slot.Kept.{Kept}
 use Rattle.geyserpan.specs.declared.run_slot.Done.{Done}
 use Rattle.geyserpan.specs.declared.run_slot.Going.{Going}
 use Rattle.geyserpan.specs.declared.run_slot.RunSlot.{RunSlot}
-use Rattle.geyserpan.specs.declared.statuses.TheConstants.{ENDED, HANDLE, LOST}
+use Rattle.geyserpan.specs.declared.statuses.TheConstants.{ENDED, FULL, HANDLE, LOST, OUTPUT, WANTS}
 
 -- The handle holds a run of this image, which has read these bytes so far, and written those.
 abbrev pub Runs : RunSlot → Parts → List ℕ → List ℕ → Type 0
@@ -21,25 +21,52 @@ met_in None = false
 abbrev pub met_of : RunSlot → Bool
 met_of slot = met_in slot.going
 
--- a status that vouches for what a step did
+abbrev pub granted_in : Option Going → ℕ
+granted_in (Some going) = going.granted
+granted_in None = 0
+
+-- how many bytes of output the run is still granted
+abbrev pub granted_of : RunSlot → ℕ
+granted_of slot = granted_in slot.going
+
+abbrev pub turns_in : Option Going → ℕ
+turns_in (Some going) = going.session.board.state.counts.turns
+turns_in None = 0
+
+-- how many turns the board has made since the run began
+abbrev pub turns_of : RunSlot → ℕ
+turns_of slot = turns_in slot.going
+
+-- a status that vouches that the handle still holds a run of its image
 abbrev pub IsVouched : ℕ → Type 0
 IsVouched status = (status ≢ LOST) × (status ≢ HANDLE)
 
 -- A step with a piece of the input, into a room. Of whatever image the handle held a run, which had read and written some bytes: it now
 -- holds one that has read those of the piece behind them, and written those at the front of the room. What was written so far are
--- the first bytes of the image's output on the bytes read so far, and where the run has ended all of it.
+-- the first bytes of the image's output on the bytes read so far, and where the run has ended all of it. What is written is taken off
+-- what is granted.
 pub record StepsSo (old new : RunSlot) (input before after : List ℕ) (done : Done) (status : ℕ) : Type 0 where
   pub read : status ≢ HANDLE → done.read ≤ length input
   pub written : status ≢ HANDLE → done.written ≤ length after
   pub behind : status ≢ HANDLE → drop done.written after ≡ drop done.written before
   pub goes : IsVouched status → (parts : Parts) (so_far all : List ℕ) → Runs old parts so_far all
       → Runs new parts (so_far ++ take done.read input) (all ++ take done.written after)
-  pub front : IsVouched status → (parts : Parts) (so_far all : List ℕ) → Runs old parts so_far all
+  pub front : status ≢ HANDLE → (parts : Parts) (so_far all : List ℕ) → Runs old parts so_far all
       → IsFrontOf parts (so_far ++ take done.read input) (met_of new) (all ++ take done.written after)
   pub whole : status ≡ ENDED → (parts : Parts) (so_far all : List ℕ) → Runs old parts so_far all
       → IsAllOf parts (so_far ++ take done.read input) (met_of new) (all ++ take done.written after) done.exit
   pub empty : status ≡ HANDLE → (old.going ≡ None) × (after ≡ before)
+  pub turns : status ≢ HANDLE → done.turns ≡ turns_of new
+  pub granted : status ≢ HANDLE → done.written + granted_of new ≡ granted_of old
+  pub wants : status ≡ WANTS → done.read ≡ length input
+  pub full : status ≡ FULL → done.written ≡ length after
+  pub output : status ≡ OUTPUT → granted_of new ≡ 0
 
--- the handle holds a run of the image that this one held, which has read and written nothing
+-- the handle holds a run of the kept image, which has read and written nothing, is granted as much output as its terms say, and wasn't
+-- told that its input has ended
+abbrev pub Begins : Kept → RunSlot → Type 0
+Begins kept slot = Runs slot kept.accepted [] [] × (granted_of slot ≡ kept.terms.output) × (met_of slot ≡ false)
+
+-- and this handle held that image
 abbrev pub BeginsOf : ImageSlot → RunSlot → Type 0
-BeginsOf image slot = (kept : Kept) × (image.kept ≡ Some kept) × Runs slot kept.accepted [] []
+BeginsOf image slot = (kept : Kept) × (image.kept ≡ Some kept) × Begins kept slot

@@ -5,8 +5,8 @@ ghost use Rattle.sbx_image.specs.Reading.{reading};
 ghost use Rattle.sbx_flat.specs.Runs.{FlatSafe};
 ghost use Rattle.geyserpan.specs.Denials.{IsAdmitted, IsDenial};
 ghost use Rattle.geyserpan.specs.Facts.{HasFacts};
-ghost use Rattle.geyserpan.specs.Images.{HasFactsOf, HasReportOf, HasRunOf, Holds};
-ghost use Rattle.geyserpan.specs.Reports.{HasReport, HasRun};
+ghost use Rattle.geyserpan.specs.Images.{HasFactsOf, HasReportOf, HasRunOf, Holds, IsTooMuchOf};
+ghost use Rattle.geyserpan.specs.Reports.{HasRunOn, IsTooLongOn, IsTooMuchOn};
 ghost use Rattle.geyserpan.specs.declared.terms.Terms.{Terms};
 
 use crate::admitting::{admit, judge};
@@ -15,7 +15,7 @@ use crate::image_handle::ImageHandle;
 use crate::image_slot::{ImageSlot, Kept};
 use crate::numbers::tell;
 use crate::running::{Report, run_into};
-use crate::statuses::{HANDLE, MEMORY, OK, OUTPUT, ROOM};
+use crate::statuses::{HANDLE, MEMORY, NO_IMAGE, OK, OUTPUT, REFUSED, ROOM};
 use crate::terms::{Terms, Why};
 use std::alloc::Global;
 
@@ -29,6 +29,8 @@ pub extern "C" fn geyserpan_check(
 ) -> u32
     ensures accepted { result ≡ OK → (parts : Parts) × (reading image.now ≡ Ok parts) × FlatSafe parts × HasFacts parts facts.new }
     ensures denied { (terms : Terms) → IsDenial image.now terms result why.new }
+    ensures untold { result ≢ OK → facts.new ≡ facts.old }
+    ensures unsaid { result ≢ NO_IMAGE → result ≢ REFUSED → why.new ≡ why.old }
 {
     match judge(alloc, image) {
         Ok(accepted) => {
@@ -50,12 +52,14 @@ pub extern "C" fn geyserpan_once(
     report: &mut Report,
     why: &mut Why,
 ) -> u32
-    ensures ran { result ≡ OK → (parts : Parts) × IsAdmitted image.now terms.now parts × HasRun parts terms.now.windows input.now room.old room.new report.new }
+    ensures ran { result ≡ OK → HasRunOn image.now terms.now input.now room.old room.new report.new }
     ensures granted { result ≡ OK → report.new.output ≤ terms.now.output }
     ensures stays { result ≢ OK → room.new ≡ room.old }
-    ensures longer { result ≡ OUTPUT → (parts : Parts) × IsAdmitted image.now terms.now parts × HasReport parts terms.now.windows input.now report.new × (terms.now.output < report.new.output) }
-    ensures small { result ≡ ROOM → (parts : Parts) × IsAdmitted image.now terms.now parts × HasReport parts terms.now.windows input.now report.new × (length room.old < report.new.output) }
+    ensures longer { result ≡ OUTPUT → IsTooMuchOn image.now terms.now input.now report.new }
+    ensures small { result ≡ ROOM → IsTooLongOn image.now terms.now input.now room.old report.new }
     ensures denied { IsDenial image.now terms.now result why.new }
+    ensures untold { result ≢ OK → result ≢ ROOM → result ≢ OUTPUT → report.new ≡ report.old }
+    ensures unsaid { result ≢ NO_IMAGE → result ≢ REFUSED → why.new ≡ why.old }
 {
     match admit(alloc, image, terms) {
         Ok(accepted) => run_into(alloc, &accepted, terms, input, room, report),
@@ -65,7 +69,9 @@ pub extern "C" fn geyserpan_once(
 
 /// Makes the handle of an image, which holds none.
 #[unsafe(no_mangle)]
-pub extern "C" fn geyserpan_image_new(alloc: Global, handle: &mut *mut u8) -> u32 {
+pub extern "C" fn geyserpan_image_new(alloc: Global, handle: &mut *mut u8) -> u32
+    ensures stays { result ≢ OK → handle.new ≡ handle.old }
+{
     match Box::new(alloc, ImageSlot { kept: None }) {
         Ok(slot) => {
             let (at, _alloc) = Box::into_raw_with_allocator(slot);
@@ -94,6 +100,7 @@ pub extern "C" fn geyserpan_open(
     ensures opened { result ≡ OK → (parts : Parts) × IsAdmitted image.now terms.now parts × Holds handle.new.value parts terms.now }
     ensures stays { result ≢ OK → handle.new.value ≡ handle.old.value }
     ensures denied { IsDenial image.now terms.now result why.new }
+    ensures unsaid { result ≢ NO_IMAGE → result ≢ REFUSED → why.new ≡ why.old }
 {
     match admit(alloc, image, terms) {
         Ok(accepted) => {
@@ -134,8 +141,9 @@ pub extern "C" fn geyserpan_run_image(
 ) -> u32
     ensures ran { result ≡ OK → HasRunOf handle.old.value input.now room.old room.new report.new }
     ensures stays { result ≢ OK → room.new ≡ room.old }
-    ensures longer { result ≡ OUTPUT → HasReportOf handle.old.value input.now report.new }
+    ensures longer { result ≡ OUTPUT → IsTooMuchOf handle.old.value input.now report.new }
     ensures small { result ≡ ROOM → HasReportOf handle.old.value input.now report.new × (length room.old < report.new.output) }
+    ensures untold { result ≢ OK → result ≢ ROOM → result ≢ OUTPUT → report.new ≡ report.old }
     ensures empty { handle.old.value.kept ≡ None → result ≡ HANDLE }
     ensures kept { handle.new.value ≡ handle.old.value }
 {

@@ -1,6 +1,6 @@
 //! The calls of runs in pieces.
 ghost use Rattle.std.specs.Prelude.{◌≡◌, ◌≢◌, None};
-ghost use Rattle.geyserpan.specs.Runs.{BeginsOf, StepsSo};
+ghost use Rattle.geyserpan.specs.Runs.{BeginsOf, StepsSo, met_of};
 
 use crate::image_handle::ImageHandle;
 use crate::run_handle::RunHandle;
@@ -10,7 +10,9 @@ use std::alloc::Global;
 
 /// Makes the handle of a run, which holds none.
 #[unsafe(no_mangle)]
-pub extern "C" fn geyserpan_run_new(alloc: Global, handle: &mut *mut u8) -> u32 {
+pub extern "C" fn geyserpan_run_new(alloc: Global, handle: &mut *mut u8) -> u32
+    ensures stays { result ≢ OK → handle.new ≡ handle.old }
+{
     match Box::new(alloc, RunSlot { going: None }) {
         Ok(slot) => {
             let (at, _alloc) = Box::into_raw_with_allocator(slot);
@@ -68,7 +70,9 @@ pub extern "C" fn geyserpan_step(
     room: &mut [u8],
     done: &mut Done,
 ) -> u32
-    ensures { StepsSo run.old.value run.new.value input.now room.old room.new done.new result }
+    ensures steps { StepsSo run.old.value run.new.value input.now room.old room.new done.new result }
+    ensures empty { result ≡ HANDLE → (done.new ≡ done.old) × (run.new.value ≡ run.old.value) }
+    ensures met { last ≡ 0 → met_of run.new.value ≡ met_of run.old.value }
 {
     match &mut run.lent().going {
         Some(going) => going.step(turns, input, last != 0, room, done),

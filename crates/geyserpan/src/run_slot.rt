@@ -1,5 +1,5 @@
 //! What the handle of a run in pieces holds.
-ghost use Rattle.std.specs.Prelude.{◌≡◌, ◌≢◌};
+ghost use Rattle.std.specs.Prelude.{◌≡◌, ◌≢◌, ◌<◌, ◌≤◌, false};
 ghost use Rattle.sbx_session.specs.Steps.{IsVouched};
 
 use crate::image_slot::Kept;
@@ -35,16 +35,19 @@ pub struct RunSlot {
     pub going: Option<Going>,
 }
 
-/// The status of a step, and the exit word; `is_cut` tells that the room ended where the terms grant no more.
-fn status_of(stand: Stand, is_cut: bool) -> (u32, u32)
+/// The status of a step, and the exit word; the step might write so many bytes of so much room.
+fn status_of(stand: Stand, most: usize, room: usize) -> (u32, u32)
     ensures vouched { result.0 ≢ LOST → IsVouched stand }
     ensures ended { result.0 ≡ ENDED → stand ≡ Stand.Ended result.1 }
+    ensures wants { result.0 ≡ WANTS → stand ≡ Stand.Wants }
+    ensures full { result.0 ≡ FULL → (stand ≡ Stand.Full) × (room ≤ most) }
+    ensures cut { result.0 ≡ OUTPUT → (stand ≡ Stand.Full) × (most < room) }
     ensures holds { result.0 ≢ HANDLE }
 {
     match stand {
         Stand::Ended(word) => (ENDED, word),
         Stand::Wants => (WANTS, 0),
-        Stand::Full => (if is_cut { OUTPUT } else { FULL }, 0),
+        Stand::Full => (if most < room { OUTPUT } else { FULL }, 0),
         Stand::Paused => (PAUSED, 0),
         Stand::Lost => (LOST, 0),
     }
@@ -62,14 +65,15 @@ impl Going {
         room: &mut [u8],
         done: &mut Done,
     ) -> u32
-        ensures { IsGoingOn self.old self.new input.now room.old room.new done.new result }
+        ensures goes { IsGoingOn self.old self.new input.now room.old room.new done.new result }
+        ensures met { last ≡ false → self.new.session.met ≡ self.old.session.met }
     {
         let most = room.len().min(self.granted as usize);
-        let is_cut = most < room.len();
+        let size = room.len();
         let (front, _behind) = room.split_at_mut(most);
         let step = self.session.step(turns, input, last, front);
         self.granted = self.granted.saturating_sub(step.written as u64);
-        let (status, exit) = status_of(step.stand, is_cut);
+        let (status, exit) = status_of(step.stand, most, size);
         *done = Done {
             turns: self.session.turns(),
             read: step.read as u64,
@@ -82,7 +86,7 @@ impl Going {
 }
 
 impl RunSlot {
-    ghost use Rattle.geyserpan.specs.Goings.{Begins};
+    ghost use Rattle.geyserpan.specs.Runs.{Begins};
 
     /// Begins a run of a kept image on the board that is there, else on a new one.
     pub fn begin(&mut self, alloc: Global, kept: &Kept) -> u32

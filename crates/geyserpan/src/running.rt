@@ -70,6 +70,7 @@ pub fn run_into(
     ensures ran { result ≡ OK → HasRun accepted.now terms.now.windows input.now room.old room.new report.new }
     ensures stays { result ≢ OK → room.new ≡ room.old }
     ensures granted { result ≡ OK → report.new.output ≤ terms.now.output }
+    ensures untold { result ≢ OK → result ≢ ROOM → result ≢ OUTPUT → report.new ≡ report.old }
     ensures longer { result ≡ OUTPUT → HasReport accepted.now terms.now.windows input.now report.new × (terms.now.output < report.new.output) }
     ensures small { result ≡ ROOM → HasReport accepted.now terms.now.windows input.now report.new × (length room.old < report.new.output) }
     ensures denies_not { HasWindows terms.now → (bytes : List ℕ) → (of : Terms) → (why : Why) → IsDenial bytes of result why }

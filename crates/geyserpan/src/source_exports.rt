@@ -1,9 +1,6 @@
 //! The call of sources.
-ghost use Rattle.std.specs.Prelude.{◌≡◌, ◌≢◌, ◌<◌, ◌++◌, Ok, drop, length};
-ghost use Rattle.sbx_image.specs.Spelling.{spelling};
-ghost use Rattle.sbx_image.specs.Parts.{Parts};
-ghost use Rattle.sbx_asm.specs.Images.{source_image};
-ghost use Rattle.geyserpan.specs.Sources.{HasFault, cause_number, line_shown};
+ghost use Rattle.std.specs.Prelude.{◌≡◌, ◌≢◌};
+ghost use Rattle.geyserpan.specs.Sources.{HasFault, HasImage, NeedsMore, TellsCause, cause_number};
 
 use crate::room::put_front;
 use crate::statuses::{MEMORY, OK, ROOM, SOURCE};
@@ -38,9 +35,10 @@ fn cause_number(cause: Cause) -> u32
 
 /// The status of a source's fault. What tells why is written where it is SOURCE.
 fn tell_fault(fault: AsmFault, why: &mut Why) -> u32
-    ensures told { result ≡ SOURCE → (why.new.number ≡ cause_number fault.cause) × (why.new.number ≢ 0) × (why.new.address ≡ line_shown fault.line) }
+    ensures told { result ≡ SOURCE → TellsCause fault why.new }
     ensures faults { result ≢ OK }
     ensures roomy { result ≢ ROOM }
+    ensures stays { result ≢ SOURCE → why.new ≡ why.old }
 {
     let number = cause_number(fault.cause);
     if number == 0 {
@@ -63,10 +61,12 @@ pub extern "C" fn geyserpan_assemble(
     needed: &mut u64,
     why: &mut Why,
 ) -> u32
-    ensures assembled { result ≡ OK → (parts : Parts) × (source_image source.now ≡ Ok parts) × (room.new ≡ spelling parts ++ drop needed.new room.old) × (needed.new ≡ length (spelling parts)) }
+    ensures assembled { result ≡ OK → HasImage source.now room.old room.new needed.new }
     ensures stays { result ≢ OK → room.new ≡ room.old }
-    ensures small { result ≡ ROOM → (parts : Parts) × (source_image source.now ≡ Ok parts) × (needed.new ≡ length (spelling parts)) × (length room.old < needed.new) }
+    ensures small { result ≡ ROOM → NeedsMore source.now room.old needed.new }
     ensures fault { result ≡ SOURCE → HasFault source.now why.new }
+    ensures unneeded { result ≢ OK → result ≢ ROOM → needed.new ≡ needed.old }
+    ensures unsaid { result ≢ SOURCE → why.new ≡ why.old }
 {
     match assemble(alloc, source) {
         Ok(image) => match write(&image, alloc) {

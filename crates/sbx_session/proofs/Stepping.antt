@@ -7,7 +7,7 @@ use Rattle.v8_loaded.specs.Board.{Device}
 use Rattle.v8_board.specs.Seen.{Seen, State, ending_of}
 use Rattle.sbx_image.specs.Parts.{Parts}
 use Rattle.sbx_port.specs.Following.{Fine, with_output}
-use Rattle.sbx_session.specs.Going.{Goes, IsUnderWay}
+use Rattle.sbx_session.specs.Going.{Goes, IsFrontOf, IsUnderWay}
 use Rattle.sbx_session.specs.Steps.{EndsAs, IsStep, StandsSo}
 use Rattle.sbx_session.specs.declared.session.Session.{Session}
 use Rattle.sbx_session.specs.declared.session.Stand.{Stand}
@@ -18,33 +18,40 @@ use Rattle.sbx_session.proofs.UnderWay.{all_of, delivered, front}
 pub stepped : (n : ℕ) (old new : Session n) (input : List ℕ) (last : Bool) (before after : List ℕ) (step : Step)
     → step.read ≤ length input → step.written ≤ length after → drop step.written after ≡ drop step.written before
     → ((parts : Parts) (so_far all : List ℕ) → Goes n parts so_far all old → Goes n parts (so_far ++ take step.read input) (all ++ take step.written after) new)
+    → (last ≡ false → new.met ≡ old.met)
     → ((word : ℕ) → step.stand ≡ Ended word → (ending_of n new.board.state.world ≡ Some (Exit word)) × (new.board.state.world.memory.device.output ≡ []))
     → StandsSo step.stand input last after step → IsStep n old new input last before after step
-stepped n old new input last before after step read written behind goes ends stands = record {
+stepped n old new input last before after step read written behind goes met ends stands = record {
   read = read;
   written = written;
   behind = behind;
   goes = λ vouched. goes;
-  front = λ vouched parts so_far all g.
+  front = λ parts so_far all g.
       front n parts (so_far ++ take step.read input) (all ++ take step.written after) new.left new.met new.board.state (goes parts so_far all g);
   whole = λ word is parts so_far all g.
       (let (ended, empty) = ends word is in
       all_of n parts (so_far ++ take step.read input) (all ++ take step.written after) new.left new.met new.board.state (goes parts so_far all g) word ended empty);
   stands = stands;
+  met = met;
 }
 
--- where nothing is vouched for
-pub lost : (n : ℕ) (old new : Session n) (input : List ℕ) (last : Bool) (before after : List ℕ) (read written : ℕ)
+-- where nothing is vouched for but what was written before: `was` is the last session that was a run
+pub lost : (n : ℕ) (old was new : Session n) (input : List ℕ) (last : Bool) (before after : List ℕ) (read written : ℕ)
     → read ≤ length input → written ≤ length after → drop written after ≡ drop written before
+    → ((parts : Parts) (so_far all : List ℕ) → Goes n parts so_far all old → Goes n parts (so_far ++ take read input) (all ++ take written after) was)
+    → new.met ≡ was.met → (last ≡ false → was.met ≡ old.met)
     → IsStep n old new input last before after (record { read = read; written = written; stand = Lost })
-lost n old new input last before after read written few fits behind = record {
+lost n old was new input last before after read written few fits behind goes met kept = record {
   read = few;
   written = fits;
   behind = behind;
   goes = λ no. absurd no;
-  front = λ no. absurd no;
+  front = λ parts so_far all g.
+      subst (λ (m : Bool). IsFrontOf parts (so_far ++ take read input) m (all ++ take written after)) (sym met)
+      (front n parts (so_far ++ take read input) (all ++ take written after) was.left was.met was.board.state (goes parts so_far all g));
   whole = λ word is. absurd (not_ended word is);
   stands = tt;
+  met = λ no. met ∙ kept no;
 }
   where
     not_ended : (word : ℕ) → Lost ≡ Ended word → ⊥

@@ -1,5 +1,5 @@
 -- Where a run in pieces stands, and what that says of what it has put out.
-use Rattle.std.specs.Prelude.{ℕ, ◌≡◌, ◌+◌, ◌≤◌, Bool, true, List, [], ◌++◌, None}
+use Rattle.std.specs.Prelude.{ℕ, ◌≡◌, ◌+◌, ◌≤◌, Bool, true, false, List, [], ◌++◌, None}
 use Rattle.sbx_image.specs.Parts.{Parts}
 use Rattle.sbx_flat.specs.Runs.{AreBytes, Behaves, FlatSafe, budget}
 use Rattle.sbx_flat.specs.declared.path.Place.{Place}
@@ -58,3 +58,7 @@ pub record IsUnderWay (n : ℕ) (parts : Parts) (read written : List ℕ) (left 
 -- The session is a run of this image, which has read these bytes so far, and written those.
 abbrev pub Goes : (n : ℕ) → Parts → List ℕ → List ℕ → Session n → Type 0
 Goes n parts read written session = IsUnderWay n parts read written session.left session.met session.board.state
+
+-- It is one that has read and written nothing, and wasn't told that its input has ended.
+abbrev pub IsBegun : (n : ℕ) → Parts → Session n → Type 0
+IsBegun n parts session = Goes n parts [] [] session × (session.met ≡ false)

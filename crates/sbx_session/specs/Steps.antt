@@ -17,7 +17,7 @@ EndsAs n now Wants = ⊥
 EndsAs n now Full = ⊥
 EndsAs n now Paused = ⊥
 
--- whether what a step did is vouched for
+-- whether it is vouched for that the session is still a run of its image
 abbrev pub IsVouched : Stand → Type 0
 IsVouched Lost = ⊥
 IsVouched (Ended word) = Unit {0}
@@ -34,16 +34,18 @@ StandsSo Paused input last room step = Unit {0}
 StandsSo Lost input last room step = Unit {0}
 
 -- A step with a piece of the input, into a room: of whatever image the session was a run, which had read and written some bytes, it is one
--- that has read those of the piece behind them, and written those at the front of the room. So what was written so far are the first
--- bytes of the image's output on the bytes read so far, and where it has ended all of it. Behind what was written the room is as it was.
+-- that has read those of the piece behind them, and written those at the front of the room. What was written so far are the first
+-- bytes of the image's output on the bytes read so far, however the step ended, and where the run has ended all of it. Behind what was
+-- written the room is as it was. That its input has ended it is told behind the last piece alone.
 pub record IsStep (n : ℕ) (old new : Session n) (input : List ℕ) (last : Bool) (before after : List ℕ) (step : Step) : Type 0 where
   pub read : step.read ≤ length input
   pub written : step.written ≤ length after
   pub behind : drop step.written after ≡ drop step.written before
   pub goes : IsVouched step.stand → (parts : Parts) (so_far all : List ℕ) → Goes n parts so_far all old
       → Goes n parts (so_far ++ take step.read input) (all ++ take step.written after) new
-  pub front : IsVouched step.stand → (parts : Parts) (so_far all : List ℕ) → Goes n parts so_far all old
+  pub front : (parts : Parts) (so_far all : List ℕ) → Goes n parts so_far all old
       → IsFrontOf parts (so_far ++ take step.read input) new.met (all ++ take step.written after)
   pub whole : (word : ℕ) → step.stand ≡ Ended word → (parts : Parts) (so_far all : List ℕ) → Goes n parts so_far all old
       → IsAllOf parts (so_far ++ take step.read input) new.met (all ++ take step.written after) word
   pub stands : StandsSo step.stand input last after step
+  pub met : last ≡ false → new.met ≡ old.met

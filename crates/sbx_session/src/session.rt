@@ -18,7 +18,8 @@ pub enum Stand {
     Full,
     /// As many turns as were allowed are made.
     Paused,
-    /// The board has read what nobody gave it, or has ended otherwise than by an exit. No turn of an accepted image does either.
+    /// The board has read what nobody gave it, or has ended otherwise than by an exit. No turn of an accepted image does either. What
+    /// was written so far is the image's all the same.
     Lost,
 }
 
@@ -43,13 +44,13 @@ impl<const N: usize> Session<N> {
     ghost use Rattle.v8_board.specs.Seen.{ending_of};
     ghost use Rattle.sbx_image.specs.Parts.{Parts};
     ghost use Rattle.sbx_port.specs.Ports.{unknown};
-    ghost use Rattle.sbx_session.specs.Going.{Goes};
+    ghost use Rattle.sbx_session.specs.Going.{Goes, IsBegun};
     ghost use Rattle.sbx_session.specs.Steps.{EndsAs, IsStep};
 
     /// Begins a run of an accepted image on a new board.
     pub fn new(alloc: Global, accepted: &Accepted) -> Result<Self, AllocError>
         requires { (4 ≤ N) × (N ≤ 32) }
-        ensures { IfOk result (Goes N accepted.now [] []) }
+        ensures { IfOk result (IsBegun N accepted.now) }
     {
         let image = accepted.image();
         tells_limits(image);
@@ -65,7 +66,7 @@ impl<const N: usize> Session<N> {
     /// Begins a run of an accepted image on the board that is there. What the runs before left in registers, Y and the stack stays, and
     /// no accepted image can tell.
     pub fn restart(&mut self, accepted: &Accepted)
-        ensures { Goes N accepted.now [] [] self.new }
+        ensures { IsBegun N accepted.now self.new }
     {
         let image = accepted.image();
         tells_limits(image);
@@ -94,6 +95,7 @@ impl<const N: usize> Session<N> {
         ensures same { IfSome result (λ now. (self.new.left ≡ self.old.left) × (self.new.board.state.world.memory.device.input ≡ self.old.board.state.world.memory.device.input)) }
         ensures kept { IsNone result → (self.new ≡ self.old) × (room.new ≡ room.old) }
         ensures full { IsNone result → written ≡ length room.old }
+        ensures met { self.new.met ≡ self.old.met }
     {
         deliver(&mut self.board, room, written)
     }
@@ -109,6 +111,7 @@ impl<const N: usize> Session<N> {
         ensures within { IfSome result (λ now. now ≤ length input.now) }
         ensures served { IfSome result (λ now. (self.new.board.failed ≡ 0) × (self.new.board.state.world.memory.device.output ≡ [])) }
         ensures same { IfSome result (λ now. self.new.left ≡ self.old.left) }
+        ensures met { last ≡ false → self.new.met ≡ self.old.met }
         ensures kept { IsNone result → self.new ≡ self.old }
         ensures wants { IsNone result → (read ≡ length input.now) × (last ≡ false) }
     {
@@ -150,6 +153,7 @@ impl<const N: usize> Session<N> {
         ensures lacks { IfSome result (λ slice. slice.lacks ≡ true → self.new.board.state.world.memory.device.input ≡ unknown) }
         ensures within { IfSome result (λ slice. slice.turns ≤ most) }
         ensures left { IfSome result (λ slice. self.new.left ≡ self.old.left - slice.turns) }
+        ensures met { self.new.met ≡ self.old.met }
     {
         let slice = advance(&mut self.board, most);
         self.left -= slice.turns;

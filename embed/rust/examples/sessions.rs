@@ -19,8 +19,10 @@ impl Client {
         let step = self.session.step(1000, piece, last, &mut room)?;
         self.read += step.read;
         self.output.extend_from_slice(&room[..step.written]);
-        if let Stand::Ended(word) = step.stand {
-            self.exit = Some(word);
+        match step.stand {
+            Stand::Ended(word) => self.exit = Some(word),
+            Stand::Output => return Err(geyserpan::Fault::Output),
+            Stand::Wants | Stand::Full | Stand::Paused => {}
         }
         Ok(())
     }

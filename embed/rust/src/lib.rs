@@ -226,6 +226,8 @@ pub enum Stand {
     Full,
     /// The turns are made.
     Paused,
+    /// There is more to put out than is granted: what is granted was put out.
+    Output,
 }
 
 /// What a step did: how many bytes of the piece were read, how many stand at the front of the room, the turns of the run so far, and why
@@ -280,6 +282,7 @@ impl Session {
             9 => Stand::Wants,
             10 => Stand::Full,
             11 => Stand::Paused,
+            14 => Stand::Output,
             _ => return Err(Fault::of(status, raw::Why::default(), 0)),
         };
         Ok(Step { read: done.read as usize, written: done.written as usize, turns: done.turns, stand })

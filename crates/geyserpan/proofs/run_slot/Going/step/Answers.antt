@@ -5,8 +5,11 @@ use Rattle.geyserpan.specs.declared.run_slot.Going.{Going}
 use Rattle.geyserpan.proofs.SteppedOn.{stepped_on}
 use Rattle.geyserpan.proofs.run_slot.Going.step.Goals as goal
 
-pub returns : goal.returns
-returns c =
+pub returns-clause-met : goal.returns-clause-met
+returns-clause-met c = c.step-step.ensures.met
+
+pub returns-clause-goes : goal.returns-clause-goes
+returns-clause-goes c =
     let room = c.args.room.now in
     let front = c.split_at_mut-front.result.0.now in
     let rest = c.split_at_mut-front.result.1.now in
@@ -17,5 +20,11 @@ returns c =
     let was : room ≡ front ++ rest =
     sym (ap (λ (l : List ℕ). l ++ rest) c.split_at_mut-front.ensures.front ∙ ap (λ (l : List ℕ). take most room ++ l) c.split_at_mut-front.ensures.back ∙ take-append-drop most room) in
     let long : length front ≡ length after = (let kept = c.step-step.auto.room in omega (arith, kept)) in
-    stepped_on c.args.self.now new c.args.input.now room (after ++ rest) front after rest c.args.last c.step-step.result done c.status_of-status.result.0
-    c.step-step.ensures was refl long refl refl c.status_of-status.ensures.vouched c.status_of-status.ensures.ended c.status_of-status.ensures.holds
+    let least = c.min-most.ensures in
+    let size = c.split_at_mut-front.ensures.front_len in
+    let told = c.status_of-status.ensures in
+    stepped_on c.args.self.now new c.args.input.now room (after ++ rest) front after rest c.args.last c.step-step.result done
+    c.status_of-status.result.0 c.step-step.ensures was refl long refl refl told.vouched told.ended told.holds
+    c.turns.ensures (omega (arith, least, size)) c.saturating_sub-self.ensures told.wants
+    (λ filled. (let (stand, fits) = told.full filled in (stand, omega (arith, least, size, fits))))
+    (λ ends. (let (stand, fits) = told.cut ends in (stand, omega (arith, least, size, fits))))

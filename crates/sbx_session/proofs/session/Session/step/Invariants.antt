@@ -1,4 +1,4 @@
-use Rattle.std.proofs.Common.{◌≡◌, ◌≤◌, ◌++◌, ℕ, List, drop, length, take, true}
+use Rattle.std.proofs.Common.{◌≡◌, ◌≤◌, ◌++◌, ℕ, List, drop, length, take, true, false}
 use Rattle.sbx_image.specs.Parts.{Parts}
 use Rattle.sbx_port.specs.Ports.{unknown}
 use Rattle.sbx_session.specs.Going.{Goes}
@@ -13,5 +13,6 @@ invariant-rounds g l = record {
   written : l.written ≤ length l.room;
   behind : drop l.written l.room ≡ drop l.written l.initial.room;
   left : l.left ≤ l.self.left;
+  met : l.last ≡ false → l.self.met ≡ l.initial.self.met;
   waits : l.lacks ≡ true → l.self.board.state.world.memory.device.input ≡ unknown;
 }
