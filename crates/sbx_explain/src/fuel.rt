@@ -105,6 +105,14 @@ fn push_budget(
     push_budget_sides(out, sides.budget, &sides.fuel, beginning)
 }
 
+/// What is said where a way lacks fuel that leads to its own block or an earlier one.
+const LOOP: &str =
+    "  this way closes a loop: fuel has to fall from round to round, by a term that counts the rounds\n";
+
+fn closes_loop(spot: &Spot, going: Going) -> bool {
+    matches!(going, Going::To(block) if block <= spot.block)
+}
+
 /// A way to another block, whose fuel the block's own has to last for besides its turns.
 fn push_edge(
     out: &mut String,
@@ -122,7 +130,12 @@ fn push_edge(
     push_sum(out, ", whose fuel is ", edge.next.constant, terms)?;
     out.push_str("\n")?;
     push_arrived(out, terms, edge.there)?;
-    push_edge_sides(out, edge, weight)
+    let is_short = push_edge_sides(out, edge, weight)?;
+    if is_short && closes_loop(spot, going) {
+        out.push_str(LOOP)
+    } else {
+        Ok(())
+    }
 }
 
 /// A way that leads to another block, if it does.

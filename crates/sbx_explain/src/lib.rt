@@ -5,7 +5,6 @@ mod arrivals;
 mod depths;
 mod folded;
 mod fuel;
-mod reads;
 mod room;
 mod rules;
 mod sides;

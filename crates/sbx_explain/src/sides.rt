@@ -147,21 +147,22 @@ fn push_next(out: &mut String, edge: &Edge<'_>, weight: u64) -> Result<i128, All
 }
 
 /// Ends the line of the greater side, with an arrow and how much is lacking where it is greater.
-fn push_verdict(out: &mut String, there: i128, asked: i128) -> Result<(), AllocError> {
+fn push_verdict(out: &mut String, there: i128, asked: i128) -> Result<bool, AllocError> {
     if asked > there {
         let lacking = asked.saturating_sub(there);
-        writeln!(out, "   <- {lacking} too few")
+        writeln!(out, "   <- {lacking} too few")?;
     } else {
-        out.push_str("\n")
+        out.push_str("\n")?;
     }
+    Ok(asked > there)
 }
 
-/// The two sides of the rule of fuel on a way to another block.
+/// The two sides of the rule of fuel on a way to another block; gives whether there is too little.
 pub(crate) fn push_edge_sides(
     out: &mut String,
     edge: &Edge<'_>,
     weight: u64,
-) -> Result<(), AllocError> {
+) -> Result<bool, AllocError> {
     let there = push_worked(out, AT_WORST, edge.fuel, Numbers::Began(edge))?;
     let asked = push_next(out, edge, weight)?;
     push_verdict(out, there, asked)
@@ -178,7 +179,8 @@ pub(crate) fn push_end_sides(
     let there = push_worked(out, AT_WORST, &sides.fuel, Numbers::Least(beginning))?;
     let weight = sides.weight;
     write!(out, "\n  and asked for are   {weight}")?;
-    push_verdict(out, there, i128::from(weight))
+    push_verdict(out, there, i128::from(weight))?;
+    Ok(())
 }
 
 /// A function's budget beside its first block's fuel.
@@ -198,5 +200,6 @@ pub(crate) fn push_budget_sides(
         fuel,
         Numbers::Greatest(beginning),
     )?;
-    push_verdict(out, i128::from(budget), asked)
+    push_verdict(out, i128::from(budget), asked)?;
+    Ok(())
 }

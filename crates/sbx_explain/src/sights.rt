@@ -4,7 +4,6 @@ ghost use Rattle.sbx_known.specs.Courses.{IsWell};
 ghost use Rattle.sbx_known.specs.Spots.{IsSpot};
 ghost use Rattle.sbx_inspect.specs.Sights.{IsSeen};
 
-use crate::reads::{Registers, registers_read};
 use crate::values::Known;
 use sbx_declare::Location;
 use sbx_domain::State;
@@ -12,6 +11,7 @@ use sbx_faults::{frame_word_read, reads_codes, reads_y};
 use sbx_image::{Image, Range};
 use sbx_inspect::Sight;
 use sbx_known::{Course, Going, Spot, block_at, function_at};
+use sbx_reasons::{Registers, registers_read};
 use std::alloc::AllocError;
 
 /// The words that begin what is told of a way, with where it leads.

@@ -18,6 +18,7 @@ use sbx_declare::{push_depth, push_function_head, push_numbered, push_params, pu
 use sbx_image::Image;
 use sbx_inspect::{NotKnown, Sight, known_at};
 use sbx_known::{Spot, block_at, function_at};
+use sbx_reasons::push_reason;
 use sbx_rules::{Cause, Refusal};
 use sbx_verify::verify;
 use std::alloc::{AllocError, Global};
@@ -96,6 +97,25 @@ fn push_seen(out: &mut String, image: &Image, address: u32, sight: &Sight) -> Re
     push_sight(out, image, sight)
 }
 
+/// What the rule asks for in words, with the values of the word, below a blank line where there is something to tell.
+fn push_reasoned(
+    alloc: Global,
+    out: &mut String,
+    image: &Image,
+    refusal: Refusal,
+    sight: &Sight,
+) -> Result<(), AllocError>
+    requires { IsSeen image.now sight.now }
+{
+    let mut reason = String::new(alloc);
+    push_reason(&mut reason, image, refusal.cause, refusal.address, sight)?;
+    if reason.is_empty() {
+        return Ok(());
+    }
+    out.push_str("\n")?;
+    out.push_str(reason.as_str())
+}
+
 /// What explains a refusal at a word.
 fn push_known(
     alloc: Global,
@@ -107,6 +127,7 @@ fn push_known(
     requires { IsSeen image.now sight }
 {
     push_seen(out, image, refusal.address, &sight)?;
+    push_reasoned(alloc, out, image, refusal, &sight)?;
     push_asked(alloc, out, image, refusal.cause, sight)
 }
 

@@ -12,7 +12,7 @@ use v8_meaning::{Exchange, MemoryOperand, Operation, Transfer, odd_of};
 use v8_word::{Reg, Size};
 
 /// Registers by number.
-pub(crate) type Registers = ArrayVec<u8, 8>;
+pub type Registers = ArrayVec<u8, 8>;
 
 fn push(registers: &mut Registers, register: Reg)
     requires { array_vec_len registers.old < 8 }
@@ -72,9 +72,10 @@ fn push_service(registers: &mut Registers, service: Option<u32>)
     }
 }
 
-/// The registers that an operation of a function reads, but for forms of their own: SAVE, CALL, `ret`, `retl`, and frame words.
+/// The registers that an operation of a function reads, but for forms of their own: SAVE, CALL, `ret`, `retl`, and
+/// words of the frame.
 #[tactic(auto, unfolding(sbx_rules::specs::Operations::reads_of))]
-pub(crate) fn registers_read(function: &Function, operation: &Operation) -> Registers
+pub fn registers_read(function: &Function, operation: &Operation) -> Registers
     ensures { result.items ≡ reads_of function.now operation.now }
 {
     let mut registers = Registers::new();
