@@ -2,8 +2,9 @@
 //! which it is.
 use fit_code::{Block, End, Fault, Function, Line, Step};
 use fit_plain::push_step;
-use fit_points::{
-    Flow, Points, bit_of, fields_of, frame_of, is_nop, operands_read, sets_codes, written,
+use fit_points::{Flow, Points, is_nop};
+use fit_slots::{
+    behind_mark, flow_at, frame_and_start, leads_of, line_at, may_go_before, restore_at, slot_of,
 };
 use std::alloc::Global;
 use v8_formats::{Instr, Operand, Three};
@@ -25,23 +26,6 @@ struct Builder<'b> {
     function: Function,
 }
 
-/// Whether the slot of a branch may run before it: it doesn't set the codes, and doesn't write what the last
-/// compare before it read.
-fn may_go_before(slot: &Step, steps: &[Step]) -> bool {
-    if sets_codes(&slot.instr) {
-        return false;
-    }
-    let mut compared = 0;
-    for step in steps {
-        if sets_codes(&step.instr)
-            && let Some(fields) = fields_of(&step.instr)
-        {
-            compared = operands_read(&fields) | bit_of(fields.rd);
-        }
-    }
-    written(&slot.instr) & compared == 0
-}
-
 impl Builder<'_> {
     fn alloc(&self) -> Global {
         *self.function.blocks.allocator()
@@ -53,24 +37,8 @@ impl Builder<'_> {
             Some(Some(number)) => Ok(*number),
             _ => Err(
                 self.points
-                    .fault(line, "a transfer into a delay slot's place"),
+                    .fault(line, "a transfer to what stands before SAVE"),
             ),
-        }
-    }
-
-    fn flow(&self, place: usize) -> Option<Flow> {
-        self.points.list.get(place).map(|point| point.flow)
-    }
-
-    /// What stands in the delay slot behind a place, if it does something.
-    fn slot(&self, place: usize, line: Line) -> Result<Option<Step>, Fault> {
-        let Some(point) = self.points.list.get(place.saturating_add(1)) else {
-            return Err(self.points.fault(line, "a transfer without a delay slot"));
-        };
-        match point.flow {
-            Flow::On if is_nop(&point.step.instr) => Ok(None),
-            Flow::On => Ok(Some(point.step)),
-            _ => Err(self.points.fault(line, "a transfer in a delay slot")),
         }
     }
 
@@ -119,10 +87,10 @@ impl Builder<'_> {
         annul: bool,
         to: usize,
     ) -> Result<(), Fault> {
-        let line = self.line(place);
+        let line = line_at(self.points, place);
         let mut taken = self.at(to, line)?;
         let mut next = self.at(place.saturating_add(2), line)?;
-        if let Some(slot) = self.slot(place, line)? {
+        if let Some(slot) = slot_of(self.points, place, line)? {
             if !annul && self.may_take(block, &slot) {
                 self.push(block, slot)?;
             } else {
@@ -144,11 +112,11 @@ impl Builder<'_> {
         annul: bool,
         to: usize,
     ) -> Result<(), Fault> {
-        let line = self.line(place);
+        let line = line_at(self.points, place);
         match cond {
             Cond::Never => Err(self.points.fault(line, "a branch that is never taken")),
             Cond::Always => {
-                if !annul && let Some(slot) = self.slot(place, line)? {
+                if !annul && let Some(slot) = slot_of(self.points, place, line)? {
                     self.push(block, slot)?;
                 }
                 let to = self.at(to, line)?;
@@ -159,28 +127,10 @@ impl Builder<'_> {
         }
     }
 
-    fn line(&self, place: usize) -> Line {
-        match self.points.list.get(place) {
-            Some(point) => point.step.line,
-            None => self.points.line,
-        }
-    }
-
-    /// The fields of the RESTORE at a place.
-    fn restore_at(&self, place: usize) -> Option<Three> {
-        match self.points.list.get(place) {
-            Some(point) => match point.step.instr {
-                Instr::Restore(fields) => Some(fields),
-                _ => None,
-            },
-            None => None,
-        }
-    }
-
     /// A jump by %i7, with RESTORE in its slot.
     fn return_framed(&mut self, block: usize, place: usize) -> Result<(), Fault> {
-        let line = self.line(place);
-        let Some(fields) = self.restore_at(place.saturating_add(1)) else {
+        let line = line_at(self.points, place);
+        let Some(fields) = restore_at(self.points, place.saturating_add(1)) else {
             return Err(
                 self.points
                     .fault(line, "a return without RESTORE in its slot"),
@@ -192,11 +142,11 @@ impl Builder<'_> {
 
     /// RESTORE, and behind it a jump by %o7 with nothing in its slot.
     fn return_restored(&mut self, block: usize, place: usize) -> Result<(), Fault> {
-        let line = self.line(place);
+        let line = line_at(self.points, place);
         let behind = place.saturating_add(1);
-        if let Some(Flow::Return { framed: false }) = self.flow(behind)
-            && let Some(fields) = self.restore_at(place)
-            && self.slot(behind, line)?.is_none()
+        if let Some(Flow::Return { framed: false }) = flow_at(self.points, behind)
+            && let Some(fields) = restore_at(self.points, place)
+            && slot_of(self.points, behind, line)?.is_none()
         {
             self.finish(block, End::Return(fields), line);
             return Ok(());
@@ -209,14 +159,14 @@ impl Builder<'_> {
 
     /// A jump by %o7 in a function without a window.
     fn return_leaf(&mut self, block: usize, place: usize) -> Result<(), Fault> {
-        let line = self.line(place);
+        let line = line_at(self.points, place);
         if self.function.framed {
             return Err(
                 self.points
                     .fault(line, "a jump by %o7 without RESTORE before it"),
             );
         }
-        if let Some(slot) = self.slot(place, line)? {
+        if let Some(slot) = slot_of(self.points, place, line)? {
             self.push(block, slot)?;
         }
         self.finish(block, End::Return(PLAIN), line);
@@ -225,18 +175,10 @@ impl Builder<'_> {
 
     /// What stands in a call's slot is done before the call.
     fn call(&mut self, block: usize, place: usize, step: Step) -> Result<(), Fault> {
-        if let Some(slot) = self.slot(place, step.line)? {
+        if let Some(slot) = slot_of(self.points, place, step.line)? {
             self.push(block, slot)?;
         }
         self.push(block, step)
-    }
-
-    /// The constant behind a call that gives a struct says nothing here.
-    fn mark(&self, place: usize, line: Line) -> Result<Option<usize>, Fault> {
-        match place.checked_sub(2).and_then(|call| self.flow(call)) {
-            Some(Flow::Call) => Ok(Some(place.saturating_add(1))),
-            _ => Err(self.points.fault(line, "UNIMP that isn't behind a call")),
-        }
     }
 
     /// Takes in the instruction at a place; says whether the block goes on, and at which place.
@@ -252,7 +194,7 @@ impl Builder<'_> {
                 }
                 return Ok(Some(place.saturating_add(1)));
             }
-            Flow::Mark => return self.mark(place, step.line),
+            Flow::Mark => return behind_mark(self.points, place, step.line),
             Flow::Call => {
                 self.call(block, place, step)?;
                 return Ok(Some(place.saturating_add(2)));
@@ -303,7 +245,7 @@ impl Builder<'_> {
                 && let Some(Some(number)) = self.numbers.get(place)
             {
                 let to = *number;
-                let line = self.line(place);
+                let line = line_at(self.points, place);
                 self.finish(block, End::Jump(to), line);
                 return Ok(());
             }
@@ -319,102 +261,6 @@ impl Builder<'_> {
 /// %o0.
 pub fn result_register() -> Reg {
     Reg::new(8).unwrap_or(Reg::G0)
-}
-
-/// Marks a place, if there is one.
-fn lead(leads: &mut [bool], place: usize) {
-    if let Some(found) = leads.get_mut(place) {
-        *found = true;
-    }
-}
-
-/// For each place whether a block begins there: at the start, where branches go, and behind the slots of those that may
-/// not be taken.
-fn leads_of(alloc: Global, points: &Points, start: usize) -> Result<Vec<bool>, Fault> {
-    let count = points.list.len().saturating_add(1);
-    let mut leads = vec![in alloc; false; count]?;
-    lead(leads.as_mut_slice(), start);
-    for (place, point) in points.list.iter().enumerate() {
-        match point.flow {
-            Flow::Branch { cond, to, .. } => {
-                lead(leads.as_mut_slice(), to);
-                if cond != Cond::Always {
-                    lead(leads.as_mut_slice(), place.saturating_add(2));
-                }
-            }
-            _ => {}
-        }
-    }
-    Ok(leads)
-}
-
-/// Where SAVE stands, if there is one.
-fn save_place(points: &Points) -> Option<usize> {
-    points
-        .list
-        .iter()
-        .position(|point| matches!(point.flow, Flow::Save))
-}
-
-/// The number that instructions before SAVE leave in a register, where they do nothing else.
-fn number_before(points: &Points, save: usize, register: Reg) -> Option<u32> {
-    let mut known = None;
-    for point in points.list.iter().take(save) {
-        match point.step.instr {
-            Instr::Sethi(upper) if upper.rd == register => {
-                known = Some(upper.imm22.wrapping_mul(0x400));
-            }
-            Instr::Or(fields) | Instr::Add(fields) if fields.rd == register => {
-                let Operand::Immediate(number) = fields.operand2 else {
-                    return None;
-                };
-                known = if fields.rs1 == Reg::G0 {
-                    Some(number)
-                } else if fields.rs1 == register {
-                    known.map(|before: u32| before.wrapping_add(number))
-                } else {
-                    None
-                };
-            }
-            _ => return None,
-        }
-    }
-    known
-}
-
-/// The number that a SAVE adds.
-fn number_saved(points: &Points, save: usize, instr: &Instr) -> Option<u32> {
-    match instr {
-        Instr::Save(fields) => number_added(points, save, fields),
-        _ => None,
-    }
-}
-
-/// The second operand of SAVE as a number.
-fn number_added(points: &Points, save: usize, fields: &Three) -> Option<u32> {
-    match fields.operand2 {
-        Operand::Register(register) => number_before(points, save, register),
-        Operand::Immediate(number) if save == 0 => Some(number),
-        Operand::Immediate(_) => None,
-    }
-}
-
-/// The frame of a function, and where its instructions begin.
-fn frame_and_start(points: &Points) -> Result<(Option<u32>, usize), Fault> {
-    let Some(save) = save_place(points) else {
-        return Ok((None, 0));
-    };
-    let Some(point) = points.list.get(save) else {
-        return Ok((None, 0));
-    };
-    let known = number_saved(points, save, &point.step.instr);
-    match frame_of(&point.step.instr, known) {
-        Some(frame) if known.is_some() => Ok((Some(frame), save.saturating_add(1))),
-        _ => Err(points.fault(
-            point.step.line,
-            "a frame of unknown size, or instructions before SAVE",
-        )),
-    }
 }
 
 /// The numbers of blocks at the places that they begin at, with empty blocks for them.
