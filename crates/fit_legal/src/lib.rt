@@ -2,7 +2,6 @@
 //! data laid out, functions in the order of their calls.
 #![tactic(auto)]
 
-mod calls;
 mod program;
 
 pub use program::program_of;

@@ -1,7 +1,7 @@
 //! The program of a source.
-use crate::calls::order_of_calls;
 use fit_arguments::{Arguments, place_arguments};
 use fit_blocks::{function_of, result_register};
+use fit_calls::order_of_calls;
 use fit_code::{End, Fault, Function, NO_LINE, Program, Reason, Step};
 use fit_codes::{prune, repeat_compares};
 use fit_frames::place_frame;
