@@ -1,0 +1,6 @@
+//! The blocks of functions that compilers wrote, without delay slots.
+#![tactic(auto)]
+
+mod blocks;
+
+pub use blocks::{function_of, result_register};

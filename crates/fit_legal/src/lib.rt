@@ -1,0 +1,7 @@
+//! Makes a program of code that compilers wrote: blocks without delay slots, what the rules forbid put otherwise,
+//! data laid out, functions in the order of their calls.
+#![tactic(auto)]
+
+mod program;
+
+pub use program::program_of;
