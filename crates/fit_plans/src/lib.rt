@@ -1,0 +1,15 @@
+//! Run-time tests: what they ask for, as notes to the author, and their blocks, of an address, by the register that it
+//! is worked out from, and of a divisor.
+#![tactic(auto)]
+
+mod divide;
+mod insert;
+mod plan;
+mod shown;
+mod test;
+
+pub use divide::push_divisor_test;
+pub use insert::Frame;
+pub use plan::{Plan, Way, plan_of};
+pub use shown::Shown;
+pub use test::{Kind, Test};

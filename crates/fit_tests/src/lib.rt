@@ -1,0 +1,9 @@
+//! Run-time tests of what isn't shown: a compare, and a branch to an end of the run whose exit word tells kind and
+//! line. Nothing rests on them, since the verifier asks all again.
+#![tactic(auto)]
+
+mod answers;
+mod settle;
+
+pub use answers::{Options, Tests};
+pub use fit_plans::{Kind, Shown, Test};
