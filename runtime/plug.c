@@ -58,10 +58,11 @@ u64 __muldi3(u64 a, u64 b) { return (u64)low(a) * low(b) + joined(low(a) * high(
 static u64 divided(u64 n, u64 by, u64 *rest) {
     u64 quotient = 0, left = 0;
     for (int i = 0; i < 64; i++) {
+        u32 carry = high(left) >> 31;
         left = left << 1 | high(n) >> 31;
         n <<= 1;
         quotient <<= 1;
-        if (left >= by) {
+        if (carry || left >= by) {
             left -= by;
             quotient |= 1;
         }

@@ -1,4 +1,4 @@
-/* stopped */
+/* stopped: index */
 #include "plug.h"
 static unsigned char name[32];
 int main(void) {

@@ -1,30 +1,14 @@
-/* What random programs take from csmith.h, over the three services. Compiled with -DQEMU over Linux's. */
+/* What random programs take from csmith.h, over the three services of plug.h: runtime's, or that of tests/c/qemu. */
 #ifndef CSMITH_H
 #define CSMITH_H
+#include <float.h>
 #include <stdint.h>
 #define INT_MAX 2147483647
 #define INT_MIN (-INT_MAX - 1)
 #define CHAR_BIT 8
 #define LONG_MIN (-2147483647L - 1)
 #define LONG_MAX 2147483647L
-#ifdef QEMU
-static long system_call(long number, long a, long b, long c) {
-    register long g1 __asm__("g1") = number, o0 __asm__("o0") = a, o1 __asm__("o1") = b, o2 __asm__("o2") = c;
-    __asm__ volatile("ta 0x10" : "+r"(o0) : "r"(g1), "r"(o1), "r"(o2) : "memory", "cc");
-    return o0;
-}
-static inline void put(int v) {
-    unsigned char c = v;
-    system_call(4, 1, (long)&c, 1);
-}
-int main(void);
-void _start(void) {
-    system_call(1, main() != 0, 0, 0);
-    __builtin_unreachable();
-}
-#else
 #include "plug.h"
-#endif
 #define STATIC static
 #define UNDEFINED(x) (x)
 #define LOG_INDEX
