@@ -13,7 +13,7 @@ fn lead(leads: &mut [bool], place: usize) {
 }
 
 /// For each place whether a block begins there: at the start, where branches go, and behind the slots of those that may
-/// not be taken.
+/// not be taken. None begins before the start.
 pub fn leads_of(alloc: Global, points: &Points, start: usize) -> Result<Vec<bool>, Fault> {
     let count = points.list.len().saturating_add(1);
     let mut leads = vec![in alloc; false; count]?;
@@ -21,7 +21,7 @@ pub fn leads_of(alloc: Global, points: &Points, start: usize) -> Result<Vec<bool
     for (place, point) in points.list.iter().enumerate() {
         match point.flow {
             Flow::Branch { cond, to, .. } => {
-                lead(leads.as_mut_slice(), to);
+                lead(leads.as_mut_slice(), to.max(start));
                 if cond != Cond::Always {
                     lead(leads.as_mut_slice(), place.saturating_add(2));
                 }

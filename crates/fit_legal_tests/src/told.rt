@@ -1,0 +1,79 @@
+//! What is told of sources.
+use fit_code::{Block, End, Fault, Function, Program};
+use fit_gas::Source;
+use fit_legal::program_of;
+use std::alloc::{AllocError, Global};
+use std::process::Abort;
+use v8_formats::encode;
+
+fn push_end(text: &mut String, end: End) -> Result<(), AllocError> {
+    match end {
+        End::Jump(to) => write!(text, ">{to}"),
+        End::Branch { taken, next, .. } => write!(text, "?{taken},{next}"),
+        End::Return(_) => text.push_str("."),
+        End::Exit => text.push_str("!"),
+    }
+}
+
+/// The words of a block's steps, and its end.
+fn push_block(text: &mut String, block: &Block) -> Result<(), AllocError> {
+    for step in block.steps.as_slice() {
+        let word = encode(&step.instr);
+        write!(text, " {word:08x}")?;
+    }
+    text.push_str(" ")?;
+    push_end(text, block.end)
+}
+
+fn push_function(text: &mut String, function: &Function) -> Result<(), AllocError> {
+    let name = function.name.as_str();
+    write!(text, "{name} {}:", function.frame)?;
+    for block in function.blocks.as_slice() {
+        push_block(text, block)?;
+    }
+    text.push_str("\n")
+}
+
+fn program_told(alloc: Global, program: &Program) -> Result<String, AllocError> {
+    let mut text = String::new(alloc);
+    for function in program.functions.as_slice() {
+        push_function(&mut text, function)?;
+    }
+    Ok(text)
+}
+
+fn fault_told(alloc: Global, source: &Source, fault: &Fault) -> Result<String, AllocError> {
+    let shown = fault.shown(source.files.as_slice());
+    format!(in alloc; "{shown}")
+}
+
+/// What each source begins with.
+const HEAD: &str = ".global main\n.type main,#function\n.type f,#function\nmain:\n";
+
+/// The program of one file, which has this behind `main:`.
+fn made(alloc: Global, source: &mut Source, body: &str) -> Result<Program, Fault> {
+    let mut text = String::from_str(alloc, HEAD)?;
+    text.push_str(body)?;
+    source.read("t.s", text.as_bytes())?;
+    program_of(alloc, source, "main")
+}
+
+/// Whether this is told of a program, or is why there is none.
+fn tells(alloc: Global, body: &str, wanted: &str) -> bool {
+    let mut source = Source::new(alloc);
+    let told = match made(alloc, &mut source, body) {
+        Ok(program) => program_told(alloc, &program),
+        Err(fault) => fault_told(alloc, &source, &fault),
+    };
+    match told {
+        Ok(told) => told.as_str() == wanted,
+        Err(AllocError) => false,
+    }
+}
+
+/// Asserts that each row is told.
+pub(crate) fn are_told(rt: &impl Abort, alloc: Global, rows: &[(&str, &str)]) {
+    for (body, wanted) in rows {
+        assert!(rt; tells(alloc, body, wanted), "{body}");
+    }
+}
