@@ -17,6 +17,8 @@ use v8_formats::{Instr, Operand, Three};
 pub struct Options {
     /// Whether an access has to lie in the object that its base names, and not only in the data.
     pub by_object: bool,
+    /// Whether tests that turn out not to be needed go again.
+    pub drops: bool,
 }
 
 /// An end of the run, for tests of one kind that stand in one line of a function.
@@ -232,7 +234,8 @@ impl Tests {
         Ok(block)
     }
 
-    /// Makes a location 0 at the entry of a function, where it may be read before it is written.
+    /// Makes a location 0 at the entry of a function, where it may be read before it is written. Other steps of the
+    /// same round may have asked for it too.
     pub(crate) fn clear_at_entry(
         &mut self,
         code: &mut Function,
@@ -240,7 +243,11 @@ impl Tests {
         location: u16,
         line: Line,
     ) -> Result<(), Fault> {
-        if self.cleared.contains(&(function, location)) {
+        let is_cleared = self.cleared.contains(&(function, location));
+        if is_cleared && self.changed.contains(&(function, 0)) {
+            return Ok(());
+        }
+        if is_cleared {
             return Err(refused(
                 self.alloc,
                 code,
