@@ -61,8 +61,8 @@ pub(crate) fn says_nothing(plan: &Plan) -> bool {
     matches!(plan.way, Way::Known) && plan.alignment == 0
 }
 
-/// The sum of an access's two parts, to be put into %g7, and the access that goes by it. Nothing of one that goes by %g7
-/// before, and where scratch registers are in use.
+/// The sum of an access's two parts, to be put into %g7, and the access that goes by it. Nothing of one that goes by
+/// %g7 before, and where scratch registers are in use.
 fn summed(frame: u32, block: &Block, place: usize) -> Option<(Three, Instr)> {
     let step = block.steps.get(place)?;
     let (first, second) = operands_of(frame, &step.instr)?;
@@ -122,8 +122,8 @@ fn put_first(code: &mut Function, block: usize, step: &Step) -> Result<(), Alloc
     }
 }
 
-/// Where a test of what an address is worked out from may stand. A sum that stands in %g7 for the access alone is tested
-/// there: the other scratch registers weren't in use before it.
+/// Where a test of what an address is worked out from may stand. A sum that stands in %g7 for the access alone is
+/// tested there: the other scratch registers weren't in use before it.
 fn place_of_test(frame: u32, block: &Block, origin: &Origin) -> Option<usize> {
     if origin.register != SUM {
         return place_for(frame, block, origin.first, origin.last);
