@@ -17,6 +17,8 @@ use v8_formats::{Instr, Operand, Three};
 pub struct Options {
     /// Whether an access has to lie in the object that its base names, and not only in the data.
     pub by_object: bool,
+    /// Whether tests that turn out not to be needed go again.
+    pub drops: bool,
 }
 
 /// An end of the run, for tests of one kind that stand in one line of a function.
@@ -59,8 +61,8 @@ pub(crate) fn says_nothing(plan: &Plan) -> bool {
     matches!(plan.way, Way::Known) && plan.alignment == 0
 }
 
-/// The sum of an access's two parts, to be put into %g7, and the access that goes by it. Nothing of one that goes by %g7
-/// before, and where scratch registers are in use.
+/// The sum of an access's two parts, to be put into %g7, and the access that goes by it. Nothing of one that goes by
+/// %g7 before, and where scratch registers are in use.
 fn summed(frame: u32, block: &Block, place: usize) -> Option<(Three, Instr)> {
     let step = block.steps.get(place)?;
     let (first, second) = operands_of(frame, &step.instr)?;
@@ -120,8 +122,8 @@ fn put_first(code: &mut Function, block: usize, step: &Step) -> Result<(), Alloc
     }
 }
 
-/// Where a test of what an address is worked out from may stand. A sum that stands in %g7 for the access alone is tested
-/// there: the other scratch registers weren't in use before it.
+/// Where a test of what an address is worked out from may stand. A sum that stands in %g7 for the access alone is
+/// tested there: the other scratch registers weren't in use before it.
 fn place_of_test(frame: u32, block: &Block, origin: &Origin) -> Option<usize> {
     if origin.register != SUM {
         return place_for(frame, block, origin.first, origin.last);
@@ -232,7 +234,8 @@ impl Tests {
         Ok(block)
     }
 
-    /// Makes a location 0 at the entry of a function, where it may be read before it is written.
+    /// Makes a location 0 at the entry of a function, where it may be read before it is written. Other steps of the
+    /// same round may have asked for it too.
     pub(crate) fn clear_at_entry(
         &mut self,
         code: &mut Function,
@@ -240,7 +243,11 @@ impl Tests {
         location: u16,
         line: Line,
     ) -> Result<(), Fault> {
-        if self.cleared.contains(&(function, location)) {
+        let is_cleared = self.cleared.contains(&(function, location));
+        if is_cleared && self.changed.contains(&(function, 0)) {
+            return Ok(());
+        }
+        if is_cleared {
             return Err(refused(
                 self.alloc,
                 code,

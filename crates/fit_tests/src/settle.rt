@@ -230,7 +230,7 @@ impl Tests {
         for function in 0..program.functions.len() {
             self.answer_function(program, ranges, function, state)?;
         }
-        if self.changed.is_empty() && self.drops < DROPS {
+        if self.changed.is_empty() && self.options.drops && self.drops < DROPS {
             self.drops = self.drops.saturating_add(1);
             self.drop_needless(program, ranges)?;
             for function in 0..program.functions.len() {
