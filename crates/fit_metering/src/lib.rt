@@ -1,0 +1,10 @@
+//! Puts a meter in turns into a function: a register that has no other use, or a word of the frame, and places that
+//! count it down.
+#![tactic(auto)]
+
+mod entries;
+mod heads;
+mod inserting;
+mod registers;
+
+pub use inserting::insert_meter;
