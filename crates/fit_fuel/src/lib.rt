@@ -1,0 +1,10 @@
+//! Fuel: what each block of a fitted program declares, so that a run is shown to end.
+#![tactic(auto)]
+
+mod declaring;
+mod limits;
+mod metering;
+mod terms;
+mod totals;
+
+pub use declaring::declare;
