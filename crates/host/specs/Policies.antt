@@ -1,5 +1,5 @@
 -- What a host admits, and what is so of an image that it denies.
-use Rattle.std.specs.Prelude.{◌≡◌, ◌≢◌, ℕ, ◌≤◌, ◌<◌, ◌==◌, Bool, true, false, List, Ok, Err}
+use Rattle.std.specs.Prelude.{◌≡◌, ◌≢◌, ℕ, ◌≤◌, ◌<◌, ◌==◌, Bool, true, false, List, [], ◌∷◌, ◌++◌, Ok, Err, Option, IfSome}
 use Rattle.std.specs.Int.RustNames.{bit_and}
 use Rattle.sbx_image.specs.ImageFault.TheVariants.{Memory}
 use Rattle.sbx_image.specs.Parts.{Parts}
@@ -27,3 +27,11 @@ Explains policy bytes (Refused refusal) = (parts : Parts) × (reading bytes ≡ 
 Explains policy bytes (Services asked) = (parts : Parts) × (reading bytes ≡ Ok parts) × (asked ≡ parts.services)
     × (grants_services policy parts ≡ false)
 Explains policy bytes (Turns asked) = (parts : Parts) × (reading bytes ≡ Ok parts) × (asked ≡ budget parts) × (policy.turns < asked)
+
+-- The list grew by the image that the bytes of a file spell, and it is admitted.
+abbrev pub AddsAdmitted : Policy → Option (List ℕ) → List Parts → List Parts → Type 0
+AddsAdmitted policy file old new = (parts : Parts) × (new ≡ old ++ parts ∷ []) × IfSome file (λ bytes. IsAdmitted policy bytes parts)
+
+-- What a denial tells is so of the bytes of a file.
+abbrev pub DeniesRightly : Policy → Option (List ℕ) → Denial → Type 0
+DeniesRightly policy file denial = IfSome file (λ bytes. Explains policy bytes denial)

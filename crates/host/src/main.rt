@@ -1,138 +1,261 @@
-//! A host: it shows what strangers' images ask for, refuses what its own policy doesn't grant, and runs the rest on 8 windows, one after
-//! another on one board.
+//! A host: it refuses strangers' images that ask for more than its policy grants, and runs the rest, each on a
+//! board of its own.
 //!
-//! Its arguments are the images' paths; standard input is the input of each image, and standard output takes their outputs in turn.
-//! Standard error tells of the images. Where one is denied, none is run. The status is 0 where each has run and its exit word is 0, 1
-//! where one of these is another, 2 where one is denied, also for want of memory in its check (I9, V19), 3 where no path is given, and 4
-//! where a file or a stream fails, or memory.
+//! `host run` takes the policy, the count of windows, the input and a bound of the output from its words; `host IMG
+//! ..` has the usual ones, and shows on standard error what each image asks for and how its run ended. Standard
+//! output takes the images' outputs in turn. One image reads its input as it asks for it, and what it puts out goes
+//! on as it comes; several are run on the same input, which is read whole first. Where one image is denied, none is
+//! run.
+//!
+//! The status is 0 where each image has run and its exit word is 0, 1 where one of these is another, 2 where one is
+//! denied, also for want of memory in its check (I9, V19), or was stopped at the bound of its output, 3 where the
+//! words ask for nothing, and 4 where a file or a stream fails, or memory.
 #![tactic(auto)]
 
+mod bounding;
+mod faults;
+mod judging;
 mod policy;
+mod running;
+mod telling;
+mod words;
 
-use bitflags::Flags;
-use policy::{Denial, Policy, admit};
-use sbx_batch::{Accepted, Batch, Finished, run_batch};
-use sbx_run::{Services, budget};
-use std::alloc::{AllocError, Global};
-use std::io::{self, Read, Write};
+use faults::Fault;
+use judging::{MOST, judge};
+use running::{Halt, Ran, Source, converse};
+use sbx_command::{Full, ReadFault, read_whole};
+use sbx_files::{FileFault, hold_streams, open_file};
+use sbx_run::Accepted;
+use std::fs::File;
+use std::io::{Cursor, Read};
 use std::process::ExitCode;
-use std::{env, fs};
+use std::{env, fs, io};
+use telling::{tell_asked, tell_denial, tell_run, tell_stopped};
+use words::{Asked, Lack, Terms, USAGE, read_words};
 
-/// What this host grants: to read, to write and to end, and the turns of an eighth of a second.
-const POLICY: Policy = Policy {
-    services: Services(7),
-    turns: 5_000_000,
-};
+/// The status where an exit word isn't 0.
+const OTHER_WORD: u8 = 1;
 
-/// Shows what an admitted image asks for.
-fn show(rt: &HostRuntime, accepted: &Accepted) -> io::Result<()> {
-    let image = accepted.image();
-    write!(rt.stderr(), "services:")?;
-    for (name, _) in image.services().iter_names() {
-        write!(rt.stderr(), " {name}")?;
-    }
-    let (turns, pages) = (budget(image), image.stack_pages());
-    writeln!(rt.stderr(), "; turns: {turns}; stack pages: {pages}")
-}
+/// The status where an image is denied, or stopped.
+const DENIED: u8 = 2;
 
-/// Hands on what each run has put out, and gives the status.
-fn tell(rt: &HostRuntime, answers: &[Finished]) -> io::Result<u8> {
-    let mut told = 0;
-    for finished in answers {
-        let (status, turns) = (finished.status, finished.turns);
-        writeln!(rt.stderr(), "exit word {status}, {turns} turns")?;
-        rt.stdout().write_all(finished.output.as_slice())?;
-        if status != 0 {
-            told = 1;
-        }
-    }
-    Ok(told)
-}
+/// The status of words that ask for nothing.
+const OTHER_WORDS: u8 = 3;
 
-/// Each image beside the one input.
-fn listed<'a>(
-    alloc: Global,
-    images: &'a [Accepted],
-    input: &'a [u8],
-) -> Result<Vec<Batch<'a>>, AllocError> {
-    let mut list = Vec::new(alloc);
-    for image in images {
-        list.push(Batch { image, input })?;
-    }
-    Ok(list)
-}
+/// The status where a file, a stream or memory fails.
+const FAILED: u8 = 4;
 
-/// Runs admitted images on standard input, one after another on one board, hands their outputs on, and gives the status.
-fn run(rt: &HostRuntime, images: &[Accepted]) -> io::Result<u8> {
-    let mut input = Vec::new(rt.alloc());
-    rt.stdin().read_to_end(&mut input)?;
-    let list = listed(rt.alloc(), images, input.as_slice())?;
-    match run_batch::<8>(rt.alloc(), list.as_slice()) {
-        Ok(answers) => tell(rt, answers.as_slice()),
-        Err(_fault) => {
-            writeln!(rt.stderr(), "host: memory")?;
-            Ok(4)
-        }
+/// What an error of the file at a path, or of the input, stops the host with.
+fn fault_at<'a>(name: &'a str, error: &io::Error) -> Fault<'a> {
+    match Full::of(error) {
+        Some(full) => Fault::NoRoom(full),
+        None => Fault::File(name, FileFault::of(error)),
     }
 }
 
-/// The image of the file at a path, where the policy admits it, or why not.
-fn judged(rt: &HostRuntime, path: &str) -> io::Result<Result<Accepted, Denial>> {
-    let bytes = fs::read(rt, path)?;
-    Ok(admit(rt.alloc(), POLICY, bytes.as_slice()))
-}
-
-/// Adds the image of the file at a path, and says whether the policy admits it. What it asks for is shown, and why it is denied.
-fn add(rt: &HostRuntime, path: &str, images: &mut Vec<Accepted>) -> io::Result<bool> {
-    match judged(rt, path)? {
-        Ok(accepted) => {
-            show(rt, &accepted)?;
-            images.push(accepted)?;
-            Ok(true)
-        }
-        Err(denial) => {
-            writeln!(rt.stderr(), "denied: {denial}")?;
-            Ok(false)
-        }
+/// What stops the host where the bytes of a file, or of the input, aren't there.
+fn fault_of_read(name: &str, fault: ReadFault) -> Fault<'_> {
+    match fault {
+        ReadFault::Memory(want) => Fault::Memory(want),
+        ReadFault::TooLong => Fault::File(name, FileFault::TooLong),
+        ReadFault::Reader => Fault::File(name, FileFault::Failing),
     }
 }
 
-/// Adds the images of all paths, and says whether the policy admits each of them.
-fn add_all(rt: &HostRuntime, paths: &[String], images: &mut Vec<Accepted>) -> io::Result<bool> {
-    for path in paths {
-        if !add(rt, path.as_str(), images)? {
+/// The file at a path, to be read.
+fn opened<'a>(rt: &HostRuntime, path: &'a str) -> Result<File, Fault<'a>> {
+    match open_file(rt, path) {
+        Ok(file) => Ok(file),
+        Err(error) => Err(fault_at(path, &error)),
+    }
+}
+
+/// Judges the image of the file at a path, and says whether it is admitted. What it asks for is told where the
+/// terms say so, and why it is denied.
+fn add<'a>(
+    rt: &HostRuntime,
+    terms: &Terms<'a>,
+    path: &'a str,
+    images: &mut Vec<Accepted>,
+) -> Result<bool, Fault<'a>> {
+    let mut file = opened(rt, path)?;
+    match judge(rt.alloc(), terms.policy, &mut file, images) {
+        Ok(None) => {}
+        Ok(Some(denial)) => {
+            tell_denial(rt, terms.report, path, &denial)?;
             return Ok(false);
         }
+        Err(fault) => return Err(fault_of_read(path, fault)),
+    }
+    if let Some(accepted) = images.as_slice().last() {
+        tell_asked(rt, terms.report, accepted)?;
     }
     Ok(true)
 }
 
-/// Runs the images that the words name, where the policy admits each of them, and gives the status.
-fn host(rt: &HostRuntime) -> io::Result<u8> {
-    let words: Vec<String> = env::args(rt)?.collect(rt.alloc())?;
-    let paths = words.as_slice().get(1..).unwrap_or(&[]);
+/// The images at all paths, if each is admitted.
+fn admitted<'a>(rt: &HostRuntime, asked: &Asked<'a>) -> Result<Option<Vec<Accepted>>, Fault<'a>> {
     let mut images = Vec::new(rt.alloc());
-    if !add_all(rt, paths, &mut images)? {
-        return Ok(2);
+    let mut all = true;
+    for path in asked.paths.as_slice() {
+        all &= add(rt, &asked.terms, *path, &mut images)?;
     }
-    if images.is_empty() {
-        writeln!(rt.stderr(), "host: its arguments are images' paths")?;
-        return Ok(3);
+    Ok(if all { Some(images) } else { None })
+}
+
+/// What a run that has no end of its own leaves: a status where it was stopped at the bound of its output, else
+/// what stops the host.
+fn stopped<'a>(
+    rt: &HostRuntime,
+    terms: &Terms<'a>,
+    path: &'a str,
+    halt: Halt,
+) -> Result<u8, Fault<'a>> {
+    match halt {
+        Halt::TooMuch(output) => {
+            tell_stopped(rt, terms.report, path, output)?;
+            Ok(DENIED)
+        }
+        Halt::Memory(want) => Err(Fault::Memory(want)),
+        Halt::NoRoom(full) => Err(Fault::NoRoom(full)),
+        Halt::Input => Err(Fault::File(terms.input_name(), FileFault::Failing)),
+        Halt::Output => Err(Fault::Output),
     }
-    run(rt, images.as_slice())
+}
+
+/// Tells what a run gave, and gives its status.
+fn told<'a>(
+    rt: &HostRuntime,
+    terms: &Terms<'a>,
+    path: &'a str,
+    accepted: &Accepted,
+    ran: Result<Ran, Halt>,
+) -> Result<u8, Fault<'a>> {
+    match ran {
+        Ok(ran) => {
+            tell_run(rt, terms.report, path, accepted, &ran)?;
+            Ok(if ran.finished.status == 0 {
+                0
+            } else {
+                OTHER_WORD
+            })
+        }
+        Err(halt) => stopped(rt, terms, path, halt),
+    }
+}
+
+/// Whether standard input is a plain file, of which another byte can be asked for without waiting.
+fn is_input_plain(rt: &HostRuntime) -> bool {
+    match fs::metadata(rt, "/dev/stdin") {
+        Ok(found) => found.is_file(),
+        Err(_) => false,
+    }
+}
+
+/// Runs one image on the input, which is read as it asks for it.
+fn run_one<'a>(
+    rt: &HostRuntime,
+    terms: &Terms<'a>,
+    accepted: &Accepted,
+) -> Result<Result<Ran, Halt>, Fault<'a>> {
+    let Some(path) = terms.input else {
+        let source = Source::Standard(rt.stdin());
+        return Ok(converse(rt, terms, accepted, source, is_input_plain(rt)));
+    };
+    let file = opened(rt, path)?;
+    let is_plain = match file.metadata() {
+        Ok(found) => found.is_file(),
+        Err(_) => false,
+    };
+    let source = Source::File(file);
+    Ok(converse(rt, terms, accepted, source, is_plain))
+}
+
+/// All of the input.
+fn whole_input<'a>(rt: &HostRuntime, terms: &Terms<'a>) -> Result<Vec<u8>, Fault<'a>> {
+    let bytes = match terms.input {
+        Some(path) => read_whole(rt.alloc(), &mut opened(rt, path)?, MOST),
+        None => read_whole(rt.alloc(), &mut rt.stdin(), MOST),
+    };
+    match bytes {
+        Ok(bytes) => Ok(bytes),
+        Err(fault) => Err(fault_of_read(terms.input_name(), fault)),
+    }
+}
+
+/// Runs several images on the same input, one after another, and gives the greatest status of one.
+fn run_each<'a>(rt: &HostRuntime, asked: &Asked<'a>, images: &[Accepted]) -> Result<u8, Fault<'a>> {
+    let input = whole_input(rt, &asked.terms)?;
+    let mut status = 0;
+    for (path, accepted) in asked.paths.as_slice().iter().zip(images) {
+        let copy = Vec::from_slice(rt.alloc(), input.as_slice())?;
+        let source = Source::Bytes(Cursor::new(copy));
+        let ran = converse(rt, &asked.terms, accepted, source, true);
+        status = status.max(told(rt, &asked.terms, *path, accepted, ran)?);
+    }
+    Ok(status)
+}
+
+/// Runs the images at the paths that the words give, where each is admitted, and gives the status.
+fn perform<'a>(rt: &HostRuntime, asked: &Asked<'a>) -> Result<u8, Fault<'a>> {
+    let Some(images) = admitted(rt, asked)? else {
+        return Ok(DENIED);
+    };
+    if let ([path], [accepted]) = (asked.paths.as_slice(), images.as_slice()) {
+        let ran = run_one(rt, &asked.terms, accepted)?;
+        return told(rt, &asked.terms, *path, accepted, ran);
+    }
+    run_each(rt, asked, images.as_slice())
+}
+
+/// Tells why words ask for nothing, and gives the status.
+fn lacking(rt: &HostRuntime, lack: Lack<'_>) -> u8 {
+    let _ = match lack {
+        Lack::Usage => eprint!(rt; "{USAGE}"),
+        lack => eprintln!(rt; "host: {lack}"),
+    };
+    match lack {
+        Lack::Memory(_) => FAILED,
+        _ => OTHER_WORDS,
+    }
+}
+
+/// Does what the words ask for, and gives the status. What is wrong is told on standard error.
+fn status_of(rt: &HostRuntime, words: &[String]) -> u8 {
+    let asked = match read_words(rt.alloc(), words) {
+        Ok(asked) => asked,
+        Err(lack) => return lacking(rt, lack),
+    };
+    match perform(rt, &asked) {
+        Ok(status) => status,
+        Err(fault) => {
+            let _ = eprintln!(rt; "host: {fault}");
+            FAILED
+        }
+    }
+}
+
+/// The words after the program's name.
+fn words_of(rt: &HostRuntime) -> io::Result<Vec<String>> {
+    let mut words: Vec<String> = env::args(rt)?.collect(rt.alloc())?;
+    if !words.is_empty() {
+        words.remove(0);
+    }
+    Ok(words)
 }
 
 fn main(rt: HostRuntime) -> ExitCode {
-    match host(&rt) {
-        Ok(status) => ExitCode::from(status),
+    let _held = hold_streams(&rt);
+    let status = match words_of(&rt) {
+        Ok(words) => status_of(&rt, words.as_slice()),
         Err(error) => {
-            let what = if error.kind() == io::ErrorKind::OutOfMemory {
-                "memory"
-            } else {
-                "a file or a stream failed"
-            };
-            let _ = writeln!(rt.stderr(), "host: {what}");
-            ExitCode::from(4)
+            let fault = fault_at("the words of a command line", &error);
+            let _ = eprintln!(rt; "host: {fault}");
+            match fault {
+                Fault::NoRoom(_) => FAILED,
+                _ => OTHER_WORDS,
+            }
         }
-    }
+    };
+    ExitCode::from(status)
 }

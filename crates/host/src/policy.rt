@@ -16,6 +16,12 @@ pub struct Policy {
     pub turns: u64,
 }
 
+/// What is granted where nobody says otherwise: to read, to write and to end, and the turns of an eighth of a second.
+pub const POLICY: Policy = Policy {
+    services: Services(7),
+    turns: 5_000_000,
+};
+
 /// Why an image isn't run. Want of memory is told as I9 or V19.
 #[derive(Clone, Copy)]
 pub enum Denial {
@@ -40,7 +46,8 @@ impl Display for Denial {
     }
 }
 
-/// The accepted image of these bytes, where it asks for no more than the policy grants; else the first reason not to run it.
+/// The accepted image of these bytes, where it asks for no more than the policy grants; else the first reason not
+/// to run it.
 pub fn admit(alloc: Global, policy: Policy, bytes: &[u8]) -> Result<Accepted, Denial>
     ensures admitted { IfOk result (IsAdmitted policy bytes.now) }
     ensures denied { IfErr result (Explains policy bytes.now) }

@@ -1,0 +1,38 @@
+//! Why the host stops, and its line on standard error.
+use sbx_command::Full;
+use sbx_files::FileFault;
+use std::alloc::AllocError;
+use std::fmt::{self, Display, Formatter, Write};
+use want::Want;
+
+/// Why the host stops before its job is done. Its text is its line on standard error.
+#[derive(Clone, Copy)]
+pub enum Fault<'a> {
+    /// Memory was refused.
+    Memory(Want),
+    /// There was no room for a file or a stream.
+    NoRoom(Full),
+    /// There is something wrong with the file at a path, or with the input.
+    File(&'a str, FileFault),
+    /// The output can't be written.
+    Output,
+    /// Standard error can't be written.
+    Report,
+}
+
+impl From<AllocError> for Fault<'_> {
+    fn from(error: AllocError) -> Self {
+        Fault::Memory(Want::from(error))
+    }
+}
+
+impl Display for Fault<'_> {
+    fn fmt<W: Write>(&self, f: &mut Formatter<W>) -> fmt::Result {
+        match self {
+            Fault::Memory(_) | Fault::NoRoom(_) => f.write_str("memory"),
+            Fault::File(name, fault) => write!(f, "{name}: {fault}"),
+            Fault::Output => f.write_str("output: can't be written"),
+            Fault::Report => f.write_str("standard error: can't be written"),
+        }
+    }
+}

@@ -1,0 +1,176 @@
+//! Runs of admitted images.
+ghost use Rattle.std.specs.Prelude.{◌≡◌, ◌≤◌};
+ghost use Rattle.sbx_command.specs.Streaming.{RunGives};
+
+use crate::bounding::Bounded;
+use crate::words::Terms;
+use sbx_command::Full;
+use sbx_counts::on_windows;
+use sbx_files::{Counted, Hearer, Speaker};
+use sbx_jobs::Windows;
+use sbx_stream::{Accepted, Finished, RunFault, run_stream};
+use std::alloc::Global;
+use std::cell::RefCell;
+use std::fs::File;
+use std::io::{self, BufReader, Cursor, LineWriter, Read, Stdin, Write};
+use want::Want;
+
+/// What a run gave.
+#[derive(Drop)]
+pub struct Ran {
+    /// The exit word, and the counts.
+    pub finished: Finished,
+    /// How many bytes were put out.
+    pub output: u64,
+    /// Whether input was left; None where nobody can know without waiting for it.
+    pub has_left: Option<bool>,
+}
+
+/// Why a run has no end of its own.
+#[derive(Clone, Copy)]
+pub enum Halt {
+    /// Memory was refused.
+    Memory(Want),
+    /// There was no room for a stream.
+    NoRoom(Full),
+    /// The input can't be read.
+    Input,
+    /// The output can't be written.
+    Output,
+    /// More was put out than is allowed; this much was passed on.
+    TooMuch(u64),
+}
+
+impl Halt {
+    /// What an error of a stream halts a run with: want of memory where it is of that kind, else what is given.
+    fn of(error: &io::Error, other: Halt) -> Halt {
+        match Full::of(error) {
+            Some(full) => Halt::NoRoom(full),
+            None => other,
+        }
+    }
+}
+
+/// The run on `N` windows, which are as many as the number says.
+fn stream_on<const N: usize, I: Read, O: Write>(
+    alloc: Global,
+    windows: u32,
+    accepted: &Accepted,
+    input: &mut I,
+    out: &mut O,
+) -> Result<Finished, RunFault>
+    requires range { (4 ≤ N) × (N ≤ 32) }
+    requires same { windows ≡ N }
+    ensures { RunGives windows accepted.now (I.remaining input.old) (I.remaining input.new)
+        (O.contents out.old) (O.contents out.new) result }
+{
+    let _ = windows;
+    run_stream::<N, I, O>(alloc, accepted, input, out)
+}
+
+/// Runs an admitted image over a reader and a writer on so many windows. Each count is a machine of its own.
+pub fn stream_windows<I: Read, O: Write>(
+    alloc: Global,
+    windows: Windows,
+    accepted: &Accepted,
+    input: &mut I,
+    out: &mut O,
+) -> Result<Finished, RunFault>
+    ensures { RunGives windows accepted.now (I.remaining input.old) (I.remaining input.new)
+        (O.contents out.old) (O.contents out.new) result }
+{
+    let count = windows.count();
+    on_windows!(count, stream_on [I O] (alloc, count, accepted, input, out), 4 to 32)
+}
+
+/// What a run's fault is, beside the writer that it had.
+fn halt_of<W: Write>(fault: RunFault, out: &Bounded<W>) -> Halt {
+    match fault {
+        RunFault::Memory(want) => Halt::Memory(want),
+        RunFault::Reader => Halt::Input,
+        RunFault::Writer if out.is_over() => Halt::TooMuch(out.count()),
+        RunFault::Writer => Halt::Output,
+    }
+}
+
+/// What a run gave, once all that it put out was handed on.
+fn finished_of<W: Write>(
+    ran: Result<Finished, RunFault>,
+    out: &mut Bounded<W>,
+) -> Result<Finished, Halt> {
+    let finished = match ran {
+        Ok(finished) => finished,
+        Err(fault) => return Err(halt_of(fault, out)),
+    };
+    match out.flush() {
+        Ok(()) => Ok(finished),
+        Err(_) => Err(Halt::Output),
+    }
+}
+
+/// Whether a run has left input behind, of an input that is plain where asking it for a byte more never waits.
+fn left_behind<R: Read + Drop, W: Write + Drop>(
+    heard: Counted<Hearer<'_, R, W>>,
+    is_plain: bool,
+) -> Option<bool> {
+    let met = heard.has_met_the_end();
+    let mut heard = heard.into_inner();
+    if met || heard.has_more_at_hand() {
+        return Some(!met);
+    }
+    if !is_plain {
+        return None;
+    }
+    match heard.read(&mut [0u8; 1]) {
+        Ok(count) => Some(count > 0),
+        Err(_) => None,
+    }
+}
+
+/// What gives an image its input.
+#[derive(Drop)]
+pub enum Source {
+    Standard(Stdin),
+    File(File),
+    Bytes(Cursor<Vec<u8>>),
+}
+
+impl Read for Source {
+    fn read(&mut self, buf: &mut [u8]) -> io::Result<usize> {
+        match self {
+            Source::Standard(input) => input.read(buf),
+            Source::File(file) => file.read(buf),
+            Source::Bytes(bytes) => bytes.read(buf),
+        }
+    }
+}
+
+/// Runs an admitted image on a source and standard output, as a conversation, and flushes the output at the end. A
+/// source is plain where asking it for a byte more never waits.
+pub fn converse(
+    rt: &HostRuntime,
+    terms: &Terms<'_>,
+    accepted: &Accepted,
+    source: Source,
+    is_plain: bool,
+) -> Result<Ran, Halt> {
+    let input = match BufReader::new(rt.alloc(), source) {
+        Ok(input) => input,
+        Err(error) => return Err(Halt::of(&error, Halt::Input)),
+    };
+    let out = match LineWriter::new(rt.alloc(), rt.stdout()) {
+        Ok(out) => out,
+        Err(error) => return Err(Halt::of(&error, Halt::Output)),
+    };
+    let out = RefCell::new(out);
+    let mut heard = Counted::new(Hearer::new(input, &out));
+    let mut said = Bounded::new(Speaker::new(&out), terms.most);
+    let ran = stream_windows(rt.alloc(), terms.windows, accepted, &mut heard, &mut said);
+    let finished = finished_of(ran, &mut said)?;
+    let output = said.count();
+    Ok(Ran {
+        finished,
+        output,
+        has_left: left_behind(heard, is_plain),
+    })
+}

@@ -1,0 +1,121 @@
+//! What is told of images on standard error.
+use crate::faults::Fault;
+use crate::policy::Denial;
+use crate::running::Ran;
+use crate::words::Report;
+use bitflags::Flags;
+use sbx_run::{Accepted, budget};
+use serde_json::json;
+use std::alloc::{AllocError, Global};
+use std::io::Write;
+
+/// Writes a line on standard error by one call.
+fn put_line(rt: &HostRuntime, mut line: String) -> Result<(), Fault<'static>> {
+    line.push('\n')?;
+    match rt.stderr().write_all(line.as_bytes()) {
+        Ok(()) => Ok(()),
+        Err(_) => Err(Fault::Report),
+    }
+}
+
+/// What an admitted image asks for.
+fn asked_line(alloc: Global, accepted: &Accepted) -> Result<String, AllocError> {
+    let image = accepted.image();
+    let mut line = String::from_str(alloc, "services:")?;
+    for (name, _) in image.services().iter_names() {
+        line.push(' ')?;
+        line.push_str(name)?;
+    }
+    let (turns, pages) = (budget(image), image.stack_pages());
+    write!(line, "; turns: {turns}; stack pages: {pages}")?;
+    Ok(line)
+}
+
+/// Tells what an admitted image asks for, where that is told.
+pub fn tell_asked(
+    rt: &HostRuntime,
+    report: Report,
+    accepted: &Accepted,
+) -> Result<(), Fault<'static>> {
+    match report {
+        Report::Lines => put_line(rt, asked_line(rt.alloc(), accepted)?),
+        Report::Faults | Report::Json => Ok(()),
+    }
+}
+
+/// An object that names an image and why it is denied.
+fn denial_object(alloc: Global, path: &str, denial: &Denial) -> Result<String, AllocError> {
+    let reason = format!(in alloc; "{denial}")?;
+    json!(in alloc; {"image": path, "denied": reason.as_str()})?.to_string(alloc)
+}
+
+/// Tells why an image is denied.
+pub fn tell_denial(
+    rt: &HostRuntime,
+    report: Report,
+    path: &str,
+    denial: &Denial,
+) -> Result<(), Fault<'static>> {
+    let alloc = rt.alloc();
+    let line = match report {
+        Report::Lines => format!(in alloc; "denied: {denial}")?,
+        Report::Faults => format!(in alloc; "host: {path}: denied: {denial}")?,
+        Report::Json => denial_object(alloc, path, denial)?,
+    };
+    put_line(rt, line)
+}
+
+/// An object that names an image, and tells its run beside its budget.
+fn run_object(alloc: Global, path: &str, budget: u64, ran: &Ran) -> Result<String, AllocError> {
+    json!(in alloc; {
+        "image": path,
+        "exit": ran.finished.status,
+        "turns": ran.finished.turns,
+        "budget": budget,
+        "overflows": ran.finished.overflows,
+        "underflows": ran.finished.underflows,
+        "output": ran.output,
+        "input_left": ran.has_left
+    })?
+    .to_string(alloc)
+}
+
+/// Tells how the run of an image ended.
+pub fn tell_run(
+    rt: &HostRuntime,
+    report: Report,
+    path: &str,
+    accepted: &Accepted,
+    ran: &Ran,
+) -> Result<(), Fault<'static>> {
+    let (alloc, status, turns) = (rt.alloc(), ran.finished.status, ran.finished.turns);
+    let line = match report {
+        Report::Lines => format!(in alloc; "exit word {status}, {turns} turns")?,
+        Report::Faults if status == 0 => return Ok(()),
+        Report::Faults => format!(in alloc; "host: {path}: exit word {status}")?,
+        Report::Json => run_object(alloc, path, budget(accepted.image()), ran)?,
+    };
+    put_line(rt, line)
+}
+
+/// An object that names an image, and tells that its run was stopped where it had put out so much.
+fn stopped_object(alloc: Global, path: &str, output: u64) -> Result<String, AllocError> {
+    json!(in alloc; {"image": path, "stopped": "output", "output": output})?.to_string(alloc)
+}
+
+/// Tells that a run was stopped since it puts out more than so many bytes.
+pub fn tell_stopped(
+    rt: &HostRuntime,
+    report: Report,
+    path: &str,
+    output: u64,
+) -> Result<(), Fault<'static>> {
+    let alloc = rt.alloc();
+    let line = match report {
+        Report::Lines | Report::Faults => format!(in alloc;
+            "host: {path}: stopped: its output has more than {output} bytes"
+        )?,
+        Report::Json => stopped_object(alloc, path, output)?,
+    };
+    put_line(rt, line)
+}
