@@ -1,0 +1,7 @@
+//! All passes over a program, one after the other: from compiler-made code to an annotated source.
+#![tactic(auto)]
+
+mod passes;
+
+pub use fit_code::{Fault, NO_LINE, Reason};
+pub use passes::{Made, Plan, make};
