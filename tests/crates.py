@@ -63,7 +63,7 @@ def changed_files(commit):
 def changed_crates(commit):
     """Returns the crates with a file that differs from the commit's, their further edits counted as theirs."""
     files = changed_files(commit)
-    return [name for name in crates() if any(it.startswith((f"crates/{name}/", f"tests/edits/{name}/")) for it in files)]
+    return [name for name in crates() if any(it.startswith((f"crates/{name}/", f"tests/edits/{name}.")) for it in files)]
 
 
 def outline(text):
