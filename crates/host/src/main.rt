@@ -210,12 +210,13 @@ fn perform<'a>(rt: &HostRuntime, asked: &Asked<'a>) -> Result<u8, Fault<'a>> {
 
 /// Tells why words ask for nothing, and gives the status.
 fn lacking(rt: &HostRuntime, lack: Lack<'_>) -> u8 {
-    let _ = match lack {
+    let told = match lack {
         Lack::Usage => eprint!(rt; "{USAGE}"),
         lack => eprintln!(rt; "host: {lack}"),
     };
     match lack {
         Lack::Memory(_) => FAILED,
+        _ if told.is_err() => FAILED,
         _ => OTHER_WORDS,
     }
 }

@@ -93,6 +93,17 @@ fn halt_of<W: Write>(fault: RunFault, out: &Bounded<W>) -> Halt {
     }
 }
 
+/// Why a run stopped, once what it put out up to its bound was handed on.
+fn left_off<W: Write>(fault: RunFault, out: &mut Bounded<W>) -> Halt {
+    match halt_of(fault, out) {
+        Halt::TooMuch(count) => match out.flush() {
+            Ok(()) => Halt::TooMuch(count),
+            Err(_) => Halt::Output,
+        },
+        halt => halt,
+    }
+}
+
 /// What a run gave, once all that it put out was handed on.
 fn finished_of<W: Write>(
     ran: Result<Finished, RunFault>,
@@ -100,7 +111,7 @@ fn finished_of<W: Write>(
 ) -> Result<Finished, Halt> {
     let finished = match ran {
         Ok(finished) => finished,
-        Err(fault) => return Err(halt_of(fault, out)),
+        Err(fault) => return Err(left_off(fault, out)),
     };
     match out.flush() {
         Ok(()) => Ok(finished),
