@@ -1,0 +1,228 @@
+//! The program `fit`: compiler-made SPARC assembly as an annotated source.
+#![tactic(auto)]
+
+mod words;
+
+use fit_gas::Source;
+use fit_legal::program_of;
+use fit_passes::{Fault, Made, NO_LINE, Plan, Reason, make};
+use sbx_put::put_through;
+use std::alloc::Global;
+use std::fs::File;
+use std::io::{ErrorKind, Read};
+use std::process::ExitCode;
+use std::{env, fs, io};
+use words::{Job, USAGE, read_words};
+
+/// The most bytes that a file may have.
+const MOST: u64 = 64_000_000;
+
+/// Why there is no source.
+#[derive(Drop)]
+enum Stop {
+    /// The program is refused; the files are those that its lines name.
+    Refused(Fault, Vec<String>),
+    /// A test would be added.
+    Tests,
+    /// A file can't be read or written, which was told.
+    File,
+    /// A file is too long, which was told.
+    Long,
+    Memory,
+}
+
+impl From<io::Error> for Stop {
+    fn from(error: io::Error) -> Stop {
+        match error.kind() {
+            ErrorKind::OutOfMemory => Stop::Memory,
+            _ => Stop::File,
+        }
+    }
+}
+
+/// A fault without the names of its files.
+fn refused(alloc: Global, fault: Fault, files: &[String]) -> Stop {
+    let mut names = Vec::new(alloc);
+    for file in files {
+        let added = match file.clone() {
+            Ok(name) => names.push(name).is_ok(),
+            Err(_) => false,
+        };
+        if !added {
+            return Stop::Memory;
+        }
+    }
+    Stop::Refused(fault, names)
+}
+
+/// All bytes of the file at a path.
+fn bytes_of(rt: &HostRuntime, path: &str) -> Result<Vec<u8>, Stop> {
+    let file: File = fs::open(rt, path)?;
+    let mut bytes = Vec::new(rt.alloc());
+    file.take(MOST).read_to_end(&mut bytes)?;
+    if bytes.len() as u64 == MOST {
+        return Err(Stop::Long);
+    }
+    Ok(bytes)
+}
+
+/// Tells what is wrong with the file at a path.
+fn told(rt: &HostRuntime, path: &str, stop: Stop) -> Stop {
+    match &stop {
+        Stop::File => {
+            let _ = eprintln!(rt; "{path}: can't be read or written");
+        }
+        Stop::Long => {
+            let _ = eprintln!(rt; "{path}: refused: {MOST} bytes and more");
+        }
+        _ => {}
+    }
+    stop
+}
+
+/// Reads one source.
+fn read_source(rt: &HostRuntime, source: &mut Source, path: &str) -> Result<(), Stop> {
+    let bytes = match bytes_of(rt, path) {
+        Ok(bytes) => bytes,
+        Err(stop) => return Err(told(rt, path, stop)),
+    };
+    match source.read(path, bytes.as_slice()) {
+        Ok(()) => Ok(()),
+        Err(fault) => Err(refused(rt.alloc(), fault, source.files.as_slice())),
+    }
+}
+
+/// Reads all sources.
+fn sources_of(rt: &HostRuntime, job: &Job<'_>) -> Result<Source, Stop> {
+    let mut source = Source::new(rt.alloc());
+    for path in job.sources.as_slice() {
+        read_source(rt, &mut source, *path)?;
+    }
+    Ok(source)
+}
+
+/// Writes the source that was made.
+fn write_text(rt: &HostRuntime, path: &str, text: &str) -> Result<(), Stop> {
+    let mut out: File = fs::create(rt, path)?;
+    put_through(&mut out, text.as_bytes())?;
+    Ok(())
+}
+
+/// Makes an annotated source of assembly.
+fn attempt(alloc: Global, source: &Source, plan: Plan) -> Result<Made, Fault> {
+    let program = program_of(alloc, source, "main")?;
+    make(alloc, program, plan)
+}
+
+/// Makes an annotated source of assembly: with the counters of its loops or, where these ask for more turns than there
+/// are to be, by the meter alone.
+fn make_source(alloc: Global, source: &Source, job: &Job<'_>) -> Result<Made, Fault> {
+    let plan = Plan {
+        turns: job.turns,
+        by_object: !job.by_region,
+        has_bounds: true,
+    };
+    match attempt(alloc, source, plan) {
+        Ok(made) if made.budget <= job.turns.saturating_mul(2) => Ok(made),
+        _ => attempt(
+            alloc,
+            source,
+            Plan {
+                has_bounds: false,
+                ..plan
+            },
+        ),
+    }
+}
+
+/// Tells each test.
+fn tell_tests(rt: &HostRuntime, made: &Made) {
+    for test in made.tests.as_slice() {
+        let note = test.shown(&made.program);
+        let _ = eprintln!(rt; "{note}");
+    }
+}
+
+/// Does a job.
+fn perform(rt: &HostRuntime, job: &Job<'_>) -> Result<(), Stop> {
+    let source = sources_of(rt, job)?;
+    let made = match make_source(rt.alloc(), &source, job) {
+        Ok(made) => made,
+        Err(fault) => return Err(refused(rt.alloc(), fault, source.files.as_slice())),
+    };
+    tell_tests(rt, &made);
+    if job.is_strict && !made.tests.is_empty() {
+        return Err(Stop::Tests);
+    }
+    match write_text(rt, job.out, made.text.as_str()) {
+        Ok(()) => Ok(()),
+        Err(stop) => Err(told(rt, job.out, stop)),
+    }
+}
+
+/// The status of a fault, which is told.
+fn tell_fault(rt: &HostRuntime, fault: &Fault, files: &[String]) -> u8 {
+    if matches!(fault.reason, Reason::Memory(_)) {
+        let _ = eprintln!(rt; "memory");
+        return 5;
+    }
+    let place = fault.line;
+    if place != NO_LINE
+        && let Some(file) = files.get(place.file)
+    {
+        let number = place.number;
+        let _ = eprint!(rt; "{file}:{number}: ");
+    }
+    let reason = &fault.reason;
+    let _ = eprintln!(rt; "refused: {reason}");
+    2
+}
+
+/// The status, and what is told.
+fn tell(rt: &HostRuntime, stop: &Stop) -> u8 {
+    match stop {
+        Stop::Refused(fault, files) => tell_fault(rt, fault, files.as_slice()),
+        Stop::Tests => 1,
+        Stop::File => 4,
+        Stop::Long => 2,
+        Stop::Memory => {
+            let _ = eprintln!(rt; "memory");
+            5
+        }
+    }
+}
+
+/// The words after the program's name.
+fn words_of(rt: &HostRuntime) -> io::Result<Vec<String>> {
+    let mut words: Vec<String> = env::args(rt)?.collect(rt.alloc())?;
+    if !words.is_empty() {
+        words.remove(0);
+    }
+    Ok(words)
+}
+
+/// Does what the words ask for, and gives the exit status.
+fn answer(rt: &HostRuntime, words: &[String]) -> Result<u8, Stop> {
+    match read_words(rt.alloc(), words) {
+        Ok(Some(job)) => {
+            perform(rt, &job)?;
+            Ok(0)
+        }
+        Ok(None) => {
+            let _ = eprint!(rt; "{USAGE}");
+            Ok(3)
+        }
+        Err(_) => Err(Stop::Memory),
+    }
+}
+
+fn main(rt: HostRuntime) -> ExitCode {
+    let status = match words_of(&rt) {
+        Ok(words) => answer(&rt, words.as_slice()),
+        Err(error) => Err(Stop::from(error)),
+    };
+    ExitCode::from(match status {
+        Ok(status) => status,
+        Err(stop) => tell(&rt, &stop),
+    })
+}
