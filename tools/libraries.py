@@ -22,6 +22,8 @@ BUILT, WORK = "rlib", "incremental"
 RT = f"{TOP}/tools/rt-once"
 # The most jobs of one check that help.
 MOST_JOBS = 4
+# Where builds have their rooms. `rt` walks the folders out/ of all crates that it reads, and stops where a folder goes meanwhile.
+ROOMS = f"{TOP}/tools/out"
 # What removes rooms that are done with: no build waits for it, and the process ends after it.
 SWEEPER = ThreadPoolExecutor(1)
 
@@ -102,11 +104,11 @@ def clear(room):
         shutil.rmtree(room, ignore_errors=True)
 
 
-def sweep(out):
-    """Removes the rooms of builds that were killed."""
-    for name in os.listdir(out):
-        if name.startswith("build-"):
-            shutil.rmtree(f"{out}/{name}", ignore_errors=True)
+def sweep(crate):
+    """Removes the rooms of a crate's builds that were killed."""
+    for name in os.listdir(ROOMS):
+        if name.startswith(f"{crate}."):
+            shutil.rmtree(f"{ROOMS}/{name}", ignore_errors=True)
 
 
 def build_in(children, room, name, below, jobs):
@@ -125,14 +127,14 @@ def build_in(children, room, name, below, jobs):
 def build(children, name, below, jobs):
     """Builds one library over those below it, which stand built. Returns what `rt` said where it failed, else None. What is half
     built isn't kept, but for the work that `rt` goes on from."""
-    out = f"{TOP}/crates/{name}/out"
-    os.makedirs(out, exist_ok=True)
+    for it in (f"{TOP}/crates/{name}/out", ROOMS):
+        os.makedirs(it, exist_ok=True)
     held = os.open(f"{TOP}/crates/{name}", os.O_RDONLY)
     # `rt` itself waits for this lock
     fcntl.flock(held, fcntl.LOCK_EX)
     try:
-        sweep(out)
-        room = tempfile.mkdtemp(prefix="build-", dir=out)
+        sweep(name)
+        room = tempfile.mkdtemp(prefix=f"{name}.", dir=ROOMS)
         try:
             status, said = build_in(children, room, name, below, jobs)
         finally:
