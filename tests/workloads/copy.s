@@ -1,0 +1,58 @@
+! copy: copies 64 KiB within the data by LDD and STD; both sides meet in one line of the translation cache
+.services exit,get,put
+.data
+.skip 131072
+.text
+.function main,framed,96,96,61447559
+.fuel 61447559
+ save %sp,-96,%sp
+ set 524288,%l0
+ set 589824,%l1
+ set 1500,%l6
+ mov 77,%l2
+ st %l2,[%l0+64]
+.block round
+.cell %l0,524288,524288,3
+.cell %l1,589824,589824,3
+.cell %l2,-2147483648,2147483647,0
+.cell %l6,1,1500,0
+.fuel 28
+.term %l6,40965
+ set 8192,%l3
+.block loop
+.cell %l0,524288,524288,3
+.cell %l1,589824,589824,3
+.cell %l2,-2147483648,2147483647,0
+.cell %l3,1,8192,0
+.cell %l6,1,1500,0
+.fuel -40934
+.term %l3,5
+.term %l6,40965
+ deccc %l3
+ sll %l3,3,%o1
+ ldd [%l0+%o1],%o2
+ bne loop
+ std %o2,[%l1+%o1]
+.block endround
+.cell %l0,524288,524288,3
+.cell %l1,589824,589824,3
+.cell %l2,-2147483648,2147483647,0
+.cell %l6,1,1500,0
+.fuel -40934
+.term %l6,40965
+ deccc %l6
+ bne round
+ ld [%l1+64],%l2
+.block done
+.cell %l2,-2147483648,2147483647,0
+.fuel 28
+ srl %l2,24,%o0
+ ta 2
+ srl %l2,16,%o0
+ ta 2
+ srl %l2,8,%o0
+ ta 2
+ mov %l2,%o0
+ ta 2
+ mov 0,%o0
+ ta 0

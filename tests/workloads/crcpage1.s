@@ -1,0 +1,93 @@
+! crcpage1: crc with its table on data page 1, which meets no line of the code's
+.services exit,get,put
+.data
+.skip 5120
+.text
+.function main,framed,96,96,64015933
+.fuel 64015933
+ save %sp,-96,%sp
+ set 528384,%l0
+ set 0xEDB88320,%l4
+ set 256,%l1
+.block cellk
+.cell %l0,528384,528384,3
+.cell %l1,1,256,0
+.cell %l4,-2147483648,2147483647,0
+.fuel 64000032
+.term %l1,62
+ sub %l1,1,%l2
+ mov 8,%l3
+.block bit
+.cell %l0,528384,528384,3
+.cell %l1,1,256,0
+.cell %l2,-2147483648,2147483647,0
+.cell %l3,1,8,0
+.cell %l4,-2147483648,2147483647,0
+.fuel 63999974
+.term %l1,62
+.term %l3,7
+ and %l2,1,%o0
+ neg %o0
+ and %o0,%l4,%o0
+ srl %l2,1,%l2
+ deccc %l3
+ bne bit
+ xor %l2,%o0,%l2
+.block put1
+.cell %l0,528384,528384,3
+.cell %l1,1,256,0
+.cell %l2,-2147483648,2147483647,0
+.cell %l4,-2147483648,2147483647,0
+.fuel 63999974
+.term %l1,62
+ deccc %l1
+ sll %l1,2,%o1
+ bne cellk
+ st %l2,[%l0+%o1]
+.block enter
+.cell %l0,528384,528384,3
+.fuel 64000032
+ set 4000000,%l3
+ mov -1,%l2
+.block next
+.cell %l0,528384,528384,3
+.cell %l2,-2147483648,2147483647,0
+.cell %l3,1,4000000,0
+.fuel 29
+.term %l3,16
+ ta 1
+ cmp %o0,-1
+ be fin
+ nop
+.block body
+.cell %o0,0,255,0
+.cell %l0,528384,528384,3
+.cell %l2,-2147483648,2147483647,0
+.cell %l3,1,4000000,0
+.fuel 21
+.term %l3,16
+ xor %l2,%o0,%o1
+ and %o1,255,%o1
+ sll %o1,2,%o1
+ ld [%l0+%o1],%o1
+ srl %l2,8,%l2
+ deccc %l3
+ bne next
+ xor %l2,%o1,%l2
+.block fin
+.cell %l2,-2147483648,2147483647,0
+.fuel 29
+ not %l2
+.block done
+.cell %l2,-2147483648,2147483647,0
+.fuel 28
+ srl %l2,24,%o0
+ ta 2
+ srl %l2,16,%o0
+ ta 2
+ srl %l2,8,%o0
+ ta 2
+ mov %l2,%o0
+ ta 2
+ mov 0,%o0
+ ta 0

@@ -1,0 +1,54 @@
+! stride: one word of each of the 64 data pages in turn, more pages than the cache has lines
+.services exit,get,put
+.data
+.skip 262144
+.text
+.function main,framed,96,96,58200057
+.fuel 58200057
+ save %sp,-96,%sp
+ set 524288,%l0
+ set 150000,%l6
+ mov 0,%l2
+.block round
+.cell %l0,524288,524288,3
+.cell %l2,-2147483648,2147483647,0
+.cell %l6,1,150000,0
+.fuel 28
+.term %l6,388
+ set 64,%l3
+.block loop
+.cell %l0,524288,524288,3
+.cell %l2,-2147483648,2147483647,0
+.cell %l3,1,64,0
+.cell %l6,1,150000,0
+.fuel -357
+.term %l3,6
+.term %l6,388
+ deccc %l3
+ sll %l3,12,%o1
+ ld [%l0+%o1],%l2
+ add %l2,1,%l2
+ bne loop
+ st %l2,[%l0+%o1]
+.block endround
+.cell %l0,524288,524288,3
+.cell %l2,-2147483648,2147483647,0
+.cell %l6,1,150000,0
+.fuel -357
+.term %l6,388
+ deccc %l6
+ bne round
+ nop
+.block done
+.cell %l2,-2147483648,2147483647,0
+.fuel 28
+ srl %l2,24,%o0
+ ta 2
+ srl %l2,16,%o0
+ ta 2
+ srl %l2,8,%o0
+ ta 2
+ mov %l2,%o0
+ ta 2
+ mov 0,%o0
+ ta 0
