@@ -18,6 +18,8 @@ mod judging;
 mod policy;
 mod running;
 mod telling;
+#[cfg(test)]
+mod tests;
 mod words;
 
 use faults::Fault;

@@ -1,20 +1,22 @@
 //! A run's streams as a conversation: what was put out is there to be read before an answer to it is waited for.
 //!
 //! - The input is read ahead: a read takes up to 8,192 bytes of what is there, and the next ones are given from them.
-//! - The output is kept until a line ends or 1,024 bytes are kept: a whole line goes on at once, be it to a terminal, a file or a pipe.
-//! - Before a read that asks the system, all that is kept goes on. So a prompt with no line end is seen before its answer is waited for.
-//!   While bytes that were read ahead are left, nothing is flushed.
+//! - The output is kept until a line ends or 1,024 bytes are kept: a whole line goes on at once, be it to a
+//!   terminal, a file or a pipe.
+//! - Before a read that asks the system, all that is kept goes on. So a prompt with no line end is seen before its
+//!   answer is waited for. While bytes that were read ahead are left, nothing is flushed.
 //! - What is left at the end goes on by a flush of its own, or as the writer is dropped.
 //!
-//! Both ends need the one writer, which so stands in a cell. It is taken within a single call at a time: a call that finds it taken
-//! would be an error, and there is none.
+//! Both ends need the one writer, which so stands in a cell. It is taken within a single call at a time: a call
+//! that finds it taken would be an error, and there is none.
 ghost use Rattle.std.specs.Io.Buffered.{reader_remaining};
 
 use std::cell::RefCell;
 use std::io;
 use std::io::{BufReader, LineWriter, Read, Write};
 
-/// The reader of a conversation. It gives the bytes of its input, and what was put out is flushed before it waits for more.
+/// The reader of a conversation. It gives the bytes of its input, and what was put out is flushed before it waits
+/// for more.
 #[derive(Drop)]
 pub struct Hearer<'a, R: Read, W: Write + Drop> {
     input: BufReader<R>,
@@ -32,7 +34,8 @@ impl<'a, R: Read, W: Write + Drop> Hearer<'a, R, W> {
         !self.input.buffer().is_empty()
     }
 
-    /// Flushes what is kept. Where that fails it stays kept: the failure is met again at the next line's end, or at the end.
+    /// Flushes what is kept. Where that fails it stays kept: the failure is met again at the next line's end, or at
+    /// the end.
     fn prompt(&self) {
         if let Ok(mut out) = self.out.try_borrow_mut() {
             let _ = out.flush();
@@ -51,8 +54,9 @@ impl<R: Read, W: Write + Drop> Read for Hearer<'_, R, W> {
     }
 }
 
-/// The writer of a conversation. No clause can say what a cell holds, so its contract has the counts of writes and not their bytes. A
-/// write takes all: the writer in the cell keeps it, and passes a whole line on by one call of the system.
+/// The writer of a conversation. No clause can say what a cell holds, so its contract has the counts of writes and
+/// not their bytes. A write takes all: the writer in the cell keeps it, and passes a whole line on by one call of
+/// the system.
 #[derive(Drop)]
 pub struct Speaker<'a, W: Write + Drop> {
     out: &'a RefCell<LineWriter<W>>,

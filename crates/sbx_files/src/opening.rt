@@ -17,9 +17,9 @@ pub struct Held {
     places: [Option<File>; 3],
 }
 
-/// Takes the lowest three descriptors that are free, so that no file which is opened later stands in the place of a standard stream that
-/// is closed: the system gives each file the lowest one. They are a directory's, which nobody can read or write: so a closed stream fails
-/// where it is used, and only there.
+/// Takes the lowest three descriptors that are free, so that no file which is opened later stands in the place of a
+/// standard stream that is closed: the system gives each file the lowest one. They are a directory's, which nobody
+/// can read or write: so a closed stream fails where it is used, and only there.
 pub fn hold_streams(rt: &HostRuntime) -> Held {
     let places = [
         fs::open(rt, "/").ok(),

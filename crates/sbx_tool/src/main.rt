@@ -9,6 +9,7 @@ use assembling::assemble_to;
 use conversing::converse;
 use files::done_on;
 use sbx_command::{Full, Stop};
+use sbx_files::hold_streams;
 use sbx_words::{Job, Usage, read_words};
 use std::alloc::AllocError;
 use std::io::BufWriter;
@@ -74,6 +75,7 @@ fn perform(rt: &HostRuntime, words: &[String]) -> Result<u8, Stop> {
 }
 
 fn main(rt: HostRuntime) -> ExitCode {
+    let _held = hold_streams(&rt);
     let status = match words_of(&rt) {
         Ok(words) => perform(&rt, words.as_slice()),
         Err(error) => match Full::of(&error) {
