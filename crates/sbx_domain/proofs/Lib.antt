@@ -4,4 +4,5 @@ pub mod Products
 pub mod Examples
 pub mod Tables
 pub mod Moves
+pub mod Marked
 pub mod Writes

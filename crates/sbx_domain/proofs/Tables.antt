@@ -65,7 +65,7 @@ known_unwritten s l e here = sym (written_by l e (known s) false here)
 abbrev none : Option Entry
 none = None
 
-blank : (n k : ℕ) → entries_of (replicate n none) k ≡ none
+pub blank : (n k : ℕ) → entries_of (replicate n none) k ≡ none
 blank n k = by_less (nat_lt k n) refl
   where
     size : length (replicate n none) ≡ n

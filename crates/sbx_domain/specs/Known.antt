@@ -3,6 +3,7 @@
 use Rattle.std.specs.Prelude.{ℕ, Bool, false, ◌&&◌, ◌||◌, ◌==◌, nat_lt, if◌then◌else◌, List, [], ◌∷◌, Option, Some, None, slice_index_or}
 use Rattle.sbx_range.specs.Cell.{Cell}
 use Rattle.sbx_range.specs.Range.{Range}
+use Rattle.sbx_range.specs.Ranges.{is_empty}
 use Rattle.sbx_domain.specs.declared.entry.Entry.{Entry}
 use Rattle.sbx_domain.specs.declared.relation.Related.{Related}
 use Rattle.sbx_domain.specs.declared.relation.Related.TheVariants.{Location, Word}
@@ -56,6 +57,11 @@ known s = record { entry = λ l. slice_index_or s.entries l None; y = s.y; icc =
 abbrev pub range_of_entry : Option Entry → Option Range
 range_of_entry None = None
 range_of_entry (Some e) = Some e.range
+
+-- whether there is a range, and it holds no number
+abbrev pub is_empty_range : Option Range → Bool
+is_empty_range None = false
+is_empty_range (Some r) = is_empty r
 
 abbrev pub form_of_entry : Option Entry → Option Form
 form_of_entry None = None

@@ -1,6 +1,7 @@
 pub mod Forms
 pub mod Packed
 pub mod Known
+pub mod Parts
 pub mod Least
 pub mod Results
 pub mod Transfer

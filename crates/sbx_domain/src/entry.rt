@@ -1,6 +1,6 @@
 //! What is known of one word.
 ghost use Rattle.std.specs.Prelude.{◌≡◌};
-ghost use Rattle.sbx_domain.specs.Known.{entry_of_cell, plain_entry_of};
+ghost use Rattle.sbx_domain.specs.Known.{entry_of_cell, is_empty_range, plain_entry_of, range_of_entry};
 ghost use Rattle.sbx_domain.specs.Refining.{with_range_of};
 
 use crate::lin::Lin;
@@ -40,5 +40,15 @@ pub(crate) fn entry_of_cell(cell: &Cell) -> Entry
     Entry {
         range: cell.range,
         form: Some(Lin::of_location(cell.location)),
+    }
+}
+
+/// Whether there is an entry, and its range holds no number.
+pub(crate) fn is_empty(entry: &Option<Entry>) -> bool
+    ensures { result ≡ is_empty_range (range_of_entry entry.now) }
+{
+    match entry {
+        Some(entry) => entry.range.hi < entry.range.lo,
+        None => false,
     }
 }

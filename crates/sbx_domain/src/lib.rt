@@ -9,6 +9,7 @@ mod lowest;
 mod memory;
 mod moving;
 mod operands;
+mod parts;
 mod relation;
 mod results;
 mod room;

@@ -4,7 +4,8 @@ ghost use Rattle.std.specs.Prelude.{◌≡◌, IfOk};
 use crate::branching::refined_pair;
 use crate::entry::{Entry, entry_of_cell, plain_entry, with_range};
 use crate::lin::Lin;
-use crate::moving::{clear_entries, restore_entries, return_entries, save_entries};
+use crate::moving::{restore_entries, return_entries, save_entries};
+use crate::parts::{PART, PARTS, clear_entries, copy_entries, has_empty, only};
 use crate::relation::{Related, Relation, without_location};
 use crate::room::repeated;
 use sbx_range::{Cell, Pair, Range, refine_by_value};
@@ -20,6 +21,8 @@ pub const LOCATIONS: usize = 1_040;
 #[derive(Drop)]
 pub struct State {
     entries: Vec<Option<Entry>>,
+    // by parts of 16 locations: in one without a mark nothing is known, and nothing walks over it
+    marks: [bool; PARTS],
     y: Option<Range>,
     icc: bool,
     relation: Option<Relation>,
@@ -28,12 +31,13 @@ pub struct State {
 impl Model for State {
     ghost use Rattle.std.specs.Prelude.{◌≡◌, length};
     ghost use Rattle.sbx_domain.specs.Known.{Table};
+    ghost use Rattle.sbx_domain.specs.Parts.{AreMarked};
 
     ghost Value = { Table };
 
     ghost view = { λ s. record { entries = s.entries.items; y = s.y; icc = s.icc; relation = s.relation } };
 
-    ghost invariant = { λ s. length s.entries.items ≡ 1040 };
+    ghost invariant = { λ s. (length s.entries.items ≡ 1040) × (length s.marks ≡ 65) × AreMarked 0 1040 s.marks s.entries.items };
 }
 
 impl State {
@@ -44,7 +48,7 @@ impl State {
     ghost use Rattle.sbx_flat.specs.Three.{Three};
     ghost use Rattle.sbx_flat.specs.Operation.TheVariants.{Save};
     ghost use Rattle.sbx_domain.specs.Transfer.{called, restored, transferred, with_codes};
-    ghost use Rattle.sbx_domain.specs.Known.{entry_of_cell, form_at, known, nothing_known, range_at, started, with_entry, with_icc, with_range, with_y};
+    ghost use Rattle.sbx_domain.specs.Known.{entry_of_cell, form_at, is_empty_range, known, nothing_known, range_at, started, with_entry, with_icc, with_range, with_y};
 
     /// Nothing defined, with room for every location.
     pub fn new(alloc: Global) -> Result<Self, AllocError>
@@ -52,6 +56,7 @@ impl State {
     {
         Ok(State {
             entries: repeated(alloc, None, LOCATIONS)?,
+            marks: [false; PARTS],
             y: None,
             icc: false,
             relation: None,
@@ -105,6 +110,7 @@ impl State {
     {
         if 0 < location && usize::from(location) < LOCATIONS {
             self.entries[location as usize] = entry;
+            self.marks[location as usize / PART] = true;
             self.relation = without_location(location, self.relation);
         }
     }
@@ -155,7 +161,8 @@ impl State {
     pub fn save(&mut self)
         ensures { (frame : ℕ) → (fields : Three) → known self.new ≡ transferred frame (Save fields) (known self.old) }
     {
-        save_entries(self.entries.as_mut_slice());
+        save_entries(self.entries.as_mut_slice(), &self.marks);
+        self.marks = only(1);
         self.y = None;
         self.icc = false;
         self.relation = None;
@@ -165,7 +172,8 @@ impl State {
     pub(crate) fn pop(&mut self)
         ensures { known self.new ≡ restored (known self.old) }
     {
-        restore_entries(self.entries.as_mut_slice());
+        restore_entries(self.entries.as_mut_slice(), &self.marks);
+        self.marks = only(0);
         self.relation = None;
     }
 
@@ -174,6 +182,7 @@ impl State {
         ensures { known self.new ≡ called results.now (known self.old) }
     {
         return_entries(self.entries.as_mut_slice(), results);
+        self.marks[0] = true;
         self.y = None;
         self.icc = false;
         self.relation = None;
@@ -183,7 +192,8 @@ impl State {
     fn clear(&mut self)
         ensures { known self.new ≡ nothing_known }
     {
-        clear_entries(self.entries.as_mut_slice());
+        clear_entries(self.entries.as_mut_slice(), &self.marks, 0, LOCATIONS);
+        self.marks = [false; PARTS];
         self.y = None;
         self.icc = false;
         self.relation = None;
@@ -212,13 +222,26 @@ impl State {
     pub fn copy_to(&self, other: &mut State)
         ensures { other.new ≡ self.now }
     {
-        other
-            .entries
-            .as_mut_slice()
-            .copy_from_slice(self.entries.as_slice());
+        copy_entries(
+            self.entries.as_slice(),
+            other.entries.as_mut_slice(),
+            &self.marks,
+            &other.marks,
+        );
+        let marks = self.marks;
+        other.marks = marks;
         other.y = self.y;
         other.icc = self.icc;
         other.relation = self.relation;
+    }
+
+    /// Whether some location's range holds no number.
+    #[tactic(auto, unfolding(crate::specs::Known::known))]
+    pub fn has_empty_range(&self) -> bool
+        ensures some { result ≡ true → (l : ℕ) × (is_empty_range (range_at (known self.now) l) ≡ true) }
+        ensures none { result ≡ false → (l : ℕ) → is_empty_range (range_at (known self.now) l) ≡ false }
+    {
+        has_empty(self.entries.as_slice(), &self.marks)
     }
 
     /// Puts a range in the place of a location's, where it is defined. This is no write: its form and the relation stay.
@@ -228,6 +251,7 @@ impl State {
         let entry = with_range(range, self.entry(location));
         if usize::from(location) < LOCATIONS {
             self.entries[location as usize] = entry;
+            self.marks[location as usize / PART] = true;
         }
     }
 

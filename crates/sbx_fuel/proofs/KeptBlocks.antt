@@ -20,13 +20,13 @@ use Rattle.sbx_form.specs.declared.terms.FormTerm.{FormTerm}
 use Rattle.sbx_form.specs.Forms.{AscendFrom}
 use Rattle.std.proofs.lemmas.Option.{slice_get-get_or}
 use Rattle.sbx_rules.specs.Forms.{Form}
-use Rattle.sbx_rules.specs.Known.{Known, cell_entry, entry_of_cell, is_location, range_at, range_of_entry, started}
+use Rattle.sbx_rules.specs.Known.{Known, cell_entry, entry_of_cell, is_empty_range, is_location, range_at, range_of_entry, started}
 use Rattle.sbx_image.specs.Order.{block_at, function_at, no_block, no_function, or_block, or_function}
 use Rattle.sbx_rules.specs.Fuel.{IsPaid}
 use Rattle.sbx_rules.specs.Ways.{counted, form_term, fuel_at, names_cell, out_cells, state_at}
 use Rattle.sbx_fuel.specs.Blocks.{IsKeptBlock, first_of, fuel_of}
 use Rattle.sbx_fuel.specs.Margins.{AreSome}
-use Rattle.sbx_fuel.specs.Least.{AreNonzero, HasOnlyLocations, is_empty_range}
+use Rattle.sbx_fuel.specs.Least.{AreNonzero, HasOnlyLocations}
 use Rattle.sbx_fuel.proofs.Values.{from_less}
 
 -- ---- ranges

@@ -2,7 +2,6 @@
 use Rattle.std.specs.Prelude.{◌≡◌, ℕ, Bool, false, not, int_lt, ◌*ℤ◌, ◌+ℤ◌, ℤ, pos, neg_ℤ, List, [], ◌∷◌, Option, Some, None}
 use Rattle.std.specs.Int.{int_min}
 use Rattle.sbx_image.specs.Range.{Range}
-use Rattle.sbx_range.specs.Ranges.{is_empty}
 use Rattle.sbx_form.specs.declared.terms.FormTerm.{FormTerm}
 use Rattle.sbx_rules.specs.Forms.{Form}
 use Rattle.sbx_rules.specs.Known.{Known, form_at, is_location, range_at}
@@ -47,7 +46,3 @@ abbrev pub is_natural_sum : ℤ → Option ℤ → Option ℤ → Bool
 is_natural_sum z (Some m) (Some n) = not (int_lt (z +ℤ (m +ℤ n)) (pos 0))
 is_natural_sum z (Some m) None = false
 is_natural_sum z None n = false
-
-abbrev pub is_empty_range : Option Range → Bool
-is_empty_range None = false
-is_empty_range (Some r) = is_empty r

@@ -1,22 +1,21 @@
 //! Whether a block's fuel lasts.
 ghost use Rattle.std.specs.Prelude.{◌≡◌, ◌<◌, ◌≤◌, ◌^◌, ◌+ℤ◌, ◌-ℤ◌, pos, true, false, length, unsigned_abs, IfSome, Ok, Some, map, not};
-ghost use Rattle.sbx_rules.specs.Known.{known, range_at};
+ghost use Rattle.sbx_rules.specs.Known.{known};
 ghost use Rattle.sbx_image.specs.Rules.{parts_keep};
-ghost use Rattle.sbx_range.specs.Ranges.{is_empty};
 ghost use Rattle.sbx_rules.specs.Fuel.{IsEnough, IsPaid, IsWithinBudget};
 ghost use Rattle.sbx_image.specs.Order.{function_at};
 ghost use Rattle.sbx_rules.specs.Rules.{names_strange};
 ghost use Rattle.sbx_rules.specs.Ways.{fuel_at, state_at};
 ghost use Rattle.sbx_fuel.specs.Blocks.{IsKeptBlock, first_of, fuel_of};
-ghost use Rattle.sbx_fuel.specs.Least.{HasOnlyLocations, is_empty_range, is_natural_sum};
+ghost use Rattle.sbx_fuel.specs.Least.{HasOnlyLocations, is_natural_sum};
 ghost use Rattle.sbx_fuel.specs.Margins.{AreSome};
 
 use crate::starts::{all_negated, fuel_terms, names_none};
 use crate::sums::{least_at_start, less_forms, taken_by};
 use arrayvec::ArrayVec;
 use sbx_form::FormTerm;
-use sbx_image::{Block, Function, Image, Range};
-use sbx_rules::{LOCATIONS, State};
+use sbx_image::{Block, Function, Image};
+use sbx_rules::State;
 
 fn total(number: i128, least: i128, other: i128) -> i128
     requires number { unsigned_abs number ≤ 2 ^ 70 }
@@ -40,27 +39,13 @@ fn is_natural_sum(number: i128, least: Option<i128>, other: Option<i128>) -> boo
     }
 }
 
-fn is_empty_range(range: Option<Range>) -> bool
-    ensures { result ≡ is_empty_range range }
-{
-    match range {
-        Some(range) => range.hi < range.lo,
-        None => false,
-    }
-}
-
 /// Whether some range holds no number. Such a state is that of no run, and asks nothing of fuel.
 fn has_empty_range(now: &State) -> bool
     requires { HasOnlyLocations (known now.now) }
     ensures empty { result ≡ true → AreSome (known now.now) → ⊥ }
     ensures full { result ≡ false → AreSome (known now.now) }
 {
-    for location in 1..LOCATIONS as u16 {
-        if is_empty_range(now.range(location)) {
-            return true;
-        }
-    }
-    false
+    now.has_empty_range()
 }
 
 /// What is left of a block's constant once the other's and the weight are taken away.

@@ -1,35 +1,33 @@
-use Rattle.std.proofs.lemmas.Grind.{common_steps}
-use Rattle.std.proofs.Common.{◌≡◌, ◌-◌, length, ap, ◌∙◌, arith, length-set, Bool, true, if◌then◌else◌, slice_index_or, None}
-use Rattle.std.specs.Prelude.{nat_le}
-use Rattle.std.proofs.lemmas.Bool.Decides.{nat_tests}
-use Rattle.sbx_domain.proofs.Moves.{after_save, nothing_saved, one_more_saved}
+use Rattle.std.proofs.Common.{◌≡◌, ◌-◌, length, None, ◌∙◌, arith, length-set, rules}
+use Rattle.std.proofs.lemmas.List.{get_or_read}
+use Rattle.sbx_domain.proofs.Moves.{after_clear_past, all_saved, next_in, no_in_yet, not_filled, one_more_filled, with_ins}
 use Rattle.sbx_domain.proofs.moving.save_entries.Goals as goal
 
-pub loop-left-init : goal.loop-left-init
-loop-left-init g c = (search arith, search arith, nothing_saved g.row.T.Denot c.args.entries.now c.requires)
+pub loop-location-init : goal.loop-location-init
+loop-location-init g c = (search rules, no_in_yet g.row.T.Denot c.args.entries.now)
 
-pub loop-left-preserved : goal.loop-left-preserved
-loop-left-preserved g c =
-    let size : length c.loop-left.entries ≡ length c.args.entries.now = c.loop-left.invariant.0 in (
-      length-set c.loop-left.entries (c.loop-left.left - 1) c.saved_entry-entry.result ∙ size,
-      omega (arith, c.loop-left.invariant.1, length-set c.loop-left.entries (c.loop-left.left - 1) c.saved_entry-entry.result),
-      one_more_saved g.row.T.Denot (c.loop-left.left - 1) c.loop-left.left c.args.entries.now c.loop-left.entries c.saved_entry-entry.result
-          (omega (arith, c.loop-left.invariant.1, c.loop-left-test.true)) (omega (arith, c.loop-left-test.true)) c.loop-left.invariant.2 c.saved_entry-entry.ensures,
+pub loop-location-preserved : goal.loop-location-preserved
+loop-location-preserved g c =
+    let A = g.row.T.Denot in
+    let xs = c.args.entries.now in
+    let ys = c.loop-location.entries in
+    let n = c.loop-location.location in
+    let e = c.index-entries-location.result in
+    let size : length ys ≡ length xs = c.loop-location.invariant.0 in (
+      length-set ys n e ∙ size,
+      one_more_filled A n (with_ins A xs) xs ys e (omega (arith, size, c.requires.size, c.loop-location-test.true))
+          (get_or_read ys (n - 16) e (omega (arith, size, c.requires.size, c.loop-location-test.true)) c.index-entries-location.is None
+          ∙ next_in A n xs ys c.loop-location.auto.location c.loop-location-test.true c.loop-location.invariant.1) c.loop-location.invariant.1,
     )
 
 pub returns-clause-moved : goal.returns-clause-moved
 returns-clause-moved g c =
-    λ k. (let from : nat_le c.loop-left.left k ≡ true = grind (arith, nat_tests, c.loop-left-test.false) in
-    c.loop-left.invariant.2 k ∙ ap (λ (t : Bool). if t then after_save g.row.T.Denot c.args.entries.now k else slice_index_or c.args.entries.now k None) from)
+    all_saved g.row.T.Denot c.loop-location.location c.args.entries.now c.loop-location.entries c.clear_entries.new.entries c.clear_entries-2.new.entries c.requires.size (omega arith) c.loop-location.invariant.1 c.clear_entries.ensures.cleared c.clear_entries-2.ensures.cleared
 
-pub offset_bounds-entries-left : goal.offset_bounds-entries-left
-offset_bounds-entries-left g c = grind (arith, common_steps)
-
-pub returns-clause-size : goal.returns-clause-size
-returns-clause-size g c = assumption
-
-pub bounds-entries-left : goal.bounds-entries-left
-bounds-entries-left g c = grind (arith, common_steps)
-
-pub saved_entry-entry-requires : goal.saved_entry-entry-requires
-saved_entry-entry-requires g c = grind (arith, common_steps)
+pub clear_entries-requires-2-clause-marked : goal.clear_entries-requires-2-clause-marked
+clear_entries-requires-2-clause-marked g c = λ k low high unmarked.
+    (c.clear_entries.ensures.cleared k
+    ∙ (after_clear_past g.row.T.Denot 0 24 c.loop-location.entries k (omega (arith, low))
+    ∙ (not_filled g.row.T.Denot c.loop-location.location k (with_ins g.row.T.Denot c.args.entries.now) c.args.entries.now c.loop-location.entries
+    (let end : c.loop-location.location ≡ 32 = omega arith in omega (arith, low, end)) c.loop-location.invariant.1
+    ∙ c.requires.marked k (omega arith) high unmarked)))

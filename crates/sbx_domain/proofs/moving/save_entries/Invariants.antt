@@ -1,9 +1,6 @@
-use Rattle.std.proofs.Common.{◌≡◌, ◌≤◌, length}
-use Rattle.sbx_domain.proofs.Moves.{SavedFrom}
+use Rattle.std.proofs.Common.{◌≡◌, length}
+use Rattle.sbx_domain.proofs.Moves.{FilledTo, with_ins}
 use Rattle.sbx_domain.proofs.moving.save_entries.Given as goal
 
-abbrev pub invariant-loop-left : goal.invariant-loop-left
-invariant-loop-left g l = (length l.entries ≡ length l.initial.entries) × (l.left ≤ length l.entries) × SavedFrom g.row.T.Denot l.left l.initial.entries l.entries
-
-abbrev pub decreases-loop-left : goal.decreases-loop-left
-decreases-loop-left g l = l.left
+abbrev pub invariant-loop-location : goal.invariant-loop-location
+invariant-loop-location g l = (length l.entries ≡ length l.initial.entries) × FilledTo g.row.T.Denot l.location (with_ins g.row.T.Denot l.initial.entries) l.initial.entries l.entries

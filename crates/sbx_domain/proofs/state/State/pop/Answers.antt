@@ -1,6 +1,9 @@
 use Rattle.std.proofs.lemmas.Grind.{common_steps}
-use Rattle.std.proofs.Common.{◌≡◌, ℕ, List, length, take, drop, ◌++◌, Option, None, ap, ◌∙◌, arith, slice_index_or, if◌then◌else◌, ◌+◌}
+use Rattle.std.proofs.Common.{◌≡◌, ℕ, Bool, List, length, take, drop, ◌++◌, Option, None, ap, sym, subst, ◌∙◌, arith, slice_index_or, if◌then◌else◌, ◌+◌}
 use Rattle.std.proofs.Math.Seq.{take-append_seam}
+use Rattle.sbx_domain.proofs.Moves.{after_restore}
+use Rattle.sbx_domain.proofs.Marked.{marked_restored}
+use Rattle.sbx_domain.specs.Parts.{AreMarked}
 use Rattle.sbx_domain.proofs.Tables.{known_popped}
 use Rattle.sbx_domain.proofs.state.State.pop.Goals as goal
 use Rattle.sbx_domain.specs.declared.entry.Entry.{Entry}
@@ -21,4 +24,12 @@ returns c =
     ∙ ap (λ (t : Table). restored (known t)) c.self.view_is)
 
 pub invariant_of-self : goal.invariant_of-self
-invariant_of-self c = grind (arith, common_steps)
+invariant_of-self c =
+    let xs : List (Option Entry) = c.self.inside.entries.items in
+    let ws : List (Option Entry) = c.restore_entries.new.entries in
+    let size : length ws ≡ length xs = c.restore_entries.ensures.size ∙ ap length c.as_mut_slice.ensures.value in (
+      grind (arith, common_steps),
+      grind (arith, common_steps),
+      subst (λ (zs : List (Option Entry)). AreMarked 0 1040 c.only-self-inside.result zs) (sym (whole c.self.inside.entries.len ws (drop (length ws) xs) (omega (arith, size, c.self.inside.entries.ok.0))))
+          (subst (λ (ms : List Bool). AreMarked 0 1040 ms ws) (sym c.only-self-inside.ensures) (marked_restored Entry xs ws (λ k. c.restore_entries.ensures.moved k ∙ ap (λ (ys : List (Option Entry)). after_restore Entry ys k) c.as_mut_slice.ensures.value))),
+    )
