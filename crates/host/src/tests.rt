@@ -14,6 +14,7 @@ const HELLO: &[u8] =
     \0\0\0\0\0\0\0\0\0\0\0\x10";
 
 /// A reader of so many zeros.
+#[derive(Drop)]
 struct Zeros {
     left: usize,
 }
