@@ -2,7 +2,7 @@
 use crate::bounding::Bounded;
 use crate::judging::{MOST, judge};
 use crate::policy::{Denial, POLICY, Policy};
-use crate::words::{Lack, Name, Report, read_words};
+use crate::words::{Asked, Lack, Name, Report, Terms, read_words};
 use sbx_command::ReadFault;
 use sbx_run::Services;
 use std::io::{self, Read, Write};
@@ -27,6 +27,11 @@ impl Read for Zeros {
     }
 }
 
+/// Whether terms grant so many turns and such services, and have such an input.
+fn are_terms(terms: &Terms<'_>, turns: u64, services: Services, input: Option<&str>) -> bool {
+    terms.policy.turns == turns && terms.policy.services == services && terms.input == input
+}
+
 #[test]
 fn words_are_read(rt: HostRuntime) {
     let words = [
@@ -48,13 +53,13 @@ fn words_are_read(rt: HostRuntime) {
     let Ok(asked) = read_words(rt.alloc(), &words) else {
         panic!(rt; "no words");
     };
-    assert!(rt; asked.terms.policy.turns == 1_099_511_627_776);
-    assert!(rt; asked.terms.policy.services == Services(5));
-    assert!(rt; asked.terms.windows.count() == 32);
-    assert!(rt; asked.terms.input == Some("in"));
-    assert!(rt; asked.terms.most == 7);
-    assert!(rt; asked.terms.report == Report::Json);
-    assert!(rt; asked.paths.as_slice() == ["a.img", "b.img"].as_slice());
+    let Asked { terms, paths } = asked;
+    assert!(rt; are_terms(&terms, 1_099_511_627_776, Services(5), Some("in")));
+    assert!(rt; terms.most == 7);
+    assert!(rt; terms.report == Report::Json);
+    assert!(rt; paths.as_slice() == ["a.img", "b.img"].as_slice());
+    let Terms { windows, .. } = terms;
+    assert!(rt; windows.count() == 32);
 }
 
 #[test]
@@ -63,10 +68,10 @@ fn usual_terms(rt: HostRuntime) {
         let Ok(asked) = read_words(rt.alloc(), &words) else {
             panic!(rt; "no words");
         };
-        assert!(rt; asked.terms.policy.turns == 5_000_000);
-        assert!(rt; asked.terms.policy.services == Services(7));
-        assert!(rt; asked.terms.windows.count() == 8);
-        assert!(rt; asked.terms.input.is_none());
+        let Asked { terms, .. } = asked;
+        assert!(rt; are_terms(&terms, 5_000_000, Services(7), None));
+        let Terms { windows, .. } = terms;
+        assert!(rt; windows.count() == 8);
     }
 }
 
