@@ -18,8 +18,8 @@ LINE = re.compile(
 
 
 def unbroken(text):
-    """The turns of `inspect trace`, each in one line."""
-    return re.sub(r"\n {7}(?=\S)", "  ", text).splitlines()
+    """The turns of `inspect trace`, each in one line. The line behind them that says that the limit was met is none."""
+    return re.sub(r"\n {7}(?=\S)", "  ", re.sub(r"^limit: .*\n\Z", "", text, flags=re.M)).splitlines()
 
 
 def items_of(line):

@@ -71,9 +71,12 @@ class Told:
 
 
 def read(lines):
-    """Yields the turns of the text of `inspect trace`, whose lines go on where they begin with seven blanks."""
+    """Yields the turns of the text of `inspect trace`, whose lines go on where they begin with seven blanks. Behind them a line may say
+    that the limit was met."""
     text = ""
     for line in lines:
+        if line.startswith("limit: "):
+            break
         if line.startswith("       "):
             text += line
         else:

@@ -5,15 +5,14 @@ use sbx_raw::PageUse;
 use std::alloc::AllocError;
 use v8_map::{CODE_START, DATA_END, DATA_START, PAGE};
 
-/// What a board shows beside its registers and its memory: PSR, WIM, Y, which pages of code, data and stack were referenced and
-/// modified, and how many bytes were put out.
+/// What a board shows beside its registers and its memory: PSR, WIM, Y, and which pages of code, data and stack were referenced and
+/// modified.
 #[derive(Clone, Copy)]
 pub struct Shown {
     pub psr: u32,
     pub wim: u32,
     pub y: u32,
     pub pages: PageUse,
-    pub put_out: usize,
 }
 
 /// The bits of PSR that are N, Z, V and C.
@@ -124,16 +123,15 @@ fn put_pages(sheet: &mut Sheet, before: &PageUse, now: &PageUse) -> Result<(), A
     Ok(())
 }
 
-/// Puts the bytes that the device put out behind so many.
-fn put_output(sheet: &mut Sheet, output: &[u8], told: usize) -> Result<(), AllocError> {
-    for place in told..output.len() {
-        let byte = output[place];
+/// Puts the bytes that the device put out.
+fn put_output(sheet: &mut Sheet, output: &[u8]) -> Result<(), AllocError> {
+    for byte in output {
         sheet.put(format_args!("puts out {byte:02X}"))?;
     }
     Ok(())
 }
 
-/// Puts what changed of what a board shows: PSR, WIM, Y, marks of pages, and the output, all of which is given.
+/// Puts what changed of what a board shows: PSR, WIM, Y, marks of pages, and the output that wasn't told yet.
 pub fn put_changes(
     sheet: &mut Sheet,
     before: &Shown,
@@ -144,5 +142,5 @@ pub fn put_changes(
     put_change(sheet, "WIM=", before.wim, now.wim)?;
     put_change(sheet, "Y=", before.y, now.y)?;
     put_pages(sheet, &before.pages, &now.pages)?;
-    put_output(sheet, output, before.put_out)
+    put_output(sheet, output)
 }

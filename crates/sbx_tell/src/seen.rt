@@ -27,7 +27,6 @@ fn shown_of<const N: usize>(board: &Board<N, SlicePort<'_>>) -> Shown {
         wim: board.wim(),
         y: board.y(),
         pages: board.page_use(),
-        put_out: board.port().output().len(),
     }
 }
 

@@ -1,6 +1,10 @@
 //! The turns of a run, one after the other.
 ghost use Rattle.std.specs.Prelude.{◌≡◌, ◌≢◌, ◌≤◌, IfErr, OnErr, OnOk};
-ghost use Rattle.sbx_tell.specs.Watched.{Watched, WatchedPart, WatchedRun, WatchedSome, WatchedTurn};
+ghost use Rattle.std.specs.Io.KnownBytes.{Appends};
+ghost use Rattle.v8_board.specs.Seen.{ending_of};
+ghost use Rattle.sbx_put.specs.Fronts.{Wrote, WroteSome};
+ghost use Rattle.sbx_raw.specs.Outputs.{Alike};
+ghost use Rattle.sbx_tell.specs.Watched.{BeginsRun, TellsRun, Watched, WatchedPart, WatchedRun, WatchedSome, WatchedTurn, last_text};
 
 use crate::slices::Progress;
 use crate::teller::Teller;
@@ -23,7 +27,17 @@ fn tell_slice<P: Progress>(progress: &mut P, done: u64) {
     }
 }
 
-/// Makes a turn, and writes its text.
+/// Forgets what the device has put out, which was told.
+fn forget_output<const N: usize>(board: &mut Board<N, SlicePort<'_>>)
+    ensures { Alike N board.new.state board.old.state }
+{
+    // (a port that is lent takes the translations that are kept with it)
+    if !board.port().output().is_empty() {
+        board.port_mut().forget();
+    }
+}
+
+/// Makes a turn, and writes its text. What the device has put out is forgotten then, so that memory doesn't grow.
 fn watch_turn<const N: usize, W: Write>(
     board: &mut Board<N, SlicePort<'_>>,
     functions: &[Function],
@@ -44,7 +58,10 @@ fn watch_turn<const N: usize, W: Write>(
         Err(error) => return Err(RunFault::from(error)),
     }
     match put_all(out, teller.line.as_bytes()) {
-        Ok(()) => Ok(()),
+        Ok(()) => {
+            forget_output(board);
+            Ok(())
+        }
         Err(_) => Err(RunFault::Writer),
     }
 }
@@ -72,7 +89,31 @@ fn watch_turns<const N: usize, W: Write, P: Progress>(
     Ok(())
 }
 
-/// Runs a board that was loaded with an image, and writes the text of each turn, through to the end.
+/// Writes the last line, where the limit cuts the run short.
+fn watch_last<const N: usize, W: Write>(
+    alloc: Global,
+    board: &Board<N, SlicePort<'_>>,
+    limit: u64,
+    out: &mut W,
+) -> Result<(), RunFault>
+    ensures whole { OnOk result (Appends (W.contents out.old) (W.contents out.new) (last_text limit (ending_of N board.now.state.world))) }
+    ensures part { OnErr result (WroteSome (W.contents out.old) (W.contents out.new) (last_text limit (ending_of N board.now.state.world))) }
+    ensures fault { IfErr result (λ fault. fault ≢ RunFault.Reader) }
+{
+    let None = board.ending() else {
+        return Ok(());
+    };
+    let line = match format!(in alloc; "limit: the run would go on behind turn {limit}\n") {
+        Ok(line) => line,
+        Err(error) => return Err(RunFault::from(error)),
+    };
+    match put_all(out, line.as_bytes()) {
+        Ok(()) => Ok(()),
+        Err(_) => Err(RunFault::Writer),
+    }
+}
+
+/// Runs a board that was loaded with an image, and writes the text of each turn, and the last line, through to the end.
 fn watch_board<const N: usize, W: Write, P: Progress>(
     alloc: Global,
     board: &mut Board<N, SlicePort<'_>>,
@@ -82,12 +123,13 @@ fn watch_board<const N: usize, W: Write, P: Progress>(
     progress: &mut P,
 ) -> Result<(), RunFault>
     requires { (4 ≤ N) × (N ≤ 32) }
-    ensures whole { OnOk result (WatchedRun N functions.now limit board.old.state board.new.state (W.contents out.old) (W.contents out.new)) }
-    ensures part { OnErr result (WatchedPart N functions.now limit board.old.state (W.contents out.old) (W.contents out.new)) }
+    ensures whole { OnOk result (Wrote (W.contents out.old) (W.contents out.new) (TellsRun N functions.now limit board.old.state)) }
+    ensures part { OnErr result (BeginsRun N functions.now limit board.old.state (W.contents out.old) (W.contents out.new)) }
     ensures fault { IfErr result (λ fault. fault ≢ RunFault.Reader) }
 {
     let mut teller = Teller::new(alloc, board);
     watch_turns(board, functions, limit, &mut teller, out, progress)?;
+    watch_last(alloc, board, limit, out)?;
     match out.flush() {
         Ok(()) => Ok(()),
         Err(_) => Err(RunFault::Writer),
@@ -117,8 +159,9 @@ fn watch_on<const N: usize, W: Write, P: Progress>(
 /// Runs an image on an input, on so many windows, 4 to 32, to an end, but at most so many turns, and writes a text for each: its
 /// number, the window, the mode, PC and the name of the place before it, and the instruction; then a trap by its name, the registers
 /// that it changed, PSR, WIM and Y, pages that it referenced or modified for the first time, the words that it stored, and the byte
-/// that it put out. Lines have at most 100 columns, and those that go on begin with blanks. Where the writer fails, or memory is
-/// refused, it has the first bytes of such a text. It tells in between how far the run has come. Each count is a machine of its own.
+/// that it put out. Lines have at most 100 columns, and those that go on begin with blanks. Where the limit cuts the run short a last
+/// line says so. Where the writer fails, or memory is refused, it has the first bytes of such a text. It tells in between how far the
+/// run has come. Nothing grows with the turns or with what is put out. Each count is a machine of its own.
 pub fn watch_windows<W: Write, P: Progress>(
     alloc: Global,
     windows: u32,

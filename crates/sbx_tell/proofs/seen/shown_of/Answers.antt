@@ -11,6 +11,3 @@ wim-requires g c = assumption
 
 pub y-requires : goal.y-requires
 y-requires g c = assumption
-
-pub port-requires : goal.port-requires
-port-requires g c = assumption

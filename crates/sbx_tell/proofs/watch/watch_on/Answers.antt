@@ -11,7 +11,7 @@ returns-in_err-board g c =
 
 pub returns : goal.returns
 returns g c =
-    watch_told g.row.N c.args.windows c.args.image.now c.args.input.now c.args.limit c.in_ok-board.board.state c.watch_board.new.board.state c.functions-functions.result.now
+    watch_told g.row.N c.args.windows c.args.image.now c.args.input.now c.args.limit c.in_ok-board.board.state c.functions-functions.result.now
     (g.W.Write.contents c.args.out.now) (g.W.Write.contents c.watch_board.new.out) c.watch_board.result
     c.requires.same c.functions-functions.ensures.value c.in_ok-board.ensures.begun c.watch_board.ensures.whole c.watch_board.ensures.part c.watch_board.ensures.fault
 

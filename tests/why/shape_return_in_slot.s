@@ -1,0 +1,14 @@
+! V3: a return in the slot of a call.
+.services exit
+.function main,framed,96,96,90
+.fuel 90
+    save %sp,-96,%sp
+    call f
+    ret
+    restore
+    mov 0,%o0
+    ta 0
+.function f,leaf,0,0,9
+.fuel 9
+    retl
+    nop
