@@ -5,6 +5,7 @@ mod counts;
 mod running;
 mod runs;
 
+pub use counts::count;
 pub use running::Ending;
 pub use runs::{Finished, run_flat};
 pub use sbx_verify::Accepted;
