@@ -43,11 +43,13 @@ if [ ${#files[@]} = 0 ] || [ -z "$out" ]; then
     usage
 fi
 
-# What makes the compiler write what the rules admit: no filled slots, no position-independent code, no tables of jumps, no tail calls;
+# What makes the compiler write what the rules admit: no filled slots, no position-independent code, no tables of jumps, no tail calls,
+# no second name for a function that is like another one;
 # %g5 to %g7 are left to the tests, %o7 to the calls. The further ones keep an index in a register that counts from an object, so that
 # fewer tests are needed.
 plain=(-S -ffreestanding -g1 -m32 -mcpu=v8 -mno-app-regs -ffixed-o7 -fno-delayed-branch -fno-pic -fno-pie -fno-jump-tables
-    -fno-optimize-sibling-calls -fno-asynchronous-unwind-tables -fno-stack-protector -fno-common -Wreturn-type)
+    -fno-optimize-sibling-calls -fno-asynchronous-unwind-tables -fno-stack-protector -fno-common -fno-ipa-icf
+    -Wreturn-type)
 shaped=(-fno-tree-loop-distribute-patterns -fno-ivopts -fno-schedule-insns -fno-schedule-insns2 -fno-tree-vectorize
     -fno-tree-loop-ivcanon -fno-split-loops -fno-thread-jumps -fno-crossjumping -fno-tree-tail-merge
     --param logical-op-non-short-circuit=0)

@@ -2,7 +2,7 @@
 use crate::told::are_told;
 
 /// What stands behind `main:` in the fourth line, and why there is no program.
-static REFUSED: [(&str, &str); 6] = [
+static REFUSED: [(&str, &str); 18] = [
     (
         " save %sp,-96,%sp\n call main\n nop\n ret\n restore",
         "t.s:6: recursion: main calls main",
@@ -26,6 +26,57 @@ static REFUSED: [(&str, &str); 6] = [
     (
         " nop\n save %sp,-96,%sp\n ret\n restore",
         "t.s:6: main: a frame of unknown size, or instructions before SAVE",
+    ),
+    (
+        ".L0:\n save %sp,-96,%sp\n b .L0\n nop",
+        "t.s:7: main: a transfer to what stands before SAVE",
+    ),
+    (
+        " jmp %o0\n nop",
+        "t.s:5: a jump through a register: compile without tables of jumps",
+    ),
+    (
+        " be .L1\n nop\n.L1:\n retl\n nop",
+        "t.s:5: main: condition codes of several places, or of numbers that changed since",
+    ),
+    (
+        " add %sp,-96,%sp\n ld [%sp+188],%o0\n retl\n sub %sp,-96,%sp",
+        "t.s:6: main: an access to the stack outside of its frame",
+    ),
+    // Calls through pointers, with the line of C where it is known.
+    (
+        " save %sp,-96,%sp\n call %o1\n nop\n ret\n restore",
+        "t.s:6: a call through a pointer: name the function, by a switch",
+    ),
+    (
+        " .file 1 \"a.c\"\n .loc 1 7 0\n save %sp,-96,%sp\n .loc 1 9 5\n call %o1\n nop\n ret\n restore",
+        "a.c:9: a call through a pointer: name the function, by a switch",
+    ),
+    // The address of a function, in a register and in a table.
+    (
+        " sethi %hi(f),%o0\n retl\n or %o0,%lo(f),%o0\nf:\n retl\n nop",
+        "t.s:5: the address of the function f is taken: name it, by a switch",
+    ),
+    (
+        " retl\n nop\nf:\n retl\n nop\n.section \".rodata\"\n.align 4\ntable:\n .long f",
+        "t.s:13: the address of the function f is taken: name it, by a switch",
+    ),
+    // Floating point, `alloca`, and what inline assembly may hold.
+    (
+        " fadds %f0,%f1,%f2\n retl\n nop",
+        "t.s:5: floating point, fadds: use integers, or fixed point",
+    ),
+    (
+        " sub %sp,%o0,%sp\n retl\n nop",
+        "t.s:5: main: an array of a size that isn't constant",
+    ),
+    (
+        " rd %psr,%o0\n retl\n nop",
+        "t.s:5: main: an instruction that sandboxed code may not have",
+    ),
+    (
+        " quux %o0\n retl\n nop",
+        "t.s:5: the instruction quux isn't known, or can't be used here",
     ),
 ];
 
