@@ -26,3 +26,4 @@ mod text;
 
 pub use assembling::assemble;
 pub use fault::{AsmFault, Cause};
+pub use lines::first_line;
