@@ -134,3 +134,21 @@ fn a_copy_is_equal(rt: HostRuntime) {
         }
     }
 }
+
+/// Whether a range without numbers is found where a location has it, and only then.
+fn finds_empty(state: &mut State, location: u16) -> bool {
+    state.start(&TWO);
+    let before = state.has_empty_range();
+    state.set(location, Some(range((1, 0, 0))));
+    let there = state.has_empty_range();
+    state.set(location, Some(range((1, 1, 0))));
+    !before && there && !state.has_empty_range()
+}
+
+#[test]
+fn an_empty_range_is_found(rt: HostRuntime) {
+    if let Ok(mut state) = State::new(rt.alloc()) {
+        assert!(rt; finds_empty(&mut state, 1));
+        assert!(rt; finds_empty(&mut state, 1_039));
+    }
+}
