@@ -1,3 +1,4 @@
 pub mod Fields
 pub mod Runs
+pub mod Engine
 pub mod Verdicts

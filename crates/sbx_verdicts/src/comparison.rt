@@ -1,5 +1,6 @@
 //! Lines, one after the other, and how many agree.
 use crate::boards::runs_on_board;
+use crate::engine::runs_on_engine;
 use crate::faults::LineFault;
 use crate::fields::bytes;
 use crate::flat::runs_flat;
@@ -55,9 +56,13 @@ fn judged(alloc: Global, field: &str, wanted: &str) -> Result<(bool, Option<Acce
     Ok((agrees, accepted_of(verdict)))
 }
 
-/// Whether the runs of an image on a board and on the flat machine are a line's.
+/// Whether the runs of an image on a board, on the fast flat machine and on the plain one are a line's.
 fn runs_so(alloc: Global, accepted: &Accepted, run: &Run) -> Result<bool, LineFault> {
-    Ok(runs_on_board(alloc, accepted, run)? && runs_flat(alloc, accepted.image(), run)?)
+    Ok(
+        runs_on_board(alloc, accepted, run)?
+            && runs_on_engine(alloc, accepted, run)?
+            && runs_flat(alloc, accepted.image(), run)?,
+    )
 }
 
 /// What the lines so far came to, and the image of the last verdict, where it is accepted.
@@ -95,7 +100,7 @@ impl Comparison {
         Ok(agrees)
     }
 
-    /// Whether the runs of the image that is kept, on a board and on the flat machine, are the line's.
+    /// Whether the runs of the image that is kept, on a board and on both flat machines, are the line's.
     fn run(&self, alloc: Global, text: &str) -> Result<bool, LineFault> {
         let Some(accepted) = &self.accepted else {
             return Err(LineFault::NotRead);
