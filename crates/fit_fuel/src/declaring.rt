@@ -1,9 +1,12 @@
 //! What a fitted program declares.
+use crate::dearest::{Bill, dearest_loop};
 use crate::limits::check_limits;
 use crate::metering::{places_of, set_weights};
 use crate::terms::terms_of;
 use crate::totals::total_of;
+use fit_bounds::{Bound, bounds_of};
 use fit_code::{Fault, Function, Program, Reason};
+use fit_graph::Loop;
 use fit_meter::Meter;
 use fit_ranges::Ranges;
 use fit_text::{Annotations, BlockNotes, FunctionNotes};
@@ -43,6 +46,7 @@ struct Fuel {
 fn fuel_now(
     setting: &Setting<'_>,
     meter: Option<&Meter>,
+    bounds: &[(Loop, Option<Bound>)],
     state: &mut State,
 ) -> Result<(Fuel, Vec<Way>), Fault> {
     let Some(function) = setting.program.functions.get(setting.number) else {
@@ -50,7 +54,7 @@ fn fuel_now(
     };
     let blocks = function.blocks.len();
     let places = places_of(setting.alloc, function, meter)?;
-    let Some(terms) = terms_of(setting, meter, places.as_slice(), state)? else {
+    let Some(terms) = terms_of(setting, meter, places.as_slice(), bounds, state)? else {
         return Err(unbounded(function));
     };
     let ways = ways_of(setting, terms.as_slice(), places.as_slice(), state)?;
@@ -60,7 +64,8 @@ fn fuel_now(
     }
 }
 
-/// The fuel of a function, whose meter takes as much as has to be paid for.
+/// The fuel of a function, whose meter takes as much as has to be paid for: which bounds its loops have doesn't depend
+/// on that.
 fn fuel_of(
     alloc: Global,
     program: &mut Program,
@@ -70,6 +75,7 @@ fn fuel_of(
     budgets: &[u64],
     state: &mut State,
 ) -> Result<Fuel, Fault> {
+    let bounds = bounds_of(alloc, program, ranges, number, state)?;
     for _ in 0..ROUNDS {
         let setting = Setting {
             alloc,
@@ -78,7 +84,7 @@ fn fuel_of(
             number,
             budgets,
         };
-        let (fuel, ways) = fuel_now(&setting, meter, state)?;
+        let (fuel, ways) = fuel_now(&setting, meter, bounds.as_slice(), state)?;
         let is_more = match (meter, program.functions.get_mut(number)) {
             (Some(meter), Some(function)) => set_weights(
                 alloc,
@@ -122,16 +128,36 @@ fn notes_of_blocks(
     Ok(notes)
 }
 
-/// A budget that is too great.
-fn too_great(function: &Function, budget: u64) -> Fault {
-    Fault::new(
-        function.line,
-        Reason::TooGreat {
-            what: "the budget",
-            count: budget,
-            most: BOUND - 1,
-        },
-    )
+/// A budget that is too great, told at the loop that takes the most of it, or at the function if it has none.
+fn too_great(
+    setting: &Setting<'_>,
+    function: &Function,
+    fuel: &Fuel,
+    meter: Option<&Meter>,
+    budget: u64,
+    state: &mut State,
+) -> Result<Fault, AllocError> {
+    let places = places_of(setting.alloc, function, meter)?;
+    let ways = ways_of(setting, fuel.terms.as_slice(), places.as_slice(), state)?;
+    let bill = Bill {
+        meter,
+        places: places.as_slice(),
+        ways: ways.as_slice(),
+        constants: fuel.constants.as_slice(),
+    };
+    let (line, what) = match dearest_loop(setting.alloc, function, bill)? {
+        Some(line) => (
+            line,
+            "the budget, of which the loop here may take the most,",
+        ),
+        None => (function.line, "the budget"),
+    };
+    let reason = Reason::TooGreat {
+        what,
+        count: budget,
+        most: BOUND - 1,
+    };
+    Ok(Fault::new(line, reason))
 }
 
 /// What is said of a function, where those that it calls are known.
@@ -152,7 +178,14 @@ fn notes_of_function(
         return Err(Fault::new(fit_code::NO_LINE, Reason::Unreadable("no function")));
     };
     if budget >= BOUND {
-        return Err(too_great(function, budget));
+        let setting = Setting {
+            alloc,
+            program,
+            ranges,
+            number,
+            budgets,
+        };
+        return Err(too_great(&setting, function, &fuel, meter, budget, state)?);
     }
     let total = total_of(function, known);
     Ok(FunctionNotes {

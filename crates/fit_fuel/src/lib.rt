@@ -1,6 +1,7 @@
 //! Fuel: what each block of a fitted program declares, so that a run is shown to end.
 #![tactic(auto)]
 
+mod dearest;
 mod declaring;
 mod limits;
 mod metering;

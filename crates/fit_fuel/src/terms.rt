@@ -1,5 +1,5 @@
 //! The terms of blocks: what is left in the meter, and so many turns for each round that is left to a counter.
-use fit_bounds::{Bound, bounds_of};
+use fit_bounds::Bound;
 use fit_graph::Loop;
 use fit_meter::Meter;
 use fit_ways::{Setting, Way, cells_at, constant_at, least_constants, ways_of};
@@ -133,21 +133,16 @@ fn add_rounds(
     Ok(true)
 }
 
-/// The terms of each block of a function; none where a loop has neither a place of the meter nor a bound.
+/// The terms of each block of a function with these loops and bounds; none where a loop has neither a place of the
+/// meter nor a bound.
 pub fn terms_of(
     setting: &Setting<'_>,
     meter: Option<&Meter>,
     places: &[bool],
+    bounds: &[(Loop, Option<Bound>)],
     state: &mut State,
 ) -> Result<Option<Vec<Vec<Term>>>, AllocError> {
     let mut terms = metered(setting, meter, places.len())?;
-    let bounds = bounds_of(
-        setting.alloc,
-        setting.program,
-        setting.ranges,
-        setting.number,
-        state,
-    )?;
     // an inner loop stands behind those around it
     for (within, bound) in bounds.iter().rev() {
         if has_place(within, places) {
