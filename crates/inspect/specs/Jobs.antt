@@ -5,7 +5,7 @@ use Rattle.inspect.specs.declared.words.Job.TheVariants.{Image, Run, Trace, Why}
 
 -- its numbers are in their ranges
 abbrev pub IsInRange : Job → Type 0
-IsInRange (Image image) = Unit {0}
-IsInRange (Run image windows limit) = (4 ≤ windows) × (windows ≤ 32) × (limit ≤ 9999999999)
+IsInRange (Image image form) = Unit {0}
+IsInRange (Run image windows limit form) = (4 ≤ windows) × (windows ≤ 32) × (limit ≤ 9999999999)
 IsInRange (Trace image windows limit) = (4 ≤ windows) × (windows ≤ 32) × (limit ≤ 9999999999)
-IsInRange (Why image) = Unit {0}
+IsInRange (Why image form) = Unit {0}

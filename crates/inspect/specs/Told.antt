@@ -1,6 +1,5 @@
 -- What is told of the image of a file, where its bytes are known.
 use Rattle.std.specs.Prelude.{◌≡◌, ℕ, List, [], Ok, Option, Some, None, IfSome}
-use Rattle.std.specs.Io.KnownBytes.{Appends}
 use Rattle.sbx_image.specs.Parts.{Parts}
 use Rattle.sbx_image.specs.Reading.{reading}
 use Rattle.sbx_rules.specs.declared.cause.Refusal.{Refusal}
@@ -12,19 +11,42 @@ use Rattle.sbx_tell.specs.declared.run.Run.{Run}
 use Rattle.sbx_tell.specs.Reports.{run_text}
 use Rattle.sbx_tell.specs.Runs.{IsRun}
 use Rattle.sbx_tell.specs.Watched.{IsWatched}
+use Rattle.sbx_objects.specs.Objects.{IsLine}
+use Rattle.sbx_objects.specs.Images.{image_json}
+use Rattle.sbx_objects.specs.Runs.{run_json}
+use Rattle.sbx_objects.specs.Verdicts.{verdict_json}
+use Rattle.inspect.specs.declared.words.Form.{Form}
+use Rattle.inspect.specs.declared.words.Form.TheVariants.{Text, Json}
 
--- The output grew by the text of the image that the bytes spell.
-abbrev pub Shown : Option (List ℕ) → Option (List ℕ) → Option (List ℕ) → Type 0
-Shown file old new = IfSome file (λ bytes. (parts : Parts) × (reading bytes ≡ Ok parts) × Appends old new (image_text parts))
+-- ---- in the form that was asked for: lines for people, or one line that is an object
+
+abbrev pub IsImageReport : Form → Parts → List ℕ → Type 0
+IsImageReport Text parts text = text ≡ image_text parts
+IsImageReport Json parts text = IsLine (image_json parts) text
+
+abbrev pub IsRunReport : Form → ℕ → ℕ → Run → List ℕ → Type 0
+IsRunReport Text windows limit run text = text ≡ run_text windows limit run
+IsRunReport Json windows limit run text = IsLine (run_json windows limit run) text
+
+-- the object has the text that people are told
+abbrev pub IsVerdictReport : Form → Option Refusal → List ℕ → Type 0
+IsVerdictReport Text found text = Tells found [] text
+IsVerdictReport Json found line = (text : List ℕ) × Tells found [] text × IsLine (verdict_json found text) line
+
+-- ---- what is told of a file
+
+-- The output grew by the report of the image that the bytes spell.
+abbrev pub Shown : Form → Option (List ℕ) → Option (List ℕ) → Option (List ℕ) → Type 0
+Shown form file old new = IfSome file (λ bytes. (parts : Parts) × (reading bytes ≡ Ok parts) × Wrote old new (IsImageReport form parts))
 
 -- The output grew by the report of a run of an image on an input.
-abbrev pub TellsRun : ℕ → ℕ → Parts → List ℕ → Option (List ℕ) → Option (List ℕ) → Type 0
-TellsRun windows limit parts input old new = (run : Run) × IsRun windows parts input limit run × Appends old new (run_text windows limit run)
+abbrev pub TellsRun : Form → ℕ → ℕ → Parts → List ℕ → Option (List ℕ) → Option (List ℕ) → Type 0
+TellsRun form windows limit parts input old new = (run : Run) × IsRun windows parts input limit run × Wrote old new (IsRunReport form windows limit run)
 
 -- The output grew by the report of a run of the image that the bytes spell, on all of the input.
-abbrev pub Ran : ℕ → ℕ → Option (List ℕ) → Option (List ℕ) → Option (List ℕ) → Option (List ℕ) → Type 0
-Ran windows limit file input old new = IfSome file (λ bytes. IfSome input (λ all. (parts : Parts) × (run : Run)
-    × (reading bytes ≡ Ok parts) × IsRun windows parts all limit run × Appends old new (run_text windows limit run)))
+abbrev pub Ran : Form → ℕ → ℕ → Option (List ℕ) → Option (List ℕ) → Option (List ℕ) → Option (List ℕ) → Type 0
+Ran form windows limit file input old new = IfSome file (λ bytes. IfSome input (λ all. (parts : Parts) × (run : Run)
+    × (reading bytes ≡ Ok parts) × IsRun windows parts all limit run × Wrote old new (IsRunReport form windows limit run)))
 
 -- The output grew by a text that tells each turn of such a run.
 abbrev pub Traced : ℕ → ℕ → Option (List ℕ) → Option (List ℕ) → Option (List ℕ) → Option (List ℕ) → Type 0
@@ -36,7 +58,7 @@ abbrev pub IsVerdict : Parts → Option Refusal → Type 0
 IsVerdict parts None = Checked parts
 IsVerdict parts (Some refusal) = IsFirst parts refusal
 
--- The verdict is that of the image that the bytes spell, and the output grew by a text that tells it.
-abbrev pub Explained : Option (List ℕ) → Option Refusal → Option (List ℕ) → Option (List ℕ) → Type 0
-Explained file found old new = IfSome file (λ bytes. (parts : Parts) × (text : List ℕ)
-    × (reading bytes ≡ Ok parts) × IsVerdict parts found × Tells found [] text × Appends old new text)
+-- The verdict is that of the image that the bytes spell, and the output grew by its report.
+abbrev pub Explained : Form → Option (List ℕ) → Option Refusal → Option (List ℕ) → Option (List ℕ) → Type 0
+Explained form file found old new = IfSome file (λ bytes. (parts : Parts)
+    × (reading bytes ≡ Ok parts) × IsVerdict parts found × Wrote old new (IsVerdictReport form found))

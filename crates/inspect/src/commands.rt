@@ -2,20 +2,18 @@
 ghost use Rattle.std.specs.Prelude.{◌≡◌, ◌⊎◌, IfErr, IfOk, IfSome, OnOk};
 ghost use Rattle.std.specs.Io.KnownBytes.{Appends};
 ghost use Rattle.sbx_command.specs.Stops.{IsOfTrace, IsTrueOfImage};
-ghost use Rattle.sbx_declare.specs.Images.{image_text};
 ghost use Rattle.sbx_raw.specs.Fronts.{Wrote};
-ghost use Rattle.sbx_tell.specs.Reports.{run_text};
 ghost use Rattle.sbx_tell.specs.Watched.{IsWatched};
-ghost use Rattle.inspect.specs.Told.{Explained, Ran, Shown, TellsRun, Traced};
+ghost use Rattle.inspect.specs.Told.{Explained, IsImageReport, IsRunReport, Ran, Shown, TellsRun, Traced};
 ghost use Rattle.want.specs.Wants.{refused};
 
+use crate::reports::{image_report, run_report, why_report};
+use crate::words::Form;
 use sbx_command::{ReadFault, Stop, Windows, image_in, read_whole};
-use sbx_declare::push_image;
-use sbx_explain::push_why;
 use sbx_image::Image;
 use sbx_put::put_through;
 use sbx_rules::Refusal;
-use sbx_tell::{Progress, Run, push_run, run_windows, watch_windows};
+use sbx_tell::{Progress, Run, run_windows, watch_windows};
 use std::alloc::Global;
 use std::io::{Read, Write};
 use want::Want;
@@ -47,42 +45,46 @@ fn put_out<O: Write>(out: &mut O, text: &[u8]) -> Result<(), Stop>
 }
 
 /// Tells what an image declares.
-#[tactic(auto, using(crate::proofs::Telling::told_on))]
-fn show<O: Write>(alloc: Global, image: &Image, out: &mut O) -> Result<(), Stop>
-    ensures shown { OnOk result (Appends (O.contents out.old) (O.contents out.new) (image_text image.now)) }
+#[tactic(auto, using(crate::proofs::Telling::wrote_report))]
+fn show<O: Write>(alloc: Global, form: Form, image: &Image, out: &mut O) -> Result<(), Stop>
+    ensures shown { OnOk result (Wrote (O.contents out.old) (O.contents out.new) (IsImageReport form image.now)) }
     ensures stop { IfErr result (λ stop. (stop ≡ Stop.Memory refused) ⊎ (stop ≡ Stop.Output)) }
 {
-    let mut text = String::new(alloc);
-    match push_image(&mut text, image) {
-        Ok(()) => put_out(out, text.as_bytes()),
+    match image_report(alloc, form, image) {
+        Ok(text) => put_out(out, text.as_slice()),
         Err(error) => Err(Stop::Memory(Want::from(error))),
     }
 }
 
 /// Tells what the image of a file declares.
-pub fn show_image<F: Read, O: Write>(alloc: Global, file: &mut F, out: &mut O) -> Result<(), Stop>
-    ensures shown { OnOk result (Shown (F.remaining file.old) (O.contents out.old) (O.contents out.new)) }
+pub fn show_image<F: Read, O: Write>(
+    alloc: Global,
+    form: Form,
+    file: &mut F,
+    out: &mut O,
+) -> Result<(), Stop>
+    ensures shown { OnOk result (Shown form (F.remaining file.old) (O.contents out.old) (O.contents out.new)) }
     ensures stop { IfErr result (λ stop. IfSome (F.remaining file.old) (IsTrueOfImage stop)) }
 {
     let image = image_in(alloc, file)?;
-    show(alloc, &image, out)
+    show(alloc, form, &image, out)
 }
 
 /// Tells a run.
-#[tactic(auto, using(crate::proofs::Telling::told_on))]
+#[tactic(auto, using(crate::proofs::Telling::wrote_report))]
 fn tell_run<O: Write>(
     alloc: Global,
+    form: Form,
     windows: u32,
     limit: u64,
     run: &Run,
     out: &mut O,
 ) -> Result<(), Stop>
-    ensures told { OnOk result (Appends (O.contents out.old) (O.contents out.new) (run_text windows limit run.now)) }
+    ensures told { OnOk result (Wrote (O.contents out.old) (O.contents out.new) (IsRunReport form windows limit run.now)) }
     ensures stop { IfErr result (λ stop. (stop ≡ Stop.Memory refused) ⊎ (stop ≡ Stop.Output)) }
 {
-    let mut text = String::new(alloc);
-    match push_run(&mut text, windows, limit, run) {
-        Ok(()) => put_out(out, text.as_bytes()),
+    match run_report(alloc, form, windows, limit, run) {
+        Ok(text) => put_out(out, text.as_slice()),
         Err(error) => Err(Stop::Memory(Want::from(error))),
     }
 }
@@ -90,6 +92,7 @@ fn tell_run<O: Write>(
 /// Runs an image on an input, on so many windows, up to so many turns, and tells its run.
 fn run_on<O: Write, P: Progress>(
     alloc: Global,
+    form: Form,
     windows: Windows,
     limit: u64,
     image: &Image,
@@ -97,17 +100,18 @@ fn run_on<O: Write, P: Progress>(
     out: &mut O,
     progress: &mut P,
 ) -> Result<(), Stop>
-    ensures told { OnOk result (TellsRun windows limit image.now input.now (O.contents out.old) (O.contents out.new)) }
+    ensures told { OnOk result (TellsRun form windows limit image.now input.now (O.contents out.old) (O.contents out.new)) }
     ensures stop { IfErr result (λ stop. (stop ≡ Stop.Memory refused) ⊎ (stop ≡ Stop.Output)) }
 {
     let count = windows.count();
     let run = run_windows(alloc, count, image, input, limit, progress)?;
-    tell_run(alloc, count, limit, &run, out)
+    tell_run(alloc, form, count, limit, &run, out)
 }
 
 /// Runs an image on the input, which is read whole first, on so many windows, up to so many turns, and tells its run.
 fn run_read<I: Read, O: Write, P: Progress>(
     alloc: Global,
+    form: Form,
     windows: Windows,
     limit: u64,
     image: &Image,
@@ -115,12 +119,13 @@ fn run_read<I: Read, O: Write, P: Progress>(
     out: &mut O,
     progress: &mut P,
 ) -> Result<(), Stop>
-    ensures told { OnOk result (IfSome (I.remaining input.old) (λ all. TellsRun windows limit image.now all (O.contents out.old) (O.contents out.new))) }
+    ensures told { OnOk result (IfSome (I.remaining input.old) (λ all. TellsRun form windows limit image.now all (O.contents out.old) (O.contents out.new))) }
     ensures stop { IfErr result (λ stop. (stop ≡ Stop.Memory refused) ⊎ (stop ≡ Stop.Input) ⊎ (stop ≡ Stop.Output)) }
 {
     let bytes = input_of(alloc, input)?;
     run_on(
         alloc,
+        form,
         windows,
         limit,
         image,
@@ -133,6 +138,7 @@ fn run_read<I: Read, O: Write, P: Progress>(
 /// Runs the image of a file on the input, which is read whole first, on so many windows, up to so many turns, and tells its run.
 pub fn run_image<F: Read, I: Read, O: Write, P: Progress>(
     alloc: Global,
+    form: Form,
     windows: Windows,
     limit: u64,
     file: &mut F,
@@ -140,11 +146,11 @@ pub fn run_image<F: Read, I: Read, O: Write, P: Progress>(
     out: &mut O,
     progress: &mut P,
 ) -> Result<(), Stop>
-    ensures ran { OnOk result (Ran windows limit (F.remaining file.old) (I.remaining input.old) (O.contents out.old) (O.contents out.new)) }
+    ensures ran { OnOk result (Ran form windows limit (F.remaining file.old) (I.remaining input.old) (O.contents out.old) (O.contents out.new)) }
     ensures stop { IfErr result (λ stop. IfSome (F.remaining file.old) (IsTrueOfImage stop)) }
 {
     let image = image_in(alloc, file)?;
-    run_read(alloc, windows, limit, &image, input, out, progress)
+    run_read(alloc, form, windows, limit, &image, input, out, progress)
 }
 
 /// Runs an image on an input, on so many windows, up to so many turns, and tells each turn.
@@ -212,18 +218,18 @@ pub fn trace_image<F: Read, I: Read, O: Write, P: Progress>(
 #[tactic(auto, using(crate::proofs::Telling::explained_on))]
 pub fn explain_image<F: Read, O: Write>(
     alloc: Global,
+    form: Form,
     file: &mut F,
     out: &mut O,
 ) -> Result<Option<Refusal>, Stop>
-    ensures explained { IfOk result (λ found. Explained (F.remaining file.old) found (O.contents out.old) (O.contents out.new)) }
+    ensures explained { IfOk result (λ found. Explained form (F.remaining file.old) found (O.contents out.old) (O.contents out.new)) }
     ensures stop { IfErr result (λ stop. IfSome (F.remaining file.old) (IsTrueOfImage stop)) }
 {
     let image = image_in(alloc, file)?;
-    let mut text = String::new(alloc);
-    let found = match push_why(alloc, &mut text, image) {
-        Ok(found) => found,
+    let (found, text) = match why_report(alloc, form, image) {
+        Ok(told) => told,
         Err(error) => return Err(Stop::Memory(Want::from(error))),
     };
-    put_out(out, text.as_bytes())?;
+    put_out(out, text.as_slice())?;
     Ok(found)
 }

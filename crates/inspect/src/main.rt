@@ -4,6 +4,7 @@
 mod commands;
 mod faults;
 mod progress;
+mod reports;
 mod words;
 
 use commands::{MOST, explain_image, run_image, show_image, trace_image};
@@ -43,15 +44,18 @@ fn tell<F: Read, I: Read, O: Write, P: Progress>(
     progress: &mut P,
 ) -> Result<(), Stop> {
     match *job {
-        Job::Image { .. } => show_image(alloc, file, out),
-        Job::Run { windows, limit, .. } => {
-            run_image(alloc, windows, limit, file, input, out, progress)
-        }
+        Job::Image { form, .. } => show_image(alloc, form, file, out),
+        Job::Run {
+            windows,
+            limit,
+            form,
+            ..
+        } => run_image(alloc, form, windows, limit, file, input, out, progress),
         Job::Trace { windows, limit, .. } => {
             trace_image(alloc, windows, limit, file, input, out, progress)
         }
-        Job::Why { .. } => {
-            explain_image(alloc, file, out)?;
+        Job::Why { form, .. } => {
+            explain_image(alloc, form, file, out)?;
             Ok(())
         }
     }
@@ -86,10 +90,10 @@ fn perform_on<'a>(
 
 /// Does a job, and tells on standard output.
 fn perform<'a>(rt: &HostRuntime, job: &Job<'a>) -> Result<(), Fault<'a>> {
-    let (Job::Image { image }
+    let (Job::Image { image, .. }
     | Job::Run { image, .. }
     | Job::Trace { image, .. }
-    | Job::Why { image }) = *job;
+    | Job::Why { image, .. }) = *job;
     perform_on(rt, job, image, opened(rt, image)?)
 }
 

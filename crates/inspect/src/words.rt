@@ -5,18 +5,29 @@ ghost use Rattle.inspect.specs.Jobs.{IsInRange};
 use sbx_command::{Windows, turns, window_count};
 use std::convert::AsStr;
 
+/// What is told is for people, or for programs.
+#[derive(Clone, Copy, PartialEq, Eq)]
+pub enum Form {
+    /// Lines to be read.
+    Text,
+    /// One line that is a JSON object.
+    Json,
+}
+
 /// One thing to tell of an image file.
 #[derive(Clone, Copy)]
 pub enum Job<'a> {
     /// What it declares.
     Image {
         image: &'a str,
+        form: Form,
     },
     /// Its run on so many register windows, up to a limit of turns.
     Run {
         image: &'a str,
         windows: Windows,
         limit: u64,
+        form: Form,
     },
     /// The turns of its run on so many register windows, up to a limit of them.
     Trace {
@@ -27,11 +38,12 @@ pub enum Job<'a> {
     /// Why it is refused.
     Why {
         image: &'a str,
+        form: Form,
     },
 }
 
 /// What is told of words that ask for nothing.
-pub const USAGE: &str = "Usage: inspect COMMAND [--windows N] [--limit T] IMG
+pub const USAGE: &str = "Usage: inspect COMMAND [--windows N] [--limit T] [--json] IMG
 
   image IMG    tells what an image declares, in the source language's own words
   run IMG      runs any image on standard input and tells what it put out, how it ended,
@@ -43,6 +55,7 @@ pub const USAGE: &str = "Usage: inspect COMMAND [--windows N] [--limit T] IMG
 
 run, trace: --windows N is the count of register windows, 4 to 32 (8);
             --limit T the most turns, 0 to 9999999999 (100000).
+image, run, why: --json tells all of it in one line, a JSON object.
 Status 0: told. 2: no image. 3: other words. 4: a file, the input or the output fails. 5: memory.
 ";
 
@@ -58,6 +71,7 @@ struct Options<'a> {
     image: Option<&'a str>,
     windows: Option<&'a str>,
     limit: Option<&'a str>,
+    form: Form,
 }
 
 /// What the next word is.
@@ -83,6 +97,15 @@ fn put<'a>(place: &mut Option<&'a str>, word: &'a str) -> Option<Next> {
 }
 
 impl<'a> Options<'a> {
+    /// Takes the word for JSON, which stands there once at most.
+    fn take_json(&mut self) -> Option<Next> {
+        if self.form == Form::Json {
+            return None;
+        }
+        self.form = Form::Json;
+        Some(Next::Any)
+    }
+
     /// Takes a word, and says what the one after it is; nothing where the word has no place.
     fn take(&mut self, next: Next, word: &'a str) -> Option<Next> {
         match next {
@@ -91,6 +114,7 @@ impl<'a> Options<'a> {
             Next::Any => match word {
                 "--windows" => Some(Next::Windows),
                 "--limit" => Some(Next::Limit),
+                "--json" => self.take_json(),
                 path => put(&mut self.image, path),
             },
         }
@@ -103,6 +127,7 @@ fn options_of<S: AsStr>(words: &[S]) -> Option<Options<'_>> {
         image: None,
         windows: None,
         limit: None,
+        form: Form::Text,
     };
     let mut next = Next::Any;
     for word in words {
@@ -115,23 +140,19 @@ fn options_of<S: AsStr>(words: &[S]) -> Option<Options<'_>> {
 }
 
 /// The job of a command that has numbers.
-fn numbered<'a>(
-    command: &str,
-    image: &'a str,
-    windows: Option<&'a str>,
-    limit: Option<&'a str>,
-) -> Option<Job<'a>>
+fn numbered<'a>(command: &str, image: &'a str, options: &Options<'a>) -> Option<Job<'a>>
     ensures { IfSome result IsInRange }
 {
-    let windows = window_count(windows)?;
-    let limit = turns(limit)?;
-    match command {
-        "run" => Some(Job::Run {
+    let windows = window_count(options.windows)?;
+    let limit = turns(options.limit)?;
+    match (command, options.form) {
+        ("run", form) => Some(Job::Run {
             image,
             windows,
             limit,
+            form,
         }),
-        "trace" => Some(Job::Trace {
+        ("trace", Form::Text) => Some(Job::Trace {
             image,
             windows,
             limit,
@@ -140,14 +161,15 @@ fn numbered<'a>(
     }
 }
 
-/// The job of a command on an image.
+/// The job of a command with its options.
 fn job_of<'a>(command: &str, image: &'a str, options: &Options<'a>) -> Option<Job<'a>>
     ensures { IfSome result IsInRange }
 {
+    let form = options.form;
     match (command, options.windows, options.limit) {
-        ("image", None, None) => Some(Job::Image { image }),
-        ("why", None, None) => Some(Job::Why { image }),
-        (_, windows, limit) => numbered(command, image, windows, limit),
+        ("image", None, None) => Some(Job::Image { image, form }),
+        ("why", None, None) => Some(Job::Why { image, form }),
+        _ => numbered(command, image, options),
     }
 }
 
