@@ -14,7 +14,7 @@
 # can't be fitted. 3: other words. 4, 5: as ./fit. 125: no compiler, or a program can't be built.
 
 self=$(readlink -f "$0") && top=${self%/*} || exit 125
-if [ ! -f "$top/runtime/plug.c" ]; then
+if [ ! -x "$top/fit" ]; then
     echo "cc: this is a copy of the script: make a link to the one of the checkout instead (ln -s CHECKOUT/cc $0)" >&2
     exit 125
 fi
