@@ -43,7 +43,8 @@ abbrev behind : List Item → List Item → List Item
 behind before [] = before
 behind before (i ∷ is) = behind (i ∷ before) is
 
-in_place : (gives : List Item → Item → List Item → List AsmFault) (before front after : List Item) (i : Item) (f : AsmFault) → IsAmong f (gives (behind before front) i after) → IsAmong f (each gives before (front ++ i ∷ after))
+in_place : (gives : List Item → Item → List Item → List AsmFault) (before front after : List Item) (i : Item) (f : AsmFault)
+    → IsAmong f (gives (behind before front) i after) → IsAmong f (each gives before (front ++ i ∷ after))
 in_place gives before [] after i f h = left f (gives before i after) (each gives (i ∷ before) after) h
 in_place gives before (j ∷ front) after i f h = right f (gives before j (front ++ i ∷ after)) (each gives (j ∷ before) (front ++ i ∷ after)) (in_place gives (j ∷ before) front after i f h)
 

@@ -6,6 +6,7 @@ use Rattle.sbx_asm.specs.declared.fault.Cause.TheVariants.{Memory}
 use Rattle.sbx_asm.specs.Rules.{at}
 use Rattle.sbx_asm.specs.Images.{source_image}
 
-pub told_first : (source : List ℕ) (first : AsmFault) → ((first ≡ at 0 (Memory refused)) ⊎ (source_image source ≡ Err first)) → (first.cause ≡ Memory refused → ⊥) → source_image source ≡ Err first
+pub told_first : (source : List ℕ) (first : AsmFault)
+    → ((first ≡ at 0 (Memory refused)) ⊎ (source_image source ≡ Err first)) → (first.cause ≡ Memory refused → ⊥) → source_image source ≡ Err first
 told_first source first (inl none) other = absurd (other (ap (λ (f : AsmFault). f.cause) none))
 told_first source first (inr means) other = means

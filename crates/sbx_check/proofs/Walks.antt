@@ -15,5 +15,6 @@ one_more gives got more total before is k i h e m so_far =
     ∙ so_far
 
 -- what all lines give, behind the last one
-pub all_given : {A : Type 0} (gives : List Item → Item → List Item → List A) (got total : List A) (before is : List Item) (k : ℕ) → length is ≤ k → got ++ each gives before (drop k is) ≡ total → got ≡ total
+pub all_given : {A : Type 0} (gives : List Item → Item → List Item → List A) (got total : List A) (before is : List Item) (k : ℕ)
+    → length is ≤ k → got ++ each gives before (drop k is) ≡ total → got ≡ total
 all_given gives got total before is k h so_far = sym (append-nil got) ∙ sym (at_drop_all (λ (js : List Item). got ++ each gives before js) is k h) ∙ so_far
