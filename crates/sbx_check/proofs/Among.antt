@@ -55,7 +55,8 @@ item number labels bytes tokens s = record { number = number; labels = labels; b
 
 of_values : (o : Option DataFault) (c : Cause) → value_cause o ≡ Some c → IsAmong c (value_rules o)
 of_values None c h = absurd (cc)
-of_values (Some data_faults.UnknownSymbol) c h = let e : causes.Syntax SyntaxFault.UnknownSymbol ≡ c = cc in subst (λ (d : Cause). IsAmong d (value_rules (Some data_faults.UnknownSymbol))) e (first _ [])
+of_values (Some data_faults.UnknownSymbol) c h =
+    let e : causes.Syntax SyntaxFault.UnknownSymbol ≡ c = cc in subst (λ (d : Cause). IsAmong d (value_rules (Some data_faults.UnknownSymbol))) e (first _ [])
 of_values (Some data_faults.Malformed) c h = let e : causes.Directive ≡ c = cc in subst (λ (d : Cause). IsAmong d (value_rules (Some data_faults.Malformed))) e (first _ [])
 of_values (Some (data_faults.Memory want)) c h = absurd (cc)
 
@@ -93,13 +94,15 @@ module _ (n line : ℕ) (rest : List AsmFault) where
       → list_any (λ (f : AsmFault). f.line == n) (map (at line) (when t causes.DuplicateLabel) ++ rest) ≡ true
       → IsAmong (at n causes.DuplicateLabel) (map (at line) (when t causes.DuplicateLabel) ++ rest)
   again_or_later false u e more h = more h
-  again_or_later true true e more h = subst (λ (k : ℕ). IsAmong (at n causes.DuplicateLabel) (at k causes.DuplicateLabel ∷ rest)) (sym (eqb-true line n e)) (first (at n causes.DuplicateLabel) rest)
+  again_or_later true true e more h =
+      subst (λ (k : ℕ). IsAmong (at n causes.DuplicateLabel) (at k causes.DuplicateLabel ∷ rest)) (sym (eqb-true line n e)) (first (at n causes.DuplicateLabel) rest)
   again_or_later true false e more h =
       right (at n causes.DuplicateLabel) (at line causes.DuplicateLabel ∷ []) rest (more (subst (λ (b : Bool). (b || list_any (λ (f : AsmFault). f.line == n) rest) ≡ true) e h))
 
 repeated : (n : ℕ) (before ls : List Label) → list_any (λ (f : AsmFault). f.line == n) (duplicates before ls) ≡ true → IsAmong (at n causes.DuplicateLabel) (duplicates before ls)
 repeated n before [] h = absurd (cc)
-repeated n before (l ∷ ls) h = again_or_later n l.line (duplicates (before ++ l ∷ []) ls) (list_any (λ (m : Label). bytes_eq m.name l.name) before) (l.line == n) refl (repeated n (before ++ l ∷ []) ls) h
+repeated n before (l ∷ ls) h =
+    again_or_later n l.line (duplicates (before ++ l ∷ []) ls) (list_any (λ (m : Label). bytes_eq m.name l.name) before) (l.line == n) refl (repeated n (before ++ l ∷ []) ls) h
 
 -- ---- what is told
 
