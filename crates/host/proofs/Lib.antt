@@ -1,1 +1,2 @@
 pub mod Streamed
+pub mod Machines

@@ -1,7 +1,7 @@
 //! A host: it refuses strangers' images that ask for more than its policy grants, and runs the rest, each on a
 //! board of its own.
 //!
-//! `host run` takes the policy, the count of windows, the input and a bound of the output from its words; `host IMG
+//! `host run` takes the policy, the machine, the input and a bound of the output from its words; `host IMG
 //! ..` has the usual ones, and shows on standard error what each image asks for and how its run ended. Standard
 //! output takes the images' outputs in turn. One image reads its input as it asks for it, and what it puts out goes
 //! on as it comes; several are run on the same input, which is read whole first. Where one image is denied, none is
@@ -136,11 +136,7 @@ fn told<'a>(
     match ran {
         Ok(ran) => {
             tell_run(rt, terms.report, path, accepted, &ran)?;
-            Ok(if ran.finished.status == 0 {
-                0
-            } else {
-                OTHER_WORD
-            })
+            Ok(if ran.told.status == 0 { 0 } else { OTHER_WORD })
         }
         Err(halt) => stopped(rt, terms, path, halt),
     }

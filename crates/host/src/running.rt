@@ -1,12 +1,14 @@
 //! Runs of admitted images.
 ghost use Rattle.std.specs.Prelude.{◌≡◌, ◌≤◌};
 ghost use Rattle.sbx_command.specs.Streaming.{RunGives};
+ghost use Rattle.host.specs.Runs.{EngineGives, RunsSo, told_of, told_of_flow};
 
 use crate::bounding::Bounded;
 use crate::words::Terms;
 use sbx_command::Full;
 use sbx_counts::on_windows;
 use sbx_files::{Counted, Hearer, Speaker};
+use sbx_flow::{Flowed, run_over};
 use sbx_jobs::Windows;
 use sbx_stream::{Accepted, Finished, RunFault, run_stream};
 use std::alloc::Global;
@@ -15,11 +17,20 @@ use std::fs::File;
 use std::io::{self, BufReader, Cursor, LineWriter, Read, Stdin, Write};
 use want::Want;
 
+/// What a run told at its end: the exit word, and the counts.
+#[derive(Clone, Copy)]
+pub struct Told {
+    pub status: u32,
+    pub turns: u64,
+    pub overflows: u64,
+    pub underflows: u64,
+}
+
 /// What a run gave.
-#[derive(Drop)]
+#[derive(Clone, Copy)]
 pub struct Ran {
     /// The exit word, and the counts.
-    pub finished: Finished,
+    pub told: Told,
     /// How many bytes were put out.
     pub output: u64,
     /// Whether input was left; None where nobody can know without waiting for it.
@@ -83,6 +94,68 @@ pub fn stream_windows<I: Read, O: Write>(
     on_windows!(count, stream_on [I O] (alloc, count, accepted, input, out), 4 to 32)
 }
 
+/// What a run on a board told.
+fn told_by_board(finished: &Finished) -> Told
+    ensures { result ≡ told_of finished.now }
+{
+    Told {
+        status: finished.status,
+        turns: finished.turns,
+        overflows: finished.overflows,
+        underflows: finished.underflows,
+    }
+}
+
+/// What a run on the flat machine told.
+fn told_by_engine(flowed: &Flowed) -> Told
+    ensures { result ≡ told_of_flow flowed.now }
+{
+    Told {
+        status: flowed.status,
+        turns: flowed.counts.turns,
+        overflows: flowed.counts.overflows,
+        underflows: flowed.counts.underflows,
+    }
+}
+
+/// Runs an admitted image over a reader and a writer on the flat machine, which counts for so many windows.
+fn stream_flat<I: Read, O: Write>(
+    alloc: Global,
+    windows: Windows,
+    accepted: &Accepted,
+    input: &mut I,
+    out: &mut O,
+) -> Result<Flowed, RunFault>
+    ensures { EngineGives windows accepted.now (I.remaining input.old) (I.remaining input.new)
+        (O.contents out.old) (O.contents out.new) result }
+{
+    run_over(alloc, accepted, windows.count(), input, out)
+}
+
+/// Runs an admitted image over a reader and a writer, on a board of so many windows or on the flat machine.
+#[tactic(auto, using(crate::proofs::Machines::engine_told, crate::proofs::Machines::engine_failed, crate::proofs::Machines::board_told, crate::proofs::Machines::board_failed))]
+pub fn stream_so<I: Read, O: Write>(
+    alloc: Global,
+    terms: &Terms<'_>,
+    accepted: &Accepted,
+    input: &mut I,
+    out: &mut O,
+) -> Result<Told, RunFault>
+    ensures { RunsSo terms.now.engine terms.now.windows accepted.now (I.remaining input.old) (I.remaining input.new)
+        (O.contents out.old) (O.contents out.new) result }
+{
+    if terms.engine {
+        return match stream_flat(alloc, terms.windows, accepted, input, out) {
+            Ok(flowed) => Ok(told_by_engine(&flowed)),
+            Err(fault) => Err(fault),
+        };
+    }
+    match stream_windows(alloc, terms.windows, accepted, input, out) {
+        Ok(finished) => Ok(told_by_board(&finished)),
+        Err(fault) => Err(fault),
+    }
+}
+
 /// What a run's fault is, beside the writer that it had.
 fn halt_of<W: Write>(fault: RunFault, out: &Bounded<W>) -> Halt {
     match fault {
@@ -104,17 +177,14 @@ fn left_off<W: Write>(fault: RunFault, out: &mut Bounded<W>) -> Halt {
     }
 }
 
-/// What a run gave, once all that it put out was handed on.
-fn finished_of<W: Write>(
-    ran: Result<Finished, RunFault>,
-    out: &mut Bounded<W>,
-) -> Result<Finished, Halt> {
-    let finished = match ran {
-        Ok(finished) => finished,
+/// What a run told, once all that it put out was handed on.
+fn told_at_last<W: Write>(ran: Result<Told, RunFault>, out: &mut Bounded<W>) -> Result<Told, Halt> {
+    let told = match ran {
+        Ok(told) => told,
         Err(fault) => return Err(left_off(fault, out)),
     };
     match out.flush() {
-        Ok(()) => Ok(finished),
+        Ok(()) => Ok(told),
         Err(_) => Err(Halt::Output),
     }
 }
@@ -176,11 +246,11 @@ pub fn converse(
     let out = RefCell::new(out);
     let mut heard = Counted::new(Hearer::new(input, &out));
     let mut said = Bounded::new(Speaker::new(&out), terms.most);
-    let ran = stream_windows(rt.alloc(), terms.windows, accepted, &mut heard, &mut said);
-    let finished = finished_of(ran, &mut said)?;
+    let ran = stream_so(rt.alloc(), terms, accepted, &mut heard, &mut said);
+    let told = told_at_last(ran, &mut said)?;
     let output = said.count();
     Ok(Ran {
-        finished,
+        told,
         output,
         has_left: left_behind(heard, is_plain),
     })

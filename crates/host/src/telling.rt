@@ -69,11 +69,11 @@ pub fn tell_denial(
 fn run_object(alloc: Global, path: &str, budget: u64, ran: &Ran) -> Result<String, AllocError> {
     json!(in alloc; {
         "image": path,
-        "exit": ran.finished.status,
-        "turns": ran.finished.turns,
+        "exit": ran.told.status,
+        "turns": ran.told.turns,
         "budget": budget,
-        "overflows": ran.finished.overflows,
-        "underflows": ran.finished.underflows,
+        "overflows": ran.told.overflows,
+        "underflows": ran.told.underflows,
         "output": ran.output,
         "input_left": ran.has_left
     })?
@@ -88,7 +88,7 @@ pub fn tell_run(
     accepted: &Accepted,
     ran: &Ran,
 ) -> Result<(), Fault<'static>> {
-    let (alloc, status, turns) = (rt.alloc(), ran.finished.status, ran.finished.turns);
+    let (alloc, status, turns) = (rt.alloc(), ran.told.status, ran.told.turns);
     let line = match report {
         Report::Lines => format!(in alloc; "exit word {status}, {turns} turns")?,
         Report::Faults if status == 0 => return Ok(()),

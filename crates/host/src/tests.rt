@@ -36,6 +36,7 @@ fn are_terms(terms: &Terms<'_>, turns: u64, services: Services, input: Option<&s
 fn words_are_read(rt: HostRuntime) {
     let words = [
         "run",
+        "--engine",
         "--max-turns",
         "1099511627776",
         "--services=exit,put",
@@ -56,7 +57,7 @@ fn words_are_read(rt: HostRuntime) {
     let Asked { terms, paths } = asked;
     assert!(rt; are_terms(&terms, 1_099_511_627_776, Services(5), Some("in")));
     assert!(rt; terms.most == 7);
-    assert!(rt; terms.report == Report::Json);
+    assert!(rt; terms.report == Report::Json && terms.engine);
     assert!(rt; paths.as_slice() == ["a.img", "b.img"].as_slice());
     let Terms { windows, .. } = terms;
     assert!(rt; windows.count() == 32);
@@ -69,7 +70,7 @@ fn usual_terms(rt: HostRuntime) {
             panic!(rt; "no words");
         };
         let Asked { terms, .. } = asked;
-        assert!(rt; are_terms(&terms, 5_000_000, Services(7), None));
+        assert!(rt; are_terms(&terms, 5_000_000, Services(7), None) && !terms.engine);
         let Terms { windows, .. } = terms;
         assert!(rt; windows.count() == 8);
     }

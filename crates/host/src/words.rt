@@ -24,6 +24,7 @@ turn. One image reads its input as it asks for it; several are run on the same i
   --max-turns N       the most turns that an image may ask for (5000000)
   --services LIST     what it may ask its host for, with commas between: exit, get, put (exit,get,put)
   --windows N         how many register windows the machine has, 4 to 32 (8)
+  --engine            runs them on the fast flat machine: no board is made, and windows are counted
   --input FILE        what it reads, in the place of standard input
   --max-output BYTES  a run is stopped at the first byte that it puts out beyond so many
   --report json       an object for each image, a line each, on standard error
@@ -55,6 +56,8 @@ pub struct Terms<'a> {
     pub policy: Policy,
     /// How many register windows the machine has.
     pub windows: Windows,
+    /// Whether the machine is the flat one, which counts windows and makes none.
+    pub engine: bool,
     /// The file that has the input; standard input where there is none.
     pub input: Option<&'a str>,
     /// The most bytes that an image may put out.
@@ -77,6 +80,7 @@ impl<'a> Terms<'a> {
 const USUAL: Terms<'static> = Terms {
     policy: POLICY,
     windows: Windows::USUAL,
+    engine: false,
     input: None,
     most: MOST,
     report: Report::Faults,
@@ -155,12 +159,14 @@ impl Display for Lack<'_> {
     }
 }
 
-/// The text of each option that stands among the words.
+/// The options that stand among the words, and their texts.
 #[derive(Clone, Copy)]
 struct Options<'a> {
     turns: Option<&'a str>,
     services: Option<&'a str>,
     windows: Option<&'a str>,
+    /// Whether the flat machine is named, which has no text.
+    engine: bool,
     input: Option<&'a str>,
     output: Option<&'a str>,
     report: Option<&'a str>,
@@ -173,6 +179,7 @@ impl<'a> Options<'a> {
             turns: None,
             services: None,
             windows: None,
+            engine: false,
             input: None,
             output: None,
             report: None,
@@ -242,6 +249,7 @@ fn terms_of<'a>(options: &Options<'a>) -> Result<Terms<'a>, Name> {
             turns: number_in(options.turns, POLICY.turns).ok_or(Name::Turns)?,
         },
         windows: window_count(options.windows).ok_or(Name::Windows)?,
+        engine: options.engine,
         input: options.input,
         most: number_in(options.output, MOST).ok_or(Name::Output)?,
         report: report_in(options.report).ok_or(Name::Report)?,
@@ -258,7 +266,7 @@ struct Reading<'a> {
 }
 
 impl<'a> Reading<'a> {
-    /// Takes a word that is no option's value: an option, with its value behind `=` or in the next word, or a path.
+    /// Takes a word that is no option's value: an option, with its value behind `=` or in the next word, or without one, or a path.
     fn take_first(&mut self, word: &'a str) -> Result<(), Lack<'a>> {
         if let Some((name, text)) = word.split_once('=')
             && let Some(name) = Name::of(name)
@@ -267,6 +275,7 @@ impl<'a> Reading<'a> {
         }
         match Name::of(word) {
             Some(name) => self.wanted = Some(name),
+            None if word == "--engine" => self.options.engine = true,
             None if word.starts_with("--") => return Err(Lack::Unknown(word)),
             None => match self.paths.push(word) {
                 Ok(()) => {}

@@ -23,6 +23,7 @@ fn saved(n: u32, traffic: Traffic) -> Traffic
     ensures value { (f : Three) → result ≡ saved n (Save f) traffic }
     ensures windows { (1 ≤ result.windows) × (result.windows < n) }
     ensures bound { (result.turns ≤ traffic.turns + 25) × (result.overflows ≤ traffic.overflows + 1) × (result.underflows ≤ traffic.underflows + 1) }
+    ensures more { (traffic.turns < result.turns) × (result.overflows + traffic.turns ≤ result.turns + traffic.overflows) × (result.underflows + traffic.turns ≤ result.turns + traffic.underflows) }
 {
     let mut after = traffic;
     if traffic.windows == n - 1 {
@@ -42,6 +43,7 @@ fn restored(traffic: Traffic) -> Traffic
     ensures value { (f : Three) → result ≡ restored (Restore f) traffic }
     ensures windows { (1 ≤ result.windows) × (result.windows ≤ traffic.windows) }
     ensures bound { (result.turns ≤ traffic.turns + 25) × (result.overflows ≤ traffic.overflows + 1) × (result.underflows ≤ traffic.underflows + 1) }
+    ensures more { (traffic.turns < result.turns) × (result.overflows + traffic.turns ≤ result.turns + traffic.overflows) × (result.underflows + traffic.turns ≤ result.turns + traffic.underflows) }
 {
     let mut after = traffic;
     if traffic.windows == 1 {
@@ -68,10 +70,11 @@ fn with_turns(traffic: Traffic, turns: u64) -> Traffic
 fn performed(n: u32, operation: &Operation, weight: u64, traffic: Traffic) -> Traffic
     requires windows { (1 ≤ traffic.windows) × (traffic.windows < n) }
     requires room { (traffic.turns + 25 < 2 ^ 64) × (traffic.overflows + 1 < 2 ^ 64) × (traffic.underflows + 1 < 2 ^ 64) }
-    requires few { weight ≤ 25 }
+    requires few { (1 ≤ weight) × (weight ≤ 25) }
     ensures value { weight ≡ weight_of operation.now → result ≡ after_operation n operation.now traffic }
     ensures windows { (1 ≤ result.windows) × (result.windows < n) }
     ensures bound { (result.turns ≤ traffic.turns + 25) × (result.overflows ≤ traffic.overflows + 1) × (result.underflows ≤ traffic.underflows + 1) }
+    ensures more { (traffic.turns < result.turns) × (result.overflows + traffic.turns ≤ result.turns + traffic.overflows) × (result.underflows + traffic.turns ≤ result.turns + traffic.underflows) }
 {
     match operation {
         Operation::Save(_) => saved(n, traffic),
@@ -87,8 +90,9 @@ fn count_word(n: u32, next: &Decoded, traffic: Traffic) -> Traffic
     ensures value { (word : ℕ) → next.now ≡ decoded word → result ≡ after_word n (Some word) traffic }
     ensures windows { (1 ≤ result.windows) × (result.windows < n) }
     ensures bound { (result.turns ≤ traffic.turns + 25) × (result.overflows ≤ traffic.overflows + 1) × (result.underflows ≤ traffic.underflows + 1) }
+    ensures more { (traffic.turns < result.turns) × (result.overflows + traffic.turns ≤ result.turns + traffic.overflows) × (result.underflows + traffic.turns ≤ result.turns + traffic.underflows) }
 {
-    let weight = u64::from(next.weight).min(MOST);
+    let weight = u64::from(next.weight).clamp(1, MOST);
     performed(n, &next.operation, weight, traffic)
 }
 
@@ -100,6 +104,7 @@ pub fn count(n: u32, next: Option<&Decoded>, traffic: Traffic) -> Traffic
     ensures value { (parts : Parts) (place : Place) → option_copied next.entry ≡ next_at parts place → result ≡ after_place parts n place traffic }
     ensures windows { (1 ≤ result.windows) × (result.windows < n) }
     ensures bound { (result.turns ≤ traffic.turns + 25) × (result.overflows ≤ traffic.overflows + 1) × (result.underflows ≤ traffic.underflows + 1) }
+    ensures more { (traffic.turns < result.turns) × (result.overflows + traffic.turns ≤ result.turns + traffic.overflows) × (result.underflows + traffic.turns ≤ result.turns + traffic.underflows) }
 {
     match next {
         Some(decoded) => count_word(n, decoded, traffic),

@@ -1,0 +1,5 @@
+pub mod Blind
+pub mod Served
+pub mod Onward
+pub mod Ends
+pub mod Stepping
