@@ -47,12 +47,36 @@ class Image:
             at += size
 
 
-class Board(Memory):
+class Bus(Memory):
+    """RAM and the device."""
+
+    def __init__(self, words, table, context, given):
+        super().__init__(words, table, context)
+        self.given, self.output, self.stop = list(given), bytearray(), None
+
+    def answers(self, place, size, how):
+        known = {"read": (DEVICE,), "write": (DEVICE + 4, DEVICE + 8, DEVICE + 12)}
+        return super().answers(place, size, how) or size == 4 and place in known.get(how, ())
+
+    def load(self, place, size):
+        if place < DEVICE:
+            return super().load(place, size)
+        return self.given.pop(0) if self.given else WORD
+
+    def store(self, place, size, value):
+        if place < DEVICE:
+            super().store(place, size, value)
+        elif place == DEVICE + 4:
+            self.output.append(value & 0xFF)
+        else:
+            self.stop = f"exit:{value:08X}" if place == DEVICE + 8 else "stopped"
+
+
+class Board(Bus):
     """RAM as it is loaded, and the device."""
 
     def __init__(self, windows, image, given):
-        super().__init__(TABLES, 0x2000, 0)
-        self.given, self.output, self.stop = list(given), bytearray(), None
+        super().__init__(TABLES, 0x2000, 0, given)
         for tt in range(256):
             self.put(16 * tt, words_in(VECTORS.get(tt, OTHER)))
         self.put(0x1000, [NOP] * 0x400)
@@ -78,23 +102,6 @@ class Board(Memory):
                 self.words[0x2B00 + 4 * it] = (0x5006 if kind else 0x5002) + 0x100 * it
             page += (len(data) + 4095) // 4096
 
-    def answers(self, place, size, how):
-        known = {"read": (DEVICE,), "write": (DEVICE + 4, DEVICE + 8, DEVICE + 12)}
-        return super().answers(place, size, how) or size == 4 and place in known.get(how, ())
-
-    def load(self, place, size):
-        if place < DEVICE:
-            return super().load(place, size)
-        return self.given.pop(0) if self.given else WORD
-
-    def store(self, place, size, value):
-        if place < DEVICE:
-            super().store(place, size, value)
-        elif place == DEVICE + 4:
-            self.output.append(value & 0xFF)
-        else:
-            self.stop = f"exit:{value:08X}" if place == DEVICE + 8 else "stopped"
-
 
 def booted(windows):
     cpu = Cpu(windows)
@@ -109,9 +116,9 @@ NAMES = [f"{kind}{number}" for kind in "goli" for number in range(8)]
 class States:
     """The lines of the states of a run (docs/profile.md)."""
 
-    def __init__(self, windows, image, given):
-        self.cpu, self.board, self.turns = booted(windows), Board(windows, image, given), 0
-        self.known = Cpu(windows)
+    def __init__(self, cpu, board):
+        self.cpu, self.board, self.turns = cpu, board, 0
+        self.known = Cpu(cpu.n)
 
     def head(self, number, word, event, annul):
         cpu = self.cpu
@@ -155,3 +162,8 @@ class States:
             va, pa, size, stores = turn.access
             items = [f"{'store' if stores else 'load'}={va:08X}:{pa:09X}:{size}"]
         return " ".join([*head, self.board.stop or event, *items, *self.registers(), *self.memory(turn, before)])
+
+
+def image_states(windows, image, given):
+    """The lines of an image's run on an input."""
+    return States(booted(windows), Board(windows, image, given))

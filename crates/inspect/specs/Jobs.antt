@@ -1,11 +1,12 @@
 -- What a command line may ask for.
 use Rattle.std.specs.Prelude.{◌≤◌}
 use Rattle.inspect.specs.declared.words.Job.{Job}
-use Rattle.inspect.specs.declared.words.Job.TheVariants.{Image, Run, Trace, Why}
+use Rattle.inspect.specs.declared.words.Job.TheVariants.{Image, Run, Trace, States, Why}
 
 -- its numbers are in their ranges
 abbrev pub IsInRange : Job → Type 0
 IsInRange (Image image form) = Unit {0}
 IsInRange (Run image windows limit form) = (4 ≤ windows) × (windows ≤ 32) × (limit ≤ 9999999999)
 IsInRange (Trace image windows limit) = (4 ≤ windows) × (windows ≤ 32) × (limit ≤ 9999999999)
+IsInRange (States image windows limit) = (4 ≤ windows) × (windows ≤ 32) × (limit ≤ 9999999999)
 IsInRange (Why image form) = Unit {0}

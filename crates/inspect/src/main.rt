@@ -5,6 +5,7 @@ mod commands;
 mod faults;
 mod progress;
 mod reports;
+mod states;
 mod words;
 
 use commands::{MOST, explain_image, run_image, show_image, trace_image};
@@ -13,6 +14,7 @@ use progress::Lines;
 use sbx_command::{Full, Stop};
 use sbx_files::{Counted, FileFault, hold_streams, open_file};
 use sbx_tell::Progress;
+use states::state_image;
 use std::alloc::{AllocError, Global};
 use std::fs::File;
 use std::io::{BufWriter, Read, Write};
@@ -54,6 +56,9 @@ fn tell<F: Read, I: Read, O: Write, P: Progress>(
         Job::Trace { windows, limit, .. } => {
             trace_image(alloc, windows, limit, file, input, out, progress)
         }
+        Job::States { windows, limit, .. } => {
+            state_image(alloc, windows, limit, file, input, out)
+        }
         Job::Why { form, .. } => {
             explain_image(alloc, form, file, out)?;
             Ok(())
@@ -93,6 +98,7 @@ fn perform<'a>(rt: &HostRuntime, job: &Job<'a>) -> Result<(), Fault<'a>> {
     let (Job::Image { image, .. }
     | Job::Run { image, .. }
     | Job::Trace { image, .. }
+    | Job::States { image, .. }
     | Job::Why { image, .. }) = *job;
     perform_on(rt, job, image, opened(rt, image)?)
 }

@@ -35,6 +35,12 @@ pub enum Job<'a> {
         windows: Windows,
         limit: u64,
     },
+    /// The states of its run on so many register windows, up to a limit of turns.
+    States {
+        image: &'a str,
+        windows: Windows,
+        limit: u64,
+    },
     /// Why it is refused.
     Why {
         image: &'a str,
@@ -50,11 +56,13 @@ pub const USAGE: &str = "Usage: inspect COMMAND [--windows N] [--limit T] [--jso
                its turns and its pages
   trace IMG    runs any image on standard input and tells each turn: place, instruction,
                and what it changed
+  states IMG   runs any image on standard input and tells the processor's state a turn, for
+               programs: registers, word, event, and what changed
   why IMG      tells why an image is refused: the rule, the word, and what is known there
   --version    of the script ./inspect: the version, the commit of the sources, and the kit
 
-run, trace: --windows N is the count of register windows, 4 to 32 (8);
-            --limit T the most turns, 0 to 9999999999 (100000).
+run, trace, states: --windows N is the count of register windows, 4 to 32 (8);
+                    --limit T the most turns, 0 to 9999999999 (100000).
 image, run, why: --json tells all of it in one line, a JSON object.
 Status 0: told. 2: no image. 3: other words. 4: a file, the input or the output fails. 5: memory.
 ";
@@ -153,6 +161,11 @@ fn numbered<'a>(command: &str, image: &'a str, options: &Options<'a>) -> Option<
             form,
         }),
         ("trace", Form::Text) => Some(Job::Trace {
+            image,
+            windows,
+            limit,
+        }),
+        ("states", Form::Text) => Some(Job::States {
             image,
             windows,
             limit,

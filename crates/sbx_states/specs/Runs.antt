@@ -3,6 +3,9 @@ use Rattle.std.specs.Prelude.{ℕ, zero, suc, ◌≡◌, ◌+◌, ◌<◌, ◌�
 use Rattle.std.specs.Io.KnownBytes.{Appends}
 use Rattle.sbx_put.specs.Fronts.{Begins}
 use Rattle.v8_core.specs.Accesses.{World}
+use Rattle.want.specs.Wants.{refused}
+use Rattle.v8_core.specs.PortFault.{PortFault}
+use Rattle.v8_core.specs.PortFault.TheVariants as faults
 use Rattle.v8_core.specs.Meaning.{Meaning}
 use Rattle.v8_core.specs.MmuRegs.{MmuRegs}
 use Rattle.v8_core.specs.Steps.{next}
@@ -96,3 +99,11 @@ pub record IsStates {D : Type 0} (m : Meaning D) (n : ℕ) (mmu : MmuRegs) (limi
   pub lines : List ℕ
   pub tells : TellsTurns m n mmu old (begun n old known) count told lines
   pub text_is : text ≡ start_line n known.registers old.cpu ++ lines ++ end_line n count new.cpu
+
+-- memory was refused, or the writer failed
+abbrev pub IsOwnFault : PortFault → Type 0
+IsOwnFault fault = (fault ≡ faults.Memory refused) ⊎ (fault ≡ faults.Writer)
+
+-- or the port did, with its own fault
+abbrev pub IsFaultOf : PortFault → PortFault → Type 0
+IsFaultOf own fault = IsOwnFault fault ⊎ (fault ≡ own)

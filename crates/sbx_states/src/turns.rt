@@ -4,11 +4,11 @@ ghost use Rattle.std.specs.Io.KnownBytes.{Appends};
 ghost use Rattle.sbx_put.specs.Fronts.{Wrote, WroteSome};
 ghost use Rattle.v8_core.specs.Accesses.{world};
 ghost use Rattle.sbx_states.specs.Lines.{end_line, start_line, told_registers};
-ghost use Rattle.sbx_states.specs.Runs.{BeginsStates, IsPart, IsStates, ToldRun, ToldSome, ToldTurn, is_over};
+ghost use Rattle.sbx_states.specs.Runs.{BeginsStates, IsFaultOf, IsOwnFault, IsPart, IsStates, ToldRun, ToldSome, ToldTurn, is_over};
 
 use crate::shown::shown_of;
 use crate::teller::Teller;
-use sbx_put::put_all;
+use sbx_put::{put_all, put_through};
 use std::io::Write;
 use v8_core::Machine;
 use v8_mmu::{Bus, MmuRegs, PortFault};
@@ -39,6 +39,7 @@ fn tell_turn<const N: usize, B: Bus, W: Write>(
     ensures part { OnErr result (ToldSome B.meaning N mmu.now number
         (world N machine.old.cpu (B.ram machine.old.bus) (B.device machine.old.bus))
         (record { registers = teller.old.registers; ram = B.ram teller.old.memory }) (W.contents out.old) (W.contents out.new)) }
+    ensures fault { IfErr result (IsFaultOf (B.fault machine.new.bus)) }
 {
     let before = shown_of(machine);
     let turn = match machine.step() {
@@ -73,6 +74,7 @@ fn tell_turns<const N: usize, B: Bus, W: Write>(
     ensures part { OnErr result (Wrote (W.contents out.old) (W.contents out.new) (IsPart B.meaning N mmu.now limit
         (world N machine.old.cpu (B.ram machine.old.bus) (B.device machine.old.bus))
         (record { registers = teller.old.registers; ram = B.ram teller.old.memory }))) }
+    ensures fault { IfErr result (IsFaultOf (B.fault machine.new.bus)) }
 {
     for done in 0..limit {
         if is_over(machine) {
@@ -94,6 +96,7 @@ fn put_start<const N: usize, B: Bus, W: Write>(
 ) -> Result<(), PortFault>
     ensures whole { OnOk result (Appends (W.contents out.old) (W.contents out.new) (start_line N teller.old.registers machine.now.cpu)) }
     ensures part { OnErr result (WroteSome (W.contents out.old) (W.contents out.new) (start_line N teller.old.registers machine.now.cpu)) }
+    ensures fault { IfErr result IsOwnFault }
     ensures registers { OnOk result (teller.new.registers ≡ told_registers N teller.old.registers machine.now.cpu) }
     ensures memory { teller.new.memory ≡ teller.old.memory }
 {
@@ -107,7 +110,7 @@ fn put_start<const N: usize, B: Bus, W: Write>(
     }
 }
 
-/// Writes the line behind the last turn.
+/// Writes the line behind the last turn, through to the end.
 fn put_end<const N: usize, B: Bus, W: Write>(
     machine: &Machine<N, B>,
     number: u64,
@@ -116,21 +119,22 @@ fn put_end<const N: usize, B: Bus, W: Write>(
 ) -> Result<(), PortFault>
     ensures whole { OnOk result (Appends (W.contents out.old) (W.contents out.new) (end_line N number machine.now.cpu)) }
     ensures part { OnErr result (WroteSome (W.contents out.old) (W.contents out.new) (end_line N number machine.now.cpu)) }
+    ensures fault { IfErr result IsOwnFault }
 {
     match teller.make_end(number, machine) {
         Ok(()) => {}
         Err(error) => return Err(PortFault::Memory(Want::from(error))),
     }
-    match put_all(out, teller.line.as_bytes()) {
+    match put_through(out, teller.line.as_bytes()) {
         Ok(()) => Ok(()),
         Err(_) => Err(PortFault::Writer),
     }
 }
 
 /// Runs a machine until the device stops it or it is in error mode, but at most so many turns, and writes a line before the first
-/// turn, one for each, and one behind the last: what the machine showed before it, the word, what happened, its data access, and the
-/// registers and the words of RAM that are others than the lines before told. Where the port or the writer fails, or memory is
-/// refused, the writer has the first bytes of such lines.
+/// turn, one for each, and one behind the last, through to the end: what the machine showed before it, the word, what happened, its
+/// data access, and the registers and the words of RAM that are others than the lines before told. Where the port or the writer
+/// fails, or memory is refused, which the fault tells, the writer has the first bytes of such lines.
 pub fn tell_states<const N: usize, B: Bus, W: Write>(
     machine: &mut Machine<N, B>,
     mmu: &MmuRegs,
@@ -147,6 +151,7 @@ pub fn tell_states<const N: usize, B: Bus, W: Write>(
     ensures part { OnErr result (Wrote (W.contents out.old) (W.contents out.new) (BeginsStates B.meaning N mmu.now limit
         (world N machine.old.cpu (B.ram machine.old.bus) (B.device machine.old.bus))
         (record { registers = teller.old.registers; ram = B.ram teller.old.memory }))) }
+    ensures fault { IfErr result (IsFaultOf (B.fault machine.new.bus)) }
 {
     match put_start(machine, teller, out) {
         Ok(()) => {}

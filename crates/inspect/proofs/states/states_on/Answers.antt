@@ -1,0 +1,11 @@
+use Rattle.sbx_command.proofs.Traces.{of_run}
+use Rattle.inspect.proofs.Stated.{stated_on}
+use Rattle.inspect.proofs.states.states_on.Goals as goal
+
+pub returns-in-Ok-clause-told : goal.returns-in-Ok-clause-told
+returns-in-Ok-clause-told g c =
+    stated_on c.count.result c.args.windows c.args.limit c.args.image.now c.args.input.now (g.O.Write.contents c.args.out.now)
+    (g.O.Write.contents c.state_windows.new.out) c.count.ensures.value c.in-Ok.ensures
+
+pub returns-in-Err-clause-stop : goal.returns-in-Err-clause-stop
+returns-in-Err-clause-stop g c = of_run c.in-Err.fault c.from.result c.from.ensures
