@@ -2,7 +2,7 @@
 use fit_bounds::Bound;
 use fit_graph::Loop;
 use fit_meter::Meter;
-use fit_ways::{Setting, Way, cells_at, constant_at, least_constants, ways_of};
+use fit_ways::{Setting, Way, cells_at, constant_at, least_constants, ways_of_loop};
 use sbx_domain::State;
 use sbx_parts::Term;
 use std::alloc::{AllocError, Global};
@@ -78,7 +78,7 @@ fn weight_of_round(
     within: &Loop,
     state: &mut State,
 ) -> Result<Option<i64>, AllocError> {
-    let ways = ways_of(setting, terms, places, state)?;
+    let ways = ways_of_loop(setting, terms, places, within, state)?;
     let ways = ways_within(setting.alloc, ways.as_slice(), within)?;
     Ok(
         match least_constants(setting.alloc, terms.len(), ways.as_slice())? {

@@ -195,12 +195,13 @@ pub fn program_of(alloc: Global, source: &Source, entry: &str) -> Result<Program
             legal.add(*number, code, places.as_slice())?;
         }
     }
-    let mut regions = Vec::new(alloc);
-    regions.push(legal.layout.region())?;
+    let regions = legal.layout.regions()?;
+    let files = copy_of(alloc, source.files.as_slice())?;
+    let layout = legal.layout;
     Ok(Program {
         functions: legal.functions,
-        objects: legal.layout.objects,
+        objects: layout.objects,
         regions,
-        files: copy_of(alloc, source.files.as_slice())?,
+        files,
     })
 }

@@ -2,7 +2,7 @@
 use crate::told::are_told;
 
 /// What stands behind `main:` in the fourth line, and why there is no program.
-static REFUSED: [(&str, &str); 18] = [
+static REFUSED: [(&str, &str); 19] = [
     (
         " save %sp,-96,%sp\n call main\n nop\n ret\n restore",
         "t.s:6: recursion: main calls main",
@@ -43,9 +43,13 @@ static REFUSED: [(&str, &str); 18] = [
         " add %sp,-96,%sp\n ld [%sp+188],%o0\n retl\n sub %sp,-96,%sp",
         "t.s:6: main: an access to the stack outside of its frame",
     ),
-    // Calls through pointers, with the line of C where it is known.
+    // Calls through pointers, as gcc and as clang write them, with the line of C where it is known.
     (
         " save %sp,-96,%sp\n call %o1\n nop\n ret\n restore",
+        "t.s:6: a call through a pointer: name the function, by a switch",
+    ),
+    (
+        " save %sp,-96,%sp\n jmpl %i0,%o7\n nop\n ret\n restore",
         "t.s:6: a call through a pointer: name the function, by a switch",
     ),
     (

@@ -1,10 +1,10 @@
 //! What programs do.
-use crate::told::are_told;
+use crate::told::{are_regions, are_told};
 
 /// What stands behind `main:`, and what is told of the program: of each function its name, the bytes of its frame, and
 /// its blocks. Of a block the words of its steps, as binutils assembles what they have to be, and where control goes:
 /// `!` ends the run.
-static PROGRAMS: [(&str, &str); 9] = [
+static PROGRAMS: [(&str, &str); 10] = [
     // A slot's step stands before the return, and main's return ends the run.
     (" retl\n add %o0,1,%o0", "main 0: 90022001 !\n"),
     // What stands in a call's slot stands before the call.
@@ -47,9 +47,29 @@ static PROGRAMS: [(&str, &str); 9] = [
         " save %sp,-96,%sp\n st %i0,[%sp+92]\n call f\n nop\n ret\n restore\nf:\n ld [%sp+92],%o0\n retl\n nop",
         "main 64: 0d000200 f021a06c 40000000 90100018 !\nf 0: 0d000200 d001a06c .\n",
     ),
+    // Constants lie before what may be written, wherever they stand in the source.
+    (CONSTANT, "main 0: 03000200 d0006050 03000204 d0206050 !\n"),
 ];
+
+/// A constant is copied to what may be written, which stands before it.
+const CONSTANT: &str =
+    " sethi %hi(k),%g1\n ld [%g1+%lo(k)],%o0\n sethi %hi(v),%g1\n st %o0,[%g1+%lo(v)]\n retl\n nop
+.data\n.align 4\nv:\n .long 0\n.section \".rodata\"\n.align 4\nk:\n .long 5\n";
 
 #[test]
 fn programs_do_what_their_sources_do(rt: HostRuntime) {
     are_told(&rt, rt.alloc(), &PROGRAMS);
+}
+
+/// Each region begins a page. It has 80 bytes before its first object, and 256 behind its last one, and is a multiple
+/// of 8 bytes long.
+#[test]
+fn constants_are_read_alone(rt: HostRuntime) {
+    are_regions(&rt, rt.alloc(), " retl\n nop", "rw 00080000 00000140\n");
+    are_regions(
+        &rt,
+        rt.alloc(),
+        CONSTANT,
+        "ro 00080000 00000158\nrw 00081000 00000158\n",
+    );
 }

@@ -58,12 +58,31 @@ fn made(alloc: Global, source: &mut Source, body: &str) -> Result<Program, Fault
     program_of(alloc, source, "main")
 }
 
+/// The regions of a program: what may be done there, where each begins, and how many bytes it has.
+fn regions_told(alloc: Global, program: &Program) -> Result<String, AllocError> {
+    let mut text = String::new(alloc);
+    for region in program.regions.as_slice() {
+        let right = if region.readonly { "ro" } else { "rw" };
+        let (start, length) = (region.start, region.length);
+        writeln!(text, "{right} {start:08X} {length:08X}")?;
+    }
+    Ok(text)
+}
+
+/// What is to be told of a program.
+#[derive(Clone, Copy)]
+enum Topic {
+    Code,
+    Regions,
+}
+
 /// Whether this is told of a program, or is why there is none.
-fn tells(alloc: Global, body: &str, wanted: &str) -> bool {
+fn tells(alloc: Global, topic: Topic, body: &str, wanted: &str) -> bool {
     let mut source = Source::new(alloc);
-    let told = match made(alloc, &mut source, body) {
-        Ok(program) => program_told(alloc, &program),
-        Err(fault) => fault_told(alloc, &source, &fault),
+    let told = match (made(alloc, &mut source, body), topic) {
+        (Ok(program), Topic::Code) => program_told(alloc, &program),
+        (Ok(program), Topic::Regions) => regions_told(alloc, &program),
+        (Err(fault), _) => fault_told(alloc, &source, &fault),
     };
     match told {
         Ok(told) => told.as_str() == wanted,
@@ -74,6 +93,11 @@ fn tells(alloc: Global, body: &str, wanted: &str) -> bool {
 /// Asserts that each row is told.
 pub(crate) fn are_told(rt: &impl Abort, alloc: Global, rows: &[(&str, &str)]) {
     for (body, wanted) in rows {
-        assert!(rt; tells(alloc, body, wanted), "{body}");
+        assert!(rt; tells(alloc, Topic::Code, body, wanted), "{body}");
     }
+}
+
+/// Asserts that a program has these regions.
+pub(crate) fn are_regions(rt: &impl Abort, alloc: Global, body: &str, wanted: &str) {
+    assert!(rt; tells(alloc, Topic::Regions, body, wanted), "{body}");
 }

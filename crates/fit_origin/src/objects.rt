@@ -61,22 +61,32 @@ pub fn named_object(program: &Program, origin: &Origin) -> Option<usize> {
     }
 }
 
-/// The object that the least address of an origin lies in.
-fn least_object(program: &Program, origin: &Origin) -> Option<usize> {
-    let lo = i64::from(origin.range?.lo);
-    let least = origin
+/// The address that an origin gives with a word of its register.
+fn address_with(origin: &Origin, word: i32) -> i64 {
+    origin
         .constant
-        .saturating_add(origin.times.saturating_mul(lo));
-    if is_in_data(program.regions.as_slice(), least) {
-        object_at(program.objects.as_slice(), least)
-    } else {
-        None
+        .saturating_add(origin.times.saturating_mul(i64::from(word)))
+}
+
+/// The object that the least address of an origin lies in, where no other one begins up to the greatest one: else the
+/// register may as well point into that.
+fn least_object(program: &Program, origin: &Origin) -> Option<usize> {
+    let range = origin.range?;
+    let least = address_with(origin, range.lo);
+    let greatest = address_with(origin, range.hi);
+    if !is_in_data(program.regions.as_slice(), least) {
+        return None;
+    }
+    let number = object_at(program.objects.as_slice(), least)?;
+    match program.objects.get(number.saturating_add(1)) {
+        Some(next) if i64::from(next.start) <= greatest => None,
+        _ => Some(number),
     }
 }
 
-/// Where a pointer may go with an offset: from, and to.
-fn window(program: &Program, constant: i64) -> (i64, i64) {
-    match program.regions.last() {
+/// Where a pointer may go in a region with an offset: from, and to.
+fn window(region: Option<&Region>, constant: i64) -> (i64, i64) {
+    match region {
         Some(region) => {
             let start = i64::from(region.start);
             let end = start.saturating_add(i64::from(region.length));
@@ -93,22 +103,43 @@ fn floor(number: i64, divisor: i64) -> i64 {
     number.checked_div_euclid(divisor).unwrap_or(0)
 }
 
-/// Where the word of an origin's register may lie for an access of so many bytes.
+/// The bounds of an origin's word with which an access of so many bytes lies between two addresses.
+fn bounds_between(
+    origin: &Origin,
+    size: i64,
+    (from, to): (i64, i64),
+    object: Option<usize>,
+) -> Bounds {
+    let least = from.saturating_sub(origin.constant);
+    let greatest = to.saturating_sub(size).saturating_sub(origin.constant);
+    Bounds {
+        lo: floor(least.saturating_neg(), origin.times).saturating_neg(),
+        hi: floor(greatest, origin.times),
+        object,
+    }
+}
+
+/// Where the word of an origin's register may lie for an access of so many bytes: that it lies in the object that its
+/// base names, else in the data that may be written.
 pub fn bounds_of(program: &Program, origin: &Origin, size: i64) -> Bounds {
     let named = match named_object(program, origin) {
         Some(object) => Some(object),
         None => least_object(program, origin),
     };
     let object = named.and_then(|number| program.objects.get(number));
-    let (from, to) = match object {
+    let addresses = match object {
         Some(object) => (i64::from(object.start), end_of(object)),
-        None => window(program, origin.constant),
+        None => window(program.regions.last(), origin.constant),
     };
-    let least = from.saturating_sub(origin.constant);
-    let greatest = to.saturating_sub(size).saturating_sub(origin.constant);
-    Bounds {
-        lo: floor(least.saturating_neg(), origin.times).saturating_neg(),
-        hi: floor(greatest, origin.times),
-        object: named,
+    bounds_between(origin, size, addresses, named)
+}
+
+/// The same of a load from the constants; nothing where the program has none.
+pub fn bounds_in_constants(program: &Program, origin: &Origin, size: i64) -> Option<Bounds> {
+    let region = program.regions.first()?;
+    if !region.readonly {
+        return None;
     }
+    let addresses = window(Some(region), origin.constant);
+    Some(bounds_between(origin, size, addresses, None))
 }

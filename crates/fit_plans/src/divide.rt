@@ -45,7 +45,7 @@ pub fn push_divisor_test(
     }
     let mut compare = Vec::new(frame.alloc);
     frame.push_compare(&mut compare, register, 0, 0)?;
-    frame.push_branch(function, compare, Cond::Equal)?;
+    frame.push_branch(function, compare, Cond::Equal, frame.exit)?;
     push_division(frame, function, steps)?;
     if has_signs {
         push_division(frame, function, steps)?;

@@ -28,6 +28,8 @@ pub struct Frame {
     pub line: Line,
     /// Where the run ends if the test fails.
     pub exit: usize,
+    /// Where control goes if the register doesn't lie within its bounds: the same, or another test.
+    pub beyond: usize,
     /// The block behind the test.
     pub rest: usize,
 }
@@ -52,16 +54,17 @@ impl Frame {
         self.push(steps, Instr::SubCc(by_register(0, register, scratch)))
     }
 
-    /// A block that ends the run where a condition holds, and else goes on to the block that is made next.
+    /// A block that goes to another one where a condition holds, and else on to the block that is made next.
     pub fn push_branch(
         &self,
         function: &mut Function,
         steps: Vec<Step>,
         cond: Cond,
+        taken: usize,
     ) -> Result<(), AllocError> {
         let end = End::Branch {
             cond,
-            taken: self.exit,
+            taken,
             next: function.blocks.len().saturating_add(1),
         };
         push_block(function, steps, end, self.line)?;
@@ -76,7 +79,7 @@ impl Frame {
             &mut steps,
             Instr::AndCc(by_immediate(0, plan.register, mask)),
         )?;
-        self.push_branch(function, steps, Cond::NotEqual)
+        self.push_branch(function, steps, Cond::NotEqual, self.exit)
     }
 
     /// The step that makes seen that a register's low bits are 0, where they are.
@@ -122,8 +125,27 @@ impl Frame {
             )?;
         }
         self.push_compare(&mut steps, REST, length, NUMBER)?;
-        self.push_branch(function, steps, Cond::GreaterUnsigned)?;
+        self.push_branch(function, steps, Cond::GreaterUnsigned, self.beyond)?;
         Ok(behind)
+    }
+
+    /// A block that gives a register back what a test by a plan took from it before it went beyond; it goes on to the
+    /// block that is made next.
+    pub fn push_restore(&self, function: &mut Function, plan: &Plan) -> Result<(), AllocError> {
+        let mut steps = Vec::new(self.alloc);
+        if let Way::Within { lo, .. } = plan.way
+            && plan.register == REST
+        {
+            let sum = if (-4095..=4095).contains(&lo) {
+                by_immediate(REST, REST, lo)
+            } else {
+                by_register(REST, REST, FROM)
+            };
+            self.push(&mut steps, Instr::Add(sum))?;
+        }
+        let next = function.blocks.len().saturating_add(1);
+        push_block(function, steps, End::Jump(next), self.line)?;
+        Ok(())
     }
 
     /// The blocks of a test, behind which control goes on to the rest. The first one of them is the function's next
@@ -136,12 +158,12 @@ impl Frame {
         let mut end = End::Jump(self.rest);
         match plan.way {
             Way::Known => self.push_mask(&mut last, plan)?,
-            Way::Never => end = End::Jump(self.exit),
+            Way::Never => end = End::Jump(self.beyond),
             Way::Above(hi) => {
                 let mut steps = Vec::new(self.alloc);
                 self.push_mask(&mut steps, plan)?;
                 self.push_compare(&mut steps, plan.register, hi, FROM)?;
-                self.push_branch(function, steps, Cond::GreaterUnsigned)?;
+                self.push_branch(function, steps, Cond::GreaterUnsigned, self.beyond)?;
             }
             Way::Within { lo, length } => {
                 last = self.push_within(function, plan, lo, length)?;

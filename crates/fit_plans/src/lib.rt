@@ -10,6 +10,6 @@ mod test;
 
 pub use divide::push_divisor_test;
 pub use insert::Frame;
-pub use plan::{Plan, Way, plan_of};
+pub use plan::{Plan, Way, plan_in_constants, plan_of};
 pub use shown::Shown;
 pub use test::{Kind, Test};

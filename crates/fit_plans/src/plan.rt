@@ -1,6 +1,6 @@
 //! How an address is tested.
 use fit_code::Program;
-use fit_origin::{Bounds, Origin, bounds_of};
+use fit_origin::{Bounds, Origin, bounds_in_constants, bounds_of};
 use sbx_range::{Range, all};
 
 /// What is asked of a register's word.
@@ -70,10 +70,9 @@ fn way_of(range: Range, bounds: &Bounds, alignment: u8) -> Way {
     }
 }
 
-/// How an access of so many bytes is tested by the register that its address is worked out from, where the address
-/// has to be a multiple of 2 to the power `needed`.
-pub fn plan_of(program: &Program, origin: &Origin, size: u32, needed: u8) -> Plan {
-    let bounds = bounds_of(program, origin, i64::from(size));
+/// How it is seen that an origin's word lies in bounds, for an address that has to be a multiple of 2 to the power
+/// `needed`.
+fn plan_in(origin: &Origin, bounds: Bounds, needed: u8) -> Plan {
     let range = origin.range.unwrap_or(all(0));
     let needed = needed.saturating_sub(trailing(origin.times));
     let alignment = if range.alignment < needed { needed } else { 0 };
@@ -84,4 +83,26 @@ pub fn plan_of(program: &Program, origin: &Origin, size: u32, needed: u8) -> Pla
         alignment,
         way: way_of(range, &bounds, alignment),
     }
+}
+
+/// How an access of so many bytes is tested by the register that its address is worked out from, where the address
+/// has to be a multiple of 2 to the power `needed`.
+pub fn plan_of(program: &Program, origin: &Origin, size: u32, needed: u8) -> Plan {
+    plan_in(origin, bounds_of(program, origin, i64::from(size)), needed)
+}
+
+/// How a load is tested where it doesn't lie in the data that may be written: among the constants. Nothing where there
+/// are none, or where it was seen by the first plan already.
+pub fn plan_in_constants(
+    program: &Program,
+    origin: &Origin,
+    size: u32,
+    needed: u8,
+    first: &Plan,
+) -> Option<Plan> {
+    if first.bounds.object.is_some() || matches!(first.way, Way::Known) {
+        return None;
+    }
+    let bounds = bounds_in_constants(program, origin, i64::from(size))?;
+    Some(plan_in(origin, bounds, needed))
 }

@@ -67,6 +67,9 @@ impl Maker<'_> {
             Instr::Jmpl(fields) if returns_by(fields, Reg::O7) => Ok(Flow::Return {
                 framed: false,
             }),
+            Instr::Jmpl(fields) if fields.rd == Reg::O7 => {
+                Err(Fault::new(line, Reason::CallThroughPointer))
+            }
             Instr::Jmpl(_) => Err(Fault::new(line, Reason::JumpThroughPointer)),
             Instr::Save(_) => Ok(Flow::Save),
             Instr::Restore(_) => Ok(Flow::Restore),
@@ -91,7 +94,13 @@ impl Maker<'_> {
                 None,
             )),
             Some(reference) => {
-                let object = object_of(self.source, self.linked, reference.symbol, line)?;
+                let object = object_of(
+                    self.source,
+                    self.linked,
+                    self.layout,
+                    reference.symbol,
+                    line,
+                )?;
                 let address = self.layout.address(object, reference.offset);
                 let word = with_part(word, reference.part, address);
                 Ok(step_of(word, line, None, Some(object)))

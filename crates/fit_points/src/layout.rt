@@ -1,7 +1,7 @@
 //! Where the objects of a program lie.
 use fit_code::{Fault, Line, NO_LINE, Naming, Object, Reason, Region};
 use fit_gas::{Datum, Fix, Linked, Place, Source};
-use std::alloc::Global;
+use std::alloc::{AllocError, Global};
 
 /// Where the data of an image begin.
 const DATA: u32 = 0x8_0000;
@@ -15,8 +15,11 @@ const PAD: u32 = 16;
 /// Bytes behind the last object.
 const TAIL: u32 = 256;
 
-/// How many bytes a region has at most.
+/// How many bytes all regions have at most, with what is left of their last pages.
 const MOST: u32 = 262_144;
+
+/// The bytes of a page; each region begins one.
+const PAGE: u32 = 4_096;
 
 /// The least multiple of a number that isn't below another one.
 fn multiple_from(least: u32, number: u32) -> u32 {
@@ -26,11 +29,31 @@ fn multiple_from(least: u32, number: u32) -> u32 {
     }
 }
 
-/// Objects in one region, each with its address from when it is added.
+/// A fault where data would end behind what an image may have.
+fn check_end(end: u32) -> Result<(), Fault> {
+    if end.saturating_add(TAIL) > DATA + MOST {
+        return Err(Fault::new(
+            NO_LINE,
+            Reason::TooMany {
+                what: "bytes of data",
+                most: u64::from(MOST),
+            },
+        ));
+    }
+    Ok(())
+}
+
+/// Objects in two regions, each with its address from when it is added: the constants, and what may be written.
 #[derive(Drop)]
 pub struct Layout {
     pub alloc: Global,
     pub objects: Vec<Object>,
+    /// Of each object of the source its number here.
+    numbers: Vec<usize>,
+    /// The region of the constants, where there are some.
+    constants: Option<Region>,
+    /// Where the region begins that objects are added to.
+    start: u32,
     /// Where the last object ends.
     end: u32,
 }
@@ -41,6 +64,9 @@ impl Layout {
         Layout {
             alloc,
             objects: Vec::new(alloc),
+            numbers: Vec::new(alloc),
+            constants: None,
+            start: DATA,
             end: DATA + HEAD,
         }
     }
@@ -57,15 +83,7 @@ impl Layout {
         let start = multiple_from(self.end.saturating_add(PAD), align);
         let length = u32::try_from(bytes.len()).unwrap_or(u32::MAX);
         let end = start.saturating_add(length);
-        if end.saturating_add(TAIL) > DATA + MOST {
-            return Err(Fault::new(
-                NO_LINE,
-                Reason::TooMany {
-                    what: "bytes of data",
-                    most: u64::from(MOST),
-                },
-            ));
-        }
+        check_end(end)?;
         let number = self.objects.len();
         self.objects.push(Object {
             name,
@@ -93,14 +111,41 @@ impl Layout {
         crate::fields::word_of(i64::from(start).saturating_add(offset))
     }
 
-    /// The region that all objects lie in.
-    pub fn region(&self) -> Region {
+    /// The region that objects are added to, as far as they go.
+    fn region(&self, readonly: bool) -> Region {
         let end = self.end.saturating_add(TAIL);
         Region {
-            readonly: false,
-            start: DATA,
-            length: end.saturating_sub(DATA).saturating_add(7) & !7,
+            readonly,
+            start: self.start,
+            length: end.saturating_sub(self.start).saturating_add(7) & !7,
         }
+    }
+
+    /// What is added from here on may be written, and lies on pages of its own.
+    fn end_constants(&mut self) -> Result<(), Fault> {
+        if !self.objects.is_empty() {
+            let region = self.region(true);
+            self.start = multiple_from(region.start.saturating_add(region.length), PAGE);
+            self.end = self.start.saturating_add(HEAD);
+            self.constants = Some(region);
+        }
+        check_end(self.end)
+    }
+
+    /// The regions that all objects lie in, by their addresses: that of the constants, where there are some, and the
+    /// one that may be written.
+    pub fn regions(&self) -> Result<Vec<Region>, AllocError> {
+        let mut regions = Vec::new(self.alloc);
+        if let Some(region) = self.constants {
+            regions.push(region)?;
+        }
+        regions.push(self.region(false))?;
+        Ok(regions)
+    }
+
+    /// The number of an object of the source.
+    fn number(&self, datum: usize) -> usize {
+        self.numbers.get(datum).copied().unwrap_or(0)
     }
 
     /// Puts an address into a word of an object.
@@ -127,15 +172,16 @@ pub fn fault_of(source: &Source, line: Line, naming: Naming, symbol: usize) -> F
     }
 }
 
-/// The object that a symbol stands for.
+/// The object that a symbol stands for, by its number in the layout.
 pub fn object_of(
     source: &Source,
     linked: &Linked,
+    layout: &Layout,
     symbol: usize,
     line: Line,
 ) -> Result<usize, Fault> {
     match linked.place(symbol) {
-        Place::Object(number) => Ok(number),
+        Place::Object(datum) => Ok(layout.number(datum)),
         Place::Function(_) | Place::Label(_) => {
             Err(fault_of(source, line, Naming::AddressOfFunction, symbol))
         }
@@ -143,13 +189,26 @@ pub fn object_of(
     }
 }
 
-fn add_datum(source: &Source, datum: &Datum, layout: &mut Layout) -> Result<(), Fault> {
+/// Adds an object of the source; gives its number.
+fn add_datum(source: &Source, datum: &Datum, layout: &mut Layout) -> Result<usize, Fault> {
     let name = match source.symbols.get(datum.symbol) {
         Some(symbol) => symbol.name.clone()?,
         None => String::new(source.alloc),
     };
     let bytes = datum.bytes.clone()?;
-    layout.add(name, datum.readonly, datum.align, bytes)?;
+    layout.add(name, datum.readonly, datum.align, bytes)
+}
+
+/// Adds the objects of the source that are constants, or those that aren't.
+fn add_all(source: &Source, readonly: bool, layout: &mut Layout) -> Result<(), Fault> {
+    for (place, datum) in source.objects.iter().enumerate() {
+        if datum.readonly == readonly {
+            let number = add_datum(source, datum, layout)?;
+            if let Some(found) = layout.numbers.get_mut(place) {
+                *found = number;
+            }
+        }
+    }
     Ok(())
 }
 
@@ -162,20 +221,22 @@ fn fill_all(
     layout: &mut Layout,
 ) -> Result<(), Fault> {
     for fix in fixes {
-        let object = object_of(source, linked, fix.symbol, fix.line)?;
+        let object = object_of(source, linked, layout, fix.symbol, fix.line)?;
         let word = layout.address(object, fix.offset);
         layout.fill(number, fix.at, word);
     }
     Ok(())
 }
 
-/// Lays out the objects of a source, by its numbers.
+/// Lays out the objects of a source: the constants first, on pages that may be read alone.
 pub fn layout_of(alloc: Global, source: &Source, linked: &Linked) -> Result<Layout, Fault> {
     let mut layout = Layout::new(alloc);
-    for datum in source.objects.iter() {
-        add_datum(source, datum, &mut layout)?;
-    }
-    for (number, datum) in source.objects.iter().enumerate() {
+    layout.numbers = vec![in alloc; 0; source.objects.len()]?;
+    add_all(source, true, &mut layout)?;
+    layout.end_constants()?;
+    add_all(source, false, &mut layout)?;
+    for (place, datum) in source.objects.iter().enumerate() {
+        let number = layout.number(place);
         fill_all(source, linked, number, datum.fixes.as_slice(), &mut layout)?;
     }
     Ok(layout)

@@ -45,6 +45,15 @@ pub struct Tests {
     pub(crate) changed: Vec<(usize, usize)>,
 }
 
+/// How an address that isn't shown is tested.
+#[derive(Clone, Copy)]
+pub(crate) struct Planned {
+    pub origin: Origin,
+    pub plan: Plan,
+    /// The same among the constants, where a load that doesn't pass the first test may pass this one.
+    pub constants: Option<Plan>,
+}
+
 /// Something that can't be tested.
 fn refused(alloc: Global, function: &Function, line: Line, what: &'static str) -> Fault {
     match function.name.clone() {
@@ -132,6 +141,29 @@ fn place_of_test(frame: u32, block: &Block, origin: &Origin) -> Option<usize> {
     if is_used { None } else { Some(origin.last) }
 }
 
+/// Where the same test may stand if the steps from there to the access are to stand twice: right before the access, if
+/// that may be.
+fn place_of_both(frame: u32, block: &Block, origin: &Origin) -> Option<usize> {
+    let last = Origin {
+        first: origin.last,
+        ..*origin
+    };
+    match place_of_test(frame, block, &last) {
+        Some(place) => Some(place),
+        None => place_of_test(frame, block, origin),
+    }
+}
+
+/// How many steps are to stand twice, from a place of a block to an access; none where what they leave is in use behind
+/// them.
+fn steps_of_both(frame: u32, block: &Block, place: usize, access: usize) -> Option<usize> {
+    let behind = access.saturating_add(1);
+    if needs_codes(block, behind) || needs_y(block, behind) || uses_scratch(frame, block, behind) {
+        return None;
+    }
+    Some(behind.saturating_sub(place))
+}
+
 /// What a test by a plan asks for.
 fn kind_of(plan: &Plan) -> Kind {
     match plan.bounds.object {
@@ -191,6 +223,49 @@ fn divisor_test(
         hi: 0,
         alignment: 0,
     }
+}
+
+/// A copy of a block's first steps, behind which control goes on as it does behind those; where no count is given a
+/// copy of the whole block.
+fn copy_steps(
+    alloc: Global,
+    code: &mut Function,
+    number: usize,
+    count: Option<usize>,
+) -> Result<usize, AllocError> {
+    if let Some(count) = count {
+        cut_block(alloc, code, number, count)?;
+    }
+    let Some(block) = code.blocks.get(number) else {
+        return Ok(number);
+    };
+    let (end, slot, line) = (block.end, block.slot, block.line);
+    let steps = Vec::from_slice(alloc, block.steps.as_slice())?;
+    let copy = push_block(code, steps, end, line)?;
+    if let Some(block) = code.blocks.get_mut(copy) {
+        block.slot = slot;
+    }
+    Ok(copy)
+}
+
+/// The test of a load among the constants, behind which the first steps of a block stand once more; gives the block
+/// that a first test goes to, by whose plan the load isn't in the data that may be written.
+fn push_both(
+    code: &mut Function,
+    first: &Frame,
+    count: Option<usize>,
+    plan: &Plan,
+    second: &Plan,
+) -> Result<usize, AllocError> {
+    let copy = copy_steps(first.alloc, code, first.rest, count)?;
+    let head = code.blocks.len();
+    first.push_restore(code, plan)?;
+    let frame = Frame {
+        rest: copy,
+        ..*first
+    };
+    frame.push_test(code, second)?;
+    Ok(head)
 }
 
 impl Tests {
@@ -325,19 +400,28 @@ impl Tests {
         place: usize,
         ask: &Ask,
         access: &Access,
-        plan: &Plan,
+        planned: &Planned,
     ) -> Result<(), AllocError> {
+        let plan = &planned.plan;
         let exit = self.exit_of(code, function, kind_of(plan), ask.line)?;
+        let count = match code.blocks.get(ask.block) {
+            Some(block) => steps_of_both(code.frame, block, place, ask.place),
+            None => None,
+        };
         let Some(rest) = cut_block(self.alloc, code, ask.block, place)? else {
             return Ok(());
         };
-        let head = code.blocks.len();
-        let frame = Frame {
+        let mut frame = Frame {
             alloc: self.alloc,
             line: ask.line,
             exit,
+            beyond: exit,
             rest,
         };
+        if let Some(second) = &planned.constants {
+            frame.beyond = push_both(code, &frame, count, plan, second)?;
+        }
+        let head = code.blocks.len();
         frame.push_test(code, plan)?;
         if let Some(block) = code.blocks.get_mut(ask.block) {
             block.end = End::Jump(head);
@@ -355,21 +439,23 @@ impl Tests {
         function: usize,
         ask: &Ask,
         access: &Access,
-        planned: Option<(Origin, Plan)>,
+        planned: Option<Planned>,
     ) -> Result<(), Fault> {
-        let Some((origin, plan)) = planned else {
+        let Some(planned) = planned else {
             return self.join_address(code, function, ask);
         };
-        if says_nothing(&plan) {
+        if says_nothing(&planned.plan) {
             let what = "an address that can't be tested: a constant is stored to, or it wraps";
             return Err(refused(self.alloc, code, ask.line, what));
         }
+        let (frame, origin) = (code.frame, &planned.origin);
         let place = match code.blocks.get(ask.block) {
-            Some(block) => place_of_test(code.frame, block, &origin),
+            Some(block) if planned.constants.is_some() => place_of_both(frame, block, origin),
+            Some(block) => place_of_test(frame, block, origin),
             None => None,
         };
         match place {
-            Some(place) => Ok(self.test_at(code, function, place, ask, access, &plan)?),
+            Some(place) => Ok(self.test_at(code, function, place, ask, access, &planned)?),
             None => self.free_codes(code, function, ask),
         }
     }
@@ -431,6 +517,7 @@ impl Tests {
             alloc: self.alloc,
             line: ask.line,
             exit,
+            beyond: exit,
             rest,
         };
         push_divisor_test(&frame, code, register, range, &steps)?;

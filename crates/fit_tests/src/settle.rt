@@ -1,11 +1,11 @@
 //! Tests put into a program until nothing is left that isn't shown.
-use crate::answers::{SUM, Tests, says_nothing};
+use crate::answers::{Planned, SUM, Tests, says_nothing};
 use fit_asks::{Access, Ask, Asking, Lack, asks_of, needed_alignment, shorter_sums};
 use fit_cells::range_in;
 use fit_code::{End, Fault, Function, NO_LINE, Program, Reason};
 use fit_cuts::{by_immediate, drop_compare};
 use fit_origin::{Origin, operands_of};
-use fit_plans::{Kind, Plan, Test, plan_of};
+use fit_plans::{Kind, Test, plan_in_constants, plan_of};
 use fit_ranges::Ranges;
 use sbx_domain::State;
 use sbx_range::{Range, excludes_zero};
@@ -29,13 +29,20 @@ fn shows(test: &Test, range: Range) -> bool {
     }
 }
 
-/// An origin with its plan.
-fn with_plan(asking: &Asking, access: &Access, origin: Origin) -> (Origin, Plan) {
-    let needed = needed_alignment(access.size);
-    (
+/// An origin with its plans.
+fn with_plan(asking: &Asking, access: &Access, origin: Origin) -> Planned {
+    let (program, needed) = (asking.program, needed_alignment(access.size));
+    let plan = plan_of(program, &origin, access.size, needed);
+    let constants = if access.writes {
+        None
+    } else {
+        plan_in_constants(program, &origin, access.size, needed, &plan)
+    };
+    Planned {
         origin,
-        plan_of(asking.program, &origin, access.size, needed),
-    )
+        plan,
+        constants,
+    }
 }
 
 /// The address of an access that goes by %g7 alone, as its own origin.
@@ -57,14 +64,14 @@ fn own_origin(code: &Function, ask: &Ask, access: &Access) -> Option<Origin> {
 
 /// How what isn't shown is tested, where it is an address: by what it is worked out from, if more can be known of that,
 /// else by the address itself.
-fn planned(asking: &Asking, function: usize, ask: &Ask) -> Option<(Origin, Plan)> {
+fn planned(asking: &Asking, function: usize, ask: &Ask) -> Option<Planned> {
     let Lack::Placed(access) = &ask.lack else {
         return None;
     };
     if let Some(origin) = access.origin {
-        let (origin, plan) = with_plan(asking, access, origin);
-        if !says_nothing(&plan) {
-            return Some((origin, plan));
+        let planned = with_plan(asking, access, origin);
+        if !says_nothing(&planned.plan) {
+            return Some(planned);
         }
     }
     let origin = own_origin(asking.program.functions.get(function)?, ask, access)?;
@@ -78,7 +85,7 @@ impl Tests {
         code: &mut Function,
         function: usize,
         ask: &Ask,
-        planned: Option<(Origin, Plan)>,
+        planned: Option<Planned>,
     ) -> Result<(), Fault> {
         match &ask.lack {
             Lack::Defined(location) => self.clear_at_entry(code, function, *location, ask.line),
@@ -104,7 +111,7 @@ impl Tests {
         for ask in &asks {
             let planned = planned(&self.asking(program, ranges), function, ask);
             let key = match &planned {
-                Some((origin, plan)) => Some((origin.register, plan.bounds.object)),
+                Some(planned) => Some((planned.origin.register, planned.plan.bounds.object)),
                 None => None,
             };
             let is_asked = key.is_some_and(|key| keys.contains(&key));

@@ -1,4 +1,5 @@
 //! The data of a source.
+use crate::names::commented;
 use fit_code::{Object, Program, Region};
 use std::alloc::AllocError;
 
@@ -42,7 +43,7 @@ fn push_bytes(out: &mut String, bytes: &[u8]) -> Result<(), AllocError> {
 fn push_object(out: &mut String, from: u64, object: &Object) -> Result<u64, AllocError> {
     let start = u64::from(object.start);
     push_zeros(out, start.saturating_sub(from))?;
-    let (name, address) = (object.name.as_str(), object.start);
+    let (name, address) = (commented(object.name.as_str()), object.start);
     writeln!(out, "! {name}, at {address:08X}")?;
     push_bytes(out, object.bytes.as_slice())?;
     Ok(start.saturating_add(object.bytes.len() as u64))

@@ -1,4 +1,5 @@
 //! Lines of instructions.
+use crate::names::commented;
 use arrayvec::ArrayString;
 use fit_code::{Line, Program};
 use std::alloc::AllocError;
@@ -30,7 +31,7 @@ impl<'p> Told<'p> {
             && let Some(file) = self.program.files.get(line.file)
         {
             self.last = line;
-            let number = line.number;
+            let (file, number) = (commented(file.as_str()), line.number);
             for _ in length..COMMENT {
                 out.push_str(" ")?;
             }

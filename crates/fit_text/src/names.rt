@@ -1,6 +1,18 @@
-//! The names that functions have in a source.
+//! The names that functions have in a source, and what is told of other names.
 use fit_code::Program;
 use std::alloc::{AllocError, Global};
+
+/// So many bytes of a name stand in a line, which may not have more than 1,024.
+const LONGEST: usize = 256;
+
+/// A name as comments tell it.
+pub fn commented(name: &str) -> &str {
+    if name.len() <= LONGEST {
+        name
+    } else {
+        "(a long name)"
+    }
+}
 
 /// Whether one of these names is the text.
 fn stands_in(names: &[String], text: &str) -> bool {
@@ -12,14 +24,35 @@ fn stands_in(names: &[String], text: &str) -> bool {
     false
 }
 
+/// Whether a name may stand in a source, where `$` may not.
+fn may_stand(name: &str) -> bool {
+    let is_plain = |byte: &u8| byte.is_ascii_alphanumeric() || *byte == b'_' || *byte == b'.';
+    name.len() <= LONGEST && name.as_bytes().iter().all(is_plain)
+}
+
+/// Whether a name ends as that of a block does, or as one that is made here.
+fn ends_in_number(name: &str) -> bool {
+    let bytes = name.as_bytes();
+    match bytes.iter().rposition(|byte| !byte.is_ascii_digit()) {
+        Some(last) if last.saturating_add(1) < bytes.len() => {
+            let (front, _) = bytes.split_at(last.saturating_add(1));
+            front.ends_with(b".") || front.ends_with(b".of")
+        }
+        _ => false,
+    }
+}
+
 /// The name of each function: its own, with its number behind it where an earlier function has that name, as static ones of two
-/// files may.
+/// files may, or a block might; a name that may not stand in a source is left out.
 pub fn names_of(alloc: Global, program: &Program) -> Result<Vec<String>, AllocError> {
     let mut names = Vec::new(alloc);
     for (number, function) in program.functions.iter().enumerate() {
-        let mut name = String::from_str(alloc, function.name.as_str())?;
-        if stands_in(names.as_slice(), name.as_str()) {
-            write!(name, ".of.{number}")?;
+        let own = function.name.as_str();
+        let kept = if may_stand(own) { own } else { "function" };
+        let mut name = String::from_str(alloc, kept)?;
+        let is_own = kept == own && !ends_in_number(own);
+        if !is_own || stands_in(names.as_slice(), own) {
+            write!(name, ".of{number}")?;
         }
         names.push(name)?;
     }

@@ -3,7 +3,7 @@ use crate::sums::Sum;
 use crate::weights::weight_of_block;
 use arrayvec::ArrayVec;
 use fit_code::Program;
-use fit_graph::successors_in;
+use fit_graph::{Loop, successors_in};
 use fit_ranges::Ranges;
 use sbx_domain::{Lin, State};
 use sbx_form::FormTerm;
@@ -135,6 +135,24 @@ fn add_ways(
         }
     }
     Ok(())
+}
+
+/// The ways out of the blocks of a loop of a function, which have these terms; `places` says which blocks are places of
+/// the meter.
+pub fn ways_of_loop(
+    setting: &Setting<'_>,
+    terms: &[Vec<Term>],
+    places: &[bool],
+    within: &Loop,
+    state: &mut State,
+) -> Result<Vec<Way>, AllocError> {
+    let mut ways = Vec::new(setting.alloc);
+    for (block, is_place) in places.iter().enumerate() {
+        if within.has(block) {
+            add_ways(setting, terms, block, *is_place, state, &mut ways)?;
+        }
+    }
+    Ok(ways)
 }
 
 /// The ways out of all blocks of a function, which have these terms; `places` says which blocks are places of the meter.

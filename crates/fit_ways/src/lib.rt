@@ -6,5 +6,5 @@ mod longest;
 mod sums;
 mod weights;
 
-pub use costs::{Setting, Way, cells_at, ways_of};
+pub use costs::{Setting, Way, cells_at, ways_of, ways_of_loop};
 pub use longest::{constant_at, least_constants};
