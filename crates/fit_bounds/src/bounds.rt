@@ -1,5 +1,5 @@
 //! The counters of loops.
-use crate::changes::{Passage, Setting, change_of_round, passages_of};
+use crate::changes::{Passage, Setting, change_of_round, is_steady, passages_of};
 use fit_code::Program;
 use fit_graph::{Loop, enters_beside_head, loops_of};
 use fit_ranges::Ranges;
@@ -15,6 +15,8 @@ pub struct Bound {
     pub change: i64,
     /// The most rounds.
     pub rounds: u64,
+    /// Whether it changes by one number on each way of the loop, and not by another location's.
+    pub is_steady: bool,
 }
 
 /// Whether each block of a loop knows a location where it begins.
@@ -53,19 +55,30 @@ fn bound_by(
         location: cell.location,
         change,
         rounds: rounds.saturating_add(1),
+        is_steady: is_steady(passages, candidate),
     }))
 }
 
-/// The bound of fewest rounds.
-fn fewest(found: Option<Bound>, other: Option<Bound>) -> Option<Bound> {
+/// Whether a bound is the better one: a steady one before others, and then that of fewer rounds.
+fn is_better(bound: Bound, found: Bound) -> bool {
+    if bound.is_steady == found.is_steady {
+        bound.rounds < found.rounds
+    } else {
+        bound.is_steady
+    }
+}
+
+/// The better bound.
+fn better(found: Option<Bound>, other: Option<Bound>) -> Option<Bound> {
     match (found, other) {
-        (Some(found), Some(other)) if other.rounds < found.rounds => Some(other),
+        (Some(found), Some(other)) if is_better(other, found) => Some(other),
         (Some(found), _) => Some(found),
         (None, other) => other,
     }
 }
 
-/// The bound of a loop by the counter that gives the fewest rounds; none where no location counts.
+/// The bound of a loop by the counter that changes by one number and gives the fewest rounds, else by another; none where no
+/// location counts.
 fn bound_of(
     setting: &Setting<'_>,
     within: &Loop,
@@ -78,7 +91,7 @@ fn bound_of(
     let mut found = None;
     for (candidate, cell) in candidates.iter().enumerate() {
         let other = bound_by(setting, within, passages.as_slice(), candidate, cell)?;
-        found = fewest(found, other);
+        found = better(found, other);
     }
     Ok(found)
 }
@@ -114,15 +127,15 @@ pub fn bounds_of(
     Ok(bounds)
 }
 
-/// Whether a bound is of few rounds.
+/// Whether a bound is steady, and of few rounds.
 fn is_within(bound: Option<Bound>, most: u64) -> bool {
     match bound {
-        Some(bound) => bound.rounds <= most,
+        Some(bound) => bound.is_steady && bound.rounds <= most,
         None => false,
     }
 }
 
-/// The heads of a function's loops that have a bound of at most so many rounds, and only such loops in them.
+/// The heads of a function's loops that have a steady bound of at most so many rounds, and only such loops in them.
 pub fn bounded_heads(
     alloc: Global,
     program: &Program,

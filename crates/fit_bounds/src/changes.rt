@@ -8,12 +8,19 @@ use sbx_form::FormTerm;
 use sbx_parts::Cell;
 use std::alloc::{AllocError, Global};
 
+/// By how much a location changes: from the least number to the greatest.
+#[derive(Clone, Copy)]
+pub struct Change {
+    pub least: i64,
+    pub most: i64,
+}
+
 /// A way from a block of a loop to another one, with the change of each candidate; nothing where it isn't known.
 #[derive(Drop)]
 pub struct Passage {
     pub from: usize,
     pub to: usize,
-    pub changes: Vec<Option<i64>>,
+    pub changes: Vec<Option<Change>>,
 }
 
 /// A function whose loops are looked at.
@@ -25,25 +32,54 @@ pub struct Setting<'s> {
     pub number: usize,
 }
 
-/// By how much a form is more than the number that the location began with; nothing where it is something else.
-fn change_of(form: &Lin, location: u16) -> Option<i64> {
-    let terms: ArrayVec<FormTerm, 8> = form.terms();
-    match terms.as_slice() {
-        [term] if term.location == location && term.coefficient == 1 => Some(form.constant()),
-        _ => None,
+/// What so many times a location adds, by its range in cells; nothing where it has none.
+fn added(cells: &[Cell], location: u16, times: i64) -> Option<Change> {
+    for cell in cells {
+        if cell.location == location {
+            let low = times.saturating_mul(i64::from(cell.range.lo));
+            let high = times.saturating_mul(i64::from(cell.range.hi));
+            return Some(Change {
+                least: low.min(high),
+                most: low.max(high),
+            });
+        }
     }
+    None
 }
 
-/// The change of each candidate in a state.
+/// By how much a form is more than the number that the location began with, where its other terms lie in these cells' ranges; nothing
+/// where it is something else.
+fn change_of(form: &Lin, location: u16, cells: &[Cell]) -> Option<Change> {
+    let mut change = Change {
+        least: form.constant(),
+        most: form.constant(),
+    };
+    let mut is_found = false;
+    let terms: ArrayVec<FormTerm, 8> = form.terms();
+    for term in terms.as_slice() {
+        let times = i64::try_from(term.coefficient).ok()?;
+        if term.location == location {
+            is_found = times == 1;
+        } else {
+            let more = added(cells, term.location, times)?;
+            change.least = change.least.saturating_add(more.least);
+            change.most = change.most.saturating_add(more.most);
+        }
+    }
+    if is_found { Some(change) } else { None }
+}
+
+/// The change of each candidate in a state on a way from a block that begins with these cells.
 fn changes_in(
     alloc: Global,
     candidates: &[Cell],
+    cells: &[Cell],
     state: &State,
-) -> Result<Vec<Option<i64>>, AllocError> {
+) -> Result<Vec<Option<Change>>, AllocError> {
     let mut changes = Vec::new(alloc);
     for cell in candidates {
         changes.push(match state.form(cell.location) {
-            Some(form) => change_of(&form, cell.location),
+            Some(form) => change_of(&form, cell.location, cells),
             None => None,
         })?;
     }
@@ -69,7 +105,8 @@ fn add_passages(
                 .ranges
                 .run_block(setting.program, setting.number, from, way, state)
         {
-            let changes = changes_in(setting.alloc, candidates, state)?;
+            let cells = setting.ranges.cells(setting.number, from).unwrap_or(&[]);
+            let changes = changes_in(setting.alloc, candidates, cells, state)?;
             passages.push(Passage { from, to, changes })?;
         }
     }
@@ -96,18 +133,28 @@ pub fn passages_of(
 fn goes_one_way(passages: &[Passage], candidate: usize, falls: bool) -> bool {
     passages.iter().all(|passage| {
         match passage.changes.get(candidate).copied().flatten() {
-            Some(change) => (change <= 0 && falls) || (change >= 0 && !falls),
+            Some(change) => (change.most <= 0 && falls) || (change.least >= 0 && !falls),
             None => false,
         }
     })
 }
 
-/// What a way adds to a candidate's change, whichever way it goes.
+/// What a way adds to a candidate's change at least, whichever way it goes.
 fn amount(passage: &Passage, candidate: usize) -> u64 {
     match passage.changes.get(candidate).copied().flatten() {
-        Some(change) => change.unsigned_abs(),
+        Some(change) => change.least.unsigned_abs().min(change.most.unsigned_abs()),
         None => 0,
     }
+}
+
+/// Whether a candidate changes by one number on each way.
+pub fn is_steady(passages: &[Passage], candidate: usize) -> bool {
+    passages.iter().all(|passage| {
+        match passage.changes.get(candidate).copied().flatten() {
+            Some(change) => change.least == change.most,
+            None => false,
+        }
+    })
 }
 
 /// Lowers what is known of the least changes by the ways, once; says whether one was lowered.

@@ -2,7 +2,7 @@
 ghost use Rattle.std.specs.Prelude.{◌≡◌, ◌≤◌};
 ghost use Rattle.std.specs.Int.{int_max, int_min};
 
-use crate::thresholds::{lower_threshold, upper_threshold};
+use crate::thresholds::Thresholds;
 use sbx_range::{Cell, Range, is_within};
 use std::alloc::{AllocError, Global};
 
@@ -28,16 +28,16 @@ pub fn hull(a: Range, b: Range) -> Range
     }
 }
 
-/// A range that holds the words of both, whose ends are thresholds where they aren't those of the first.
-fn widened(thresholds: &[i32], old: Range, new: Range) -> Range {
+/// A range of a location that holds the words of both, whose ends are thresholds where they aren't those of the first.
+fn widened(thresholds: Option<&Thresholds>, location: u16, old: Range, new: Range) -> Range {
     Range {
         lo: if new.lo < old.lo {
-            lower_threshold(thresholds, new.lo)
+            thresholds.map_or(i32::MIN, |it| it.lower(location, new.lo))
         } else {
             old.lo
         },
         hi: if new.hi > old.hi {
-            upper_threshold(thresholds, new.hi)
+            thresholds.map_or(i32::MAX, |it| it.upper(location, new.hi))
         } else {
             old.hi
         },
@@ -46,7 +46,7 @@ fn widened(thresholds: &[i32], old: Range, new: Range) -> Range {
 }
 
 /// The cells of both lists, each with what its two ranges give.
-fn combined<F: Fn(Range, Range) -> Range>(
+fn combined<F: Fn(u16, Range, Range) -> Range>(
     alloc: Global,
     a: &[Cell],
     b: &[Cell],
@@ -56,10 +56,11 @@ fn combined<F: Fn(Range, Range) -> Range>(
 {
     let mut both = Vec::with_capacity(alloc, a.len())?;
     for cell in a {
-        if let Some(range) = range_in(b, cell.location) {
+        let location = cell.location;
+        if let Some(range) = range_in(b, location) {
             both.push(Cell {
-                location: cell.location,
-                range: with(cell.range, range),
+                location,
+                range: with(location, cell.range, range),
             })?;
         }
     }
@@ -68,17 +69,22 @@ fn combined<F: Fn(Range, Range) -> Range>(
 
 /// What two ways have in common.
 pub fn joined(alloc: Global, a: &[Cell], b: &[Cell]) -> Result<Vec<Cell>, AllocError> {
-    combined(alloc, a, b, &|x, y| hull(x, y))
+    combined(alloc, a, b, &|_location, x, y| hull(x, y))
 }
 
-/// The same, where ends that move go to thresholds.
+/// The same, where ends that move go to thresholds, or without them to the ends of all words.
 pub fn widened_cells(
     alloc: Global,
-    thresholds: &[i32],
+    thresholds: Option<&Thresholds>,
     old: &[Cell],
     new: &[Cell],
 ) -> Result<Vec<Cell>, AllocError> {
-    combined(alloc, old, new, &|x, y| widened(thresholds, x, y))
+    combined(
+        alloc,
+        old,
+        new,
+        &|location, x, y| widened(thresholds, location, x, y),
+    )
 }
 
 /// Whether two lists are the same.

@@ -3,6 +3,7 @@
 #![tactic(auto)]
 
 mod cells;
+mod compared;
 mod run;
 mod shape;
 mod thresholds;
@@ -10,4 +11,4 @@ mod thresholds;
 pub use cells::{are_same, are_within, hull, joined, range_in, widened_cells};
 pub use run::{enter, go_along, opposite, return_from, run_step, run_steps, run_to_call};
 pub use shape::{Shape, way_of};
-pub use thresholds::thresholds_of;
+pub use thresholds::{Thresholds, thresholds_of};

@@ -1,9 +1,8 @@
 //! The numbers at which a range that grows may stop.
-use fit_code::{Block, Function, Object, Program};
+use crate::compared::Compared;
+use fit_code::{Function, Program};
 use sbx_range::Range;
 use std::alloc::{AllocError, Global};
-use v8_formats::{Operand, Reg, Three};
-use v8_meaning::{Op, Operation, operation_of};
 
 /// Ends of bytes and halves, and the ends of all words.
 const COMMON: [i32; 15] = [
@@ -24,19 +23,90 @@ const COMMON: [i32; 15] = [
     i32::MAX,
 ];
 
-/// The greatest threshold that isn't above a number.
-pub(crate) fn lower_threshold(thresholds: &[i32], number: i32) -> i32 {
-    let above = thresholds.partition_point(|threshold| *threshold <= number);
-    thresholds
-        .get(above.wrapping_sub(1))
-        .copied()
-        .unwrap_or(i32::MIN)
+/// The greatest number of a list that isn't above a number.
+fn last_to(list: &[i32], number: i32) -> Option<i32> {
+    let above = list.partition_point(|threshold| *threshold <= number);
+    list.get(above.wrapping_sub(1)).copied()
 }
 
-/// The least threshold that isn't below a number.
-pub(crate) fn upper_threshold(thresholds: &[i32], number: i32) -> i32 {
-    let below = thresholds.partition_point(|threshold| *threshold < number);
-    thresholds.get(below).copied().unwrap_or(i32::MAX)
+/// The least number of a list that isn't below a number.
+fn first_from(list: &[i32], number: i32) -> Option<i32> {
+    let below = list.partition_point(|threshold| *threshold < number);
+    list.get(below).copied()
+}
+
+/// Where the ranges of a function's locations may stop.
+#[derive(Drop)]
+pub struct Thresholds {
+    compared: Compared,
+    /// Those of all locations, the least first: of words that are addresses of the data, and of others.
+    addresses: Vec<i32>,
+    numbers: Vec<i32>,
+    /// Where the data begin and end.
+    start: i32,
+    end: i32,
+}
+
+impl Thresholds {
+    /// Adds the ends of the program's objects, and their lengths.
+    fn add_objects(&mut self, program: &Program) -> Result<(), AllocError> {
+        for object in &program.objects {
+            let length = i32::try_from(object.bytes.len()).unwrap_or(i32::MAX);
+            self.numbers.push(length)?;
+            self.numbers.push(length.saturating_sub(1))?;
+            push_ends(&mut self.addresses, object.start.cast_signed(), length)?;
+        }
+        Ok(())
+    }
+
+    /// Adds the ends of the program's regions.
+    fn add_regions(&mut self, program: &Program) -> Result<(), AllocError> {
+        for region in &program.regions {
+            let start = region.start.cast_signed();
+            let end = region.start.saturating_add(region.length).cast_signed();
+            push_around(&mut self.addresses, start)?;
+            push_around(&mut self.addresses, end)?;
+            self.start = self.start.min(start);
+            self.end = self.end.max(end);
+        }
+        Ok(())
+    }
+
+    /// Adds the ends of params.
+    fn add_params(&mut self, params: &[Range]) -> Result<(), AllocError> {
+        for range in params {
+            for number in [range.lo, range.hi] {
+                push_around(&mut self.numbers, number)?;
+                push_around(&mut self.addresses, number)?;
+            }
+        }
+        Ok(())
+    }
+
+    /// The thresholds of all locations near a number.
+    fn near(&self, number: i32) -> &[i32] {
+        if self.start <= number && number <= self.end.saturating_add(1) {
+            self.addresses.as_slice()
+        } else {
+            self.numbers.as_slice()
+        }
+    }
+
+    /// The greatest threshold of a location that isn't above a number.
+    pub(crate) fn lower(&self, location: u16, number: i32) -> i32 {
+        match last_to(self.compared.numbers_of(location), number) {
+            Some(found) => found,
+            None => last_to(self.near(number), number).unwrap_or(i32::MIN),
+        }
+    }
+
+    /// The least threshold of a location that isn't below a number.
+    pub(crate) fn upper(&self, location: u16, number: i32) -> i32 {
+        match first_from(self.compared.numbers_of(location), number) {
+            Some(found) => found,
+            None => first_from(self.near(number), number).unwrap_or(i32::MAX),
+        }
+    }
 }
 
 /// A number, the one before it and the one after it.
@@ -47,101 +117,41 @@ fn push_around(thresholds: &mut Vec<i32>, number: i32) -> Result<(), AllocError>
     Ok(())
 }
 
-/// The ends of an object, and its length.
-fn push_object(thresholds: &mut Vec<i32>, object: &Object) -> Result<(), AllocError> {
-    let start = object.start.cast_signed();
-    let length = i32::try_from(object.bytes.len()).unwrap_or(i32::MAX);
+/// The ends of an object, and the last places in it for 2, 4 and 8 bytes.
+fn push_ends(thresholds: &mut Vec<i32>, start: i32, length: i32) -> Result<(), AllocError> {
     let end = start.saturating_add(length);
     push_around(thresholds, start)?;
     push_around(thresholds, end)?;
-    thresholds.push(length)?;
-    thresholds.push(length.saturating_sub(1))?;
     for size in [2, 4, 8] {
         thresholds.push(end.saturating_sub(size))?;
     }
     Ok(())
 }
 
-/// The number that SETHI left in the first operand's register, if nothing else was found there, with an immediate.
-fn full_number(high: &[u32; 32], op: Op, fields: &Three, low: u32) -> Option<i32> {
-    let high = high.get(usize::from(fields.rs1.number())).copied()?;
-    match op {
-        Op::Or | Op::Add if high != 0 => Some(high.wrapping_add(low).cast_signed()),
-        _ => None,
-    }
+/// The least first, and each once.
+fn sort(list: &mut Vec<i32>) {
+    list.as_mut_slice().sort_unstable();
+    list.dedup();
 }
 
-/// The numbers that a word names, where `high` has for each register what SETHI left in it.
-fn push_step(
-    thresholds: &mut Vec<i32>,
-    high: &mut [u32; 32],
-    operation: &Operation,
-) -> Result<(), AllocError> {
-    match operation {
-        Operation::SetHigh(fields) => {
-            let number = fields.imm22.wrapping_mul(1024);
-            if let Some(slot) = high.get_mut(usize::from(fields.rd.number())) {
-                *slot = number;
-            }
-            push_around(thresholds, number.cast_signed())
-        }
-        Operation::Compute(op, fields) => match fields.operand2 {
-            Operand::Immediate(low) => {
-                let number = low.cast_signed();
-                thresholds.push(number.saturating_neg())?;
-                push_around(thresholds, number)?;
-                match full_number(high, *op, fields, low) {
-                    Some(number) => push_around(thresholds, number),
-                    None => Ok(()),
-                }
-            }
-            Operand::Register(_) => Ok(()),
-        },
-        _ => Ok(()),
-    }
-}
-
-/// The numbers that a block names.
-fn push_block(thresholds: &mut Vec<i32>, block: &Block) -> Result<(), AllocError> {
-    let mut high = [0; 32];
-    for step in &block.steps {
-        push_step(thresholds, &mut high, &operation_of(&step.instr))?;
-    }
-    Ok(())
-}
-
-/// The ends of ranges, and the numbers beside them.
-fn push_ranges(thresholds: &mut Vec<i32>, ranges: &[Range]) -> Result<(), AllocError> {
-    for range in ranges {
-        push_around(thresholds, range.lo)?;
-        push_around(thresholds, range.hi)?;
-    }
-    Ok(())
-}
-
-/// The thresholds of a function, the least first.
+/// The thresholds of a function that is called with these params.
 pub fn thresholds_of(
     alloc: Global,
     program: &Program,
     function: &Function,
     params: &[Range],
-) -> Result<Vec<i32>, AllocError> {
-    let mut thresholds = Vec::from_slice(alloc, &COMMON)?;
-    for object in &program.objects {
-        push_object(&mut thresholds, object)?;
-    }
-    for region in &program.regions {
-        push_around(&mut thresholds, region.start.cast_signed())?;
-        push_around(
-            &mut thresholds,
-            region.start.saturating_add(region.length).cast_signed(),
-        )?;
-    }
-    for block in &function.blocks {
-        push_block(&mut thresholds, block)?;
-    }
-    push_ranges(&mut thresholds, params)?;
-    thresholds.as_mut_slice().sort_unstable();
-    thresholds.dedup();
+) -> Result<Thresholds, AllocError> {
+    let mut thresholds = Thresholds {
+        compared: Compared::of(alloc, function)?,
+        addresses: Vec::new(alloc),
+        numbers: Vec::from_slice(alloc, &COMMON)?,
+        start: i32::MAX,
+        end: i32::MIN,
+    };
+    thresholds.add_objects(program)?;
+    thresholds.add_regions(program)?;
+    thresholds.add_params(params)?;
+    sort(&mut thresholds.addresses);
+    sort(&mut thresholds.numbers);
     Ok(thresholds)
 }

@@ -1,8 +1,8 @@
 //! The ranges of one function: what is known where its blocks begin, found by going along all ways until nothing new comes.
 use crate::known::{Known, replace};
 use fit_cells::{
-    Shape, enter, go_along, hull, joined, return_from, run_steps, run_to_call, thresholds_of,
-    way_of, widened_cells,
+    Shape, Thresholds, enter, go_along, hull, joined, range_in, return_from, run_steps,
+    run_to_call, thresholds_of, way_of, widened_cells,
 };
 use fit_code::{End, Fault, Function, Program, Reason, Step};
 use fit_graph::successors_in;
@@ -25,6 +25,23 @@ pub struct Setting<'a> {
     pub function: &'a Function,
     pub params: &'a [Range],
     pub results: &'a [Vec<Range>],
+    /// Of each block the cells that are said, by location: their ranges are those and no others. None of blocks that aren't named here.
+    pub said: &'a [Vec<Cell>],
+}
+
+impl Setting<'_> {
+    /// Cells of a block, of which those that are said have the ranges that are said.
+    fn with_said(&self, block: usize, cells: Option<Vec<Cell>>) -> Option<Vec<Cell>> {
+        let mut cells = cells?;
+        if let Some(said) = self.said.get(block) {
+            for cell in cells.iter_mut() {
+                if let Some(range) = range_in(said.as_slice(), cell.location) {
+                    cell.range = range;
+                }
+            }
+        }
+        Some(cells)
+    }
 }
 
 /// A call with what its callee is given in %o0, %o1, ..; nothing where that is undefined.
@@ -305,11 +322,29 @@ impl Flow {
         Ok(())
     }
 
+    /// What a head's cells become: what comes into its loop is joined, and what only grows by the ways back goes to thresholds.
+    fn raised_head(
+        &self,
+        alloc: Global,
+        thresholds: &Thresholds,
+        block: usize,
+        old: &[Cell],
+        new: &[Cell],
+    ) -> Result<Vec<Cell>, AllocError> {
+        match self.known.entering(alloc, &self.shape, block)? {
+            Some(entering) => {
+                let old = joined(alloc, old, entering.as_slice())?;
+                widened_cells(alloc, Some(thresholds), old.as_slice(), new)
+            }
+            None => widened_cells(alloc, Some(thresholds), old, new),
+        }
+    }
+
     /// What a block's cells become, where more may come along its ways than before.
     fn raised(
         &self,
         alloc: Global,
-        thresholds: &[i32],
+        thresholds: &Thresholds,
         block: usize,
         changes: u32,
     ) -> Result<Option<Vec<Cell>>, AllocError> {
@@ -321,9 +356,9 @@ impl Flow {
         };
         let is_head = self.shape.heads.get(block).copied().unwrap_or(false);
         Ok(Some(if changes >= PATIENCE {
-            widened_cells(alloc, &[], old, new.as_slice())?
+            widened_cells(alloc, None, old, new.as_slice())?
         } else if is_head && changes > 2 {
-            widened_cells(alloc, thresholds, old, new.as_slice())?
+            self.raised_head(alloc, thresholds, block, old, new.as_slice())?
         } else {
             joined(alloc, old, new.as_slice())?
         }))
@@ -333,7 +368,7 @@ impl Flow {
     fn ascend(
         &mut self,
         setting: &Setting,
-        thresholds: &[i32],
+        thresholds: &Thresholds,
         state: &mut State,
     ) -> Result<(), Fault> {
         let most = self.pending.len().saturating_add(1).saturating_mul(2_000);
@@ -343,6 +378,7 @@ impl Flow {
             };
             let changes = self.changes.get(block).copied().unwrap_or(0);
             let cells = self.raised(setting.alloc, thresholds, block, changes)?;
+            let cells = setting.with_said(block, cells);
             let is_new = cells.is_some() && replace(&mut self.known.cells, block, cells);
             if is_new || (block == 0 && changes == 0) {
                 count(&mut self.changes, block);
@@ -371,6 +407,7 @@ impl Flow {
                 return Ok(());
             };
             let cells = self.known.incoming(setting.alloc, &self.shape, block)?;
+            let cells = setting.with_said(block, cells);
             if block > 0
                 && replace(&mut self.known.cells, block, cells)
                 && count(&mut self.narrowings, block) <= NARROWINGS
@@ -443,10 +480,10 @@ impl Flow {
             setting.function,
             setting.params,
         )?;
-        self.ascend(setting, thresholds.as_slice(), state)?;
+        self.ascend(setting, &thresholds, state)?;
         self.descend(setting, state)?;
         self.mark_broken();
-        self.ascend(setting, thresholds.as_slice(), state)?;
+        self.ascend(setting, &thresholds, state)?;
         self.summarize(setting, state)?;
         Ok(())
     }

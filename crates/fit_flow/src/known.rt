@@ -66,17 +66,22 @@ impl Known {
         at(self.ways.as_slice(), way).is_some()
     }
 
-    /// What the ways that lead to a block have in common; nothing where none of them can be gone.
-    pub fn incoming(
+    /// What the ways have in common that lead to a block from blocks before a place of the order; nothing where none of them can be gone.
+    fn common(
         &self,
         alloc: Global,
         shape: &Shape,
         block: usize,
+        before: usize,
     ) -> Result<Option<Vec<Cell>>, AllocError> {
         let mut found: Option<Vec<Cell>> = None;
         if let Some(sources) = shape.sources.get(block) {
             for way in sources {
-                if let Some(cells) = at(self.ways.as_slice(), *way) {
+                let is_before = shape
+                    .order
+                    .place(*way / 2)
+                    .is_some_and(|place| place < before);
+                if is_before && let Some(cells) = at(self.ways.as_slice(), *way) {
                     found = Some(match &found {
                         Some(other) => joined(alloc, other.as_slice(), cells)?,
                         None => Vec::from_slice(alloc, cells)?,
@@ -85,6 +90,29 @@ impl Known {
             }
         }
         Ok(found)
+    }
+
+    /// What the ways that lead to a block have in common; nothing where none of them can be gone.
+    pub fn incoming(
+        &self,
+        alloc: Global,
+        shape: &Shape,
+        block: usize,
+    ) -> Result<Option<Vec<Cell>>, AllocError> {
+        self.common(alloc, shape, block, usize::MAX)
+    }
+
+    /// The same of the ways that don't lead back to it.
+    pub fn entering(
+        &self,
+        alloc: Global,
+        shape: &Shape,
+        block: usize,
+    ) -> Result<Option<Vec<Cell>>, AllocError> {
+        match shape.order.place(block) {
+            Some(place) => self.common(alloc, shape, block, place),
+            None => Ok(None),
+        }
     }
 
     /// Whether all that comes along a block's ways lies within its cells.

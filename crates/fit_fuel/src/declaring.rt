@@ -73,6 +73,7 @@ fn fuel_of(
     number: usize,
     meter: Option<&Meter>,
     budgets: &[u64],
+    spared: &[u64],
     state: &mut State,
 ) -> Result<Fuel, Fault> {
     let bounds = bounds_of(alloc, program, ranges, number, state)?;
@@ -83,6 +84,7 @@ fn fuel_of(
             ranges,
             number,
             budgets,
+            spared,
         };
         let (fuel, ways) = fuel_now(&setting, meter, bounds.as_slice(), state)?;
         let is_more = match (meter, program.functions.get_mut(number)) {
@@ -168,10 +170,13 @@ fn notes_of_function(
     number: usize,
     meter: Option<&Meter>,
     budgets: &[u64],
+    spared: &[u64],
     known: &[Option<FunctionNotes>],
     state: &mut State,
 ) -> Result<FunctionNotes, Fault> {
-    let fuel = fuel_of(alloc, program, ranges, number, meter, budgets, state)?;
+    let fuel = fuel_of(
+        alloc, program, ranges, number, meter, budgets, spared, state,
+    )?;
     let first = constant_at(fuel.constants.as_slice(), 0).unwrap_or(0);
     let budget = u64::try_from(first).unwrap_or(0);
     let Some(function) = program.functions.get(number) else {
@@ -184,6 +189,7 @@ fn notes_of_function(
             ranges,
             number,
             budgets,
+            spared,
         };
         return Err(too_great(&setting, function, &fuel, meter, budget, state)?);
     }
@@ -194,6 +200,24 @@ fn notes_of_function(
         depth: total.depth,
         blocks: notes_of_blocks(alloc, ranges, number, fuel)?,
     })
+}
+
+/// What one function without a meter declares, by its number, where the budgets of those that it calls are known and what they declare;
+/// its blocks weigh so many turns less than their steps and their ends. A loop that no counter bounds is refused, and a budget of 2^40
+/// turns or more.
+pub fn declare_function(
+    alloc: Global,
+    program: &mut Program,
+    ranges: &Ranges,
+    number: usize,
+    budgets: &[u64],
+    spared: &[u64],
+    known: &[Option<FunctionNotes>],
+    state: &mut State,
+) -> Result<FunctionNotes, Fault> {
+    notes_of_function(
+        alloc, program, ranges, number, None, budgets, spared, known, state,
+    )
 }
 
 /// What is said of each function, the last one first, since each calls those behind it alone.
@@ -222,6 +246,7 @@ fn notes_of_all(
             number,
             meter,
             budgets.as_slice(),
+            &[],
             known.as_slice(),
             state,
         )?;

@@ -8,4 +8,5 @@ mod metering;
 mod terms;
 mod totals;
 
-pub use declaring::declare;
+pub use declaring::{declare, declare_function};
+pub use totals::{Total, total_of};

@@ -26,6 +26,8 @@ pub struct Ranges {
     params: Vec<Vec<Range>>,
     /// What each function gives back, in %o0, %o1, ..
     results: Vec<Vec<Range>>,
+    /// Of each function and each of its blocks the cells that are said, by location. None of those that aren't named here.
+    said: Vec<Vec<Vec<Cell>>>,
 }
 
 /// So many times any word.
@@ -61,6 +63,25 @@ fn are_same(a: &[Locations], b: &[Locations]) -> bool {
     a.len() == b.len() && a.iter().zip(b).all(|(x, y)| is_part(x, y) && is_part(y, x))
 }
 
+/// Puts ranges that are said in the place of the first ones.
+fn put_said(ranges: &mut Vec<Range>, said: &[Range]) -> Result<(), AllocError> {
+    for (place, range) in said.iter().enumerate() {
+        match ranges.get_mut(place) {
+            Some(found) => *found = *range,
+            None => ranges.push(*range)?,
+        }
+    }
+    Ok(())
+}
+
+/// The cells that are said of a function's blocks.
+fn said_of(said: &[Vec<Vec<Cell>>], function: usize) -> &[Vec<Cell>] {
+    match said.get(function) {
+        Some(cells) => cells.as_slice(),
+        None => &[],
+    }
+}
+
 /// The ranges at a place of a list.
 fn at(lists: &[Vec<Range>], place: usize) -> &[Range] {
     match lists.get(place) {
@@ -72,6 +93,17 @@ fn at(lists: &[Vec<Range>], place: usize) -> &[Range] {
 impl Ranges {
     /// Finds the ranges of a program.
     pub fn of(alloc: Global, program: &Program, state: &mut State) -> Result<Ranges, Fault> {
+        Ranges::beside(alloc, program, Vec::new(alloc), state)
+    }
+
+    /// Finds the ranges of a program of which some are said: the first params and results of its functions, as they stand there, and
+    /// cells of its functions' blocks, by location.
+    pub fn beside(
+        alloc: Global,
+        program: &Program,
+        said: Vec<Vec<Vec<Cell>>>,
+        state: &mut State,
+    ) -> Result<Ranges, Fault> {
         let liveness = Liveness::of(alloc, program)?;
         let mut ranges = Ranges {
             alloc,
@@ -79,6 +111,7 @@ impl Ranges {
             flows: Vec::new(alloc),
             params: Vec::new(alloc),
             results: Vec::new(alloc),
+            said,
         };
         for (number, function) in program.functions.iter().enumerate() {
             ranges.begin(number, function)?;
@@ -114,7 +147,8 @@ impl Ranges {
 
     /// Takes over what all calls give a function; where that is new the function is looked at again.
     fn take_params(&mut self, number: usize, function: &Function) -> Result<(), AllocError> {
-        let given = self.given(number)?;
+        let mut given = self.given(number)?;
+        put_said(&mut given, function.params.as_slice())?;
         if at(self.params.as_slice(), number) != given.as_slice() {
             if let Some(params) = self.params.get_mut(number) {
                 *params = given;
@@ -143,6 +177,7 @@ impl Ranges {
             function,
             params: at(self.params.as_slice(), number),
             results: self.results.as_slice(),
+            said: said_of(self.said.as_slice(), number),
         };
         match self.flows.get_mut(number) {
             Some(flow) if flow.is_pending() => {
@@ -174,7 +209,10 @@ impl Ranges {
         number: usize,
         round: u32,
     ) -> Result<bool, AllocError> {
-        let found = self.returned(number)?;
+        let mut found = self.returned(number)?;
+        if let Some(function) = program.functions.get(number) {
+            put_said(&mut found, function.results.as_slice())?;
+        }
         let known = at(self.results.as_slice(), number);
         let is_new = if round < NARROWINGS {
             known != found.as_slice()
@@ -320,6 +358,7 @@ impl Ranges {
             function: program.functions.get(function)?,
             params: at(self.params.as_slice(), function),
             results: self.results.as_slice(),
+            said: said_of(self.said.as_slice(), function),
         })
     }
 

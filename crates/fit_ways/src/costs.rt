@@ -31,6 +31,8 @@ pub struct Setting<'s> {
     pub number: usize,
     /// Of each function; of those that it calls they are known.
     pub budgets: &'s [u64],
+    /// The turns that each block of the function weighs less than its steps and its end; none of blocks that aren't named here.
+    pub spared: &'s [u64],
 }
 
 /// The terms of a block, by its number.
@@ -120,7 +122,10 @@ fn add_ways(
     let Some(block) = function.blocks.get(from) else {
         return Ok(());
     };
-    let weight = weight_of_block(function, from, block, setting.budgets);
+    let spared = setting.spared.get(from).copied().unwrap_or(0);
+    let weight = weight_of_block(function, from, block, setting.budgets).saturating_sub(
+        i64::try_from(spared).unwrap_or(i64::MAX),
+    );
     let targets = successors_in(function, from);
     for (way, to) in targets.into_iter().enumerate() {
         let is_there = to.is_some() || (way == 0 && targets[1].is_none());
