@@ -22,7 +22,7 @@ use want::Want;
 pub const MOST: usize = 16_777_216;
 
 /// All of standard input.
-fn input_of<I: Read>(alloc: Global, input: &mut I) -> Result<Vec<u8>, Stop>
+pub fn input_of<I: Read>(alloc: Global, input: &mut I) -> Result<Vec<u8>, Stop>
     ensures whole { IfOk result (λ bytes. IfSome (I.remaining input.old) (λ all. bytes.items ≡ all)) }
     ensures stop { IfErr result (λ stop. (stop ≡ Stop.Memory refused) ⊎ (stop ≡ Stop.Input)) }
 {
@@ -34,7 +34,7 @@ fn input_of<I: Read>(alloc: Global, input: &mut I) -> Result<Vec<u8>, Stop>
 }
 
 /// Writes a text, through to the end.
-fn put_out<O: Write>(out: &mut O, text: &[u8]) -> Result<(), Stop>
+pub fn put_out<O: Write>(out: &mut O, text: &[u8]) -> Result<(), Stop>
     ensures bytes { OnOk result (Appends (O.contents out.old) (O.contents out.new) text.now) }
     ensures stop { IfErr result (λ stop. stop ≡ Stop.Output) }
 {
