@@ -1,7 +1,8 @@
 """The objects that `inspect --json` writes, read by Python's json and made into the lines that `inspect` tells people: these have to be
-those of files that weren't made by the program. Standard input has a line for each case, of words behind tabs: image, run or why, the
-image, the file with the lines, the file that is its input, and options. Called by tests/inspect."""
+those of files that weren't made by the program. Standard input has a line for each case, of words behind tabs: image, run, why or check,
+the image or the source, the file with the lines, the file that is its input, and options. Called by tests/inspect."""
 import json
+import re
 import subprocess
 import sys
 import tempfile
@@ -132,6 +133,18 @@ def verdict_text(verdict):
     return text
 
 
+# What is wrong with a source
+
+
+def check_text(check, name, told):
+    """The text of `inspect check`, of its object, whose faults say the same as the lines of the file that name a place."""
+    faults = [f"{name}:{it['line']}:{it['column']}: {it['code']}: {it['sentence']}" for it in check["faults"]]
+    assert list(check) == ["accepted", "faults", "text"] and check["accepted"] == (not faults), check
+    assert all(list(it) == ["line", "column", "code", "sentence"] for it in check["faults"]), check
+    assert faults == [line for line in told.split("\n") if re.match(rf"{re.escape(name)}:\d", line)], check
+    return check["text"]
+
+
 def read(path):
     with open(path, "rb") as file:
         return file.read()
@@ -141,8 +154,12 @@ def looked_at(command, image, told, *words, given=b""):
     """Nothing, or what differs between a file and the lines made of a call's object."""
     try:
         found = object_of(command, *words, image, given=given)
-        lines = {"image": image_lines, "run": run_lines}
-        text = verdict_text(found) if command == "why" else "".join(f"{it}\n" for it in lines[command](found))
+        if command == "why":
+            text = verdict_text(found)
+        elif command == "check":
+            text = check_text(found, image, read(told).decode())
+        else:
+            text = "".join(f"{it}\n" for it in {"image": image_lines, "run": run_lines}[command](found))
     except (AssertionError, KeyError, TypeError, ValueError) as error:
         return f"inspect {command} --json {image}: {error!r}"
     return "" if text.encode() == read(told) else f"inspect {command} --json {image}: says another thing than {told}"
@@ -171,6 +188,11 @@ def faults(folder):
         (3, "trace", "--json", none),
         (3, "image", "--json", "--json", none),
         (3, "why", "--json"),
+        (3, "map", "--json", none),
+        (3, "check", "--json"),
+        (3, "check", "--json", none, "--json"),
+        (3, "why", "--json", "--source", none, none),
+        (4, "check", "--json", f"{folder}/missing.s"),
         (4, "run", "--json", f"{folder}/missing.img"),
     ):
         if inspect(*words) != (status, b""):

@@ -34,7 +34,7 @@ pub fn input_of<I: Read>(alloc: Global, input: &mut I) -> Result<Vec<u8>, Stop>
 }
 
 /// Writes a text, through to the end.
-fn put_out<O: Write>(out: &mut O, text: &[u8]) -> Result<(), Stop>
+pub fn put_out<O: Write>(out: &mut O, text: &[u8]) -> Result<(), Stop>
     ensures bytes { OnOk result (Appends (O.contents out.old) (O.contents out.new) text.now) }
     ensures stop { IfErr result (λ stop. stop ≡ Stop.Output) }
 {

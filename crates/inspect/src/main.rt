@@ -1,10 +1,13 @@
 //! The second program: it tells of an image file what it declares, what its run gives, turn by turn where that is asked for, and why it is refused.
 #![tactic(auto)]
 
+mod by_source;
 mod commands;
 mod faults;
+mod naming;
 mod progress;
 mod reports;
+mod sources;
 mod states;
 mod words;
 
@@ -93,13 +96,19 @@ fn perform_on<'a>(
     }
 }
 
-/// Does a job, and tells on standard output.
-fn perform<'a>(rt: &HostRuntime, job: &Job<'a>) -> Result<(), Fault<'a>> {
+/// The path of a job's image file.
+fn path_of<'a>(job: &Job<'a>) -> &'a str {
     let (Job::Image { image, .. }
     | Job::Run { image, .. }
     | Job::Trace { image, .. }
     | Job::States { image, .. }
     | Job::Why { image, .. }) = *job;
+    image
+}
+
+/// Does a job, and tells on standard output.
+fn perform<'a>(rt: &HostRuntime, job: &Job<'a>) -> Result<(), Fault<'a>> {
+    let image = path_of(job);
     perform_on(rt, job, image, opened(rt, image)?)
 }
 
@@ -127,6 +136,9 @@ fn answer<'a>(rt: &HostRuntime, words: &'a [String]) -> Result<u8, Fault<'a>> {
 
 /// Does what the words ask for, and gives the exit status. What goes wrong is told on standard error.
 fn status_of(rt: &HostRuntime, words: &[String]) -> u8 {
+    if let Some(status) = by_source::answer(rt, words) {
+        return status;
+    }
     match answer(rt, words) {
         Ok(status) => status,
         Err(fault) => fault.report(rt),

@@ -49,7 +49,8 @@ pub enum Job<'a> {
 }
 
 /// What is told of words that ask for nothing.
-pub const USAGE: &str = "Usage: inspect COMMAND [--windows N] [--limit T] [--json] IMG
+pub const USAGE: &str =
+    "Usage: inspect COMMAND [--windows N] [--limit T] [--json] [--source SRC] FILE
 
   image IMG    tells what an image declares, in the source language's own words
   run IMG      runs any image on standard input and tells what it put out, how it ended,
@@ -59,11 +60,16 @@ pub const USAGE: &str = "Usage: inspect COMMAND [--windows N] [--limit T] [--jso
   states IMG   runs any image on standard input and tells the processor's state a turn, for
                programs: registers, word, event, and what changed
   why IMG      tells why an image is refused: the rule, the word, and what is known there
+  check SRC    tells what is wrong with a source: each line's first fault, or the rule that
+               its image breaks, at the line
+  map SRC      tells where the lines and the labels of a source stand in its image
   --version    of the script ./inspect: the version, the commit of the sources, and the kit
 
 run, trace, states: --windows N is the count of register windows, 4 to 32 (8);
                     --limit T the most turns, 0 to 9999999999 (100000).
-image, run, why: --json tells all of it in one line, a JSON object.
+image, run, why, check: --json tells all of it in one line, a JSON object.
+image, trace, why: --source SRC tells it by the names and the lines of its source, or of the
+                   map that `inspect map` made of it.
 Status 0: told. 2: no image. 3: other words. 4: a file, the input or the output fails. 5: memory.
 ";
 

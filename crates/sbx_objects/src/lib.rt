@@ -2,12 +2,14 @@
 //! order.
 #![tactic(auto)]
 
+mod findings;
 mod images;
 mod lists;
 mod members;
 mod runs;
 mod verdicts;
 
+pub use findings::check_line;
 pub use images::image_line;
 pub use runs::run_line;
 pub use verdicts::verdict_line;

@@ -1,0 +1,161 @@
+//! What is told of an image by the names and the lines of its source.
+use crate::commands::{input_of, put_out};
+use crate::sources::digest_of;
+use crate::words::Job;
+use sbx_asm::assemble;
+use sbx_command::{Stop, Windows, image_in};
+use sbx_declare::push_image;
+use sbx_explain::push_why;
+use sbx_image::Image;
+use sbx_named::{MapText, NamedWriter, Names, Told, names_in, push_renamed, read_map};
+use sbx_tell::{Progress, watch_windows};
+use std::alloc::{AllocError, Global};
+use std::io::{Read, Write};
+use want::Want;
+
+/// Whether an image is told by its source, or the source is another image's.
+#[derive(Clone, Copy, PartialEq, Eq)]
+pub enum Known {
+    Own,
+    Foreign,
+    /// It is a map with a line that no map has there.
+    Broken(usize),
+}
+
+/// Want of memory, as a stop.
+fn stopped<T: Drop>(done: Result<T, AllocError>) -> Result<T, Stop> {
+    match done {
+        Ok(value) => Ok(value),
+        Err(error) => Err(Stop::Memory(Want::from(error))),
+    }
+}
+
+/// Writes a text by names.
+fn put_renamed<O: Write>(
+    alloc: Global,
+    names: &Names<'_>,
+    out: &mut O,
+    text: &str,
+) -> Result<(), Stop> {
+    let mut renamed = String::new(alloc);
+    stopped(push_renamed(&mut renamed, names, text.as_bytes(), Told::Addresses))?;
+    put_out(out, renamed.as_bytes())
+}
+
+/// Tells what an image declares.
+fn show<O: Write>(
+    alloc: Global,
+    names: &Names<'_>,
+    image: &Image,
+    out: &mut O,
+) -> Result<(), Stop> {
+    let mut text = String::new(alloc);
+    stopped(push_image(&mut text, image))?;
+    put_renamed(alloc, names, out, text.as_str())
+}
+
+/// Runs an image on the input, which is read whole first, and tells each turn.
+fn trace<I: Read, O: Write, P: Progress>(
+    alloc: Global,
+    names: &Names<'_>,
+    windows: Windows,
+    limit: u64,
+    image: &Image,
+    input: &mut I,
+    out: &mut O,
+    progress: &mut P,
+) -> Result<(), Stop> {
+    let bytes = input_of(alloc, input)?;
+    let mut named = NamedWriter::new(alloc, names, out);
+    let (count, bytes) = (windows.count(), bytes.as_slice());
+    match watch_windows(alloc, count, image, bytes, limit, &mut named, progress) {
+        Ok(()) => Ok(()),
+        Err(fault) => Err(match named.want() {
+            Some(want) => Stop::Memory(want),
+            None => Stop::from(fault),
+        }),
+    }
+}
+
+/// Tells why an image is refused.
+fn explain<O: Write>(
+    alloc: Global,
+    names: &Names<'_>,
+    image: Image,
+    out: &mut O,
+) -> Result<(), Stop> {
+    let mut text = String::new(alloc);
+    stopped(push_why(alloc, &mut text, image))?;
+    put_renamed(alloc, names, out, text.as_str())
+}
+
+/// Does a job on an image with names.
+fn tell_named<I: Read, O: Write, P: Progress>(
+    alloc: Global,
+    names: &Names<'_>,
+    job: &Job<'_>,
+    image: Image,
+    input: &mut I,
+    out: &mut O,
+    progress: &mut P,
+) -> Result<(), Stop> {
+    match *job {
+        Job::Trace { windows, limit, .. } => {
+            trace(alloc, names, windows, limit, &image, input, out, progress)
+        }
+        Job::Why { .. } => explain(alloc, names, image, out),
+        Job::Image { .. } | Job::Run { .. } => show(alloc, names, &image, out),
+    }
+}
+
+/// The names of a text that is no map, which is the image's source or not.
+fn names_of_source<'s>(
+    alloc: Global,
+    text: &'s [u8],
+    image: &Image,
+) -> Result<Result<Names<'s>, Known>, Stop> {
+    let meant = assemble(alloc, text)?;
+    if digest_of(alloc, &meant)?.as_bytes() != digest_of(alloc, image)?.as_bytes() {
+        return Ok(Err(Known::Foreign));
+    }
+    Ok(Ok(stopped(names_in(alloc, text))?))
+}
+
+/// The names of a source or of its map, if the image is that one's.
+fn names_for<'s>(
+    alloc: Global,
+    text: &'s [u8],
+    image: &Image,
+) -> Result<Result<Names<'s>, Known>, Stop> {
+    match stopped(read_map(alloc, text))? {
+        MapText::Other => names_of_source(alloc, text, image),
+        MapText::Broken(line) => Ok(Err(Known::Broken(line))),
+        MapText::Read(map) => {
+            if digest_of(alloc, image)?.as_bytes() == map.digest {
+                Ok(Ok(map.names))
+            } else {
+                Ok(Err(Known::Foreign))
+            }
+        }
+    }
+}
+
+/// Does a job on the image of a file with the names and the lines of a source, or of a map that was made of it, if it is that image's.
+pub fn tell_by_source<F: Read, I: Read, O: Write, P: Progress>(
+    alloc: Global,
+    text: &[u8],
+    job: &Job<'_>,
+    file: &mut F,
+    input: &mut I,
+    out: &mut O,
+    progress: &mut P,
+) -> Result<Known, Stop> {
+    let image = image_in(alloc, file)?;
+    match names_for(alloc, text, &image)? {
+        Ok(names) => {
+            tell_named(alloc, &names, job, image, input, out, progress)?;
+            Ok(Known::Own)
+        }
+        Err(known) => Ok(known),
+    }
+}

@@ -1,0 +1,4 @@
+.function f,leaf,0,0,1
+nop
+.block 5
+nop

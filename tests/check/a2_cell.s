@@ -1,0 +1,3 @@
+.function f,leaf,0,0,1
+.cell %o0,0,1
+nop

@@ -1,0 +1,1 @@
+.function f,leaf,0,0,-1

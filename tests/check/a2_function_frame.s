@@ -1,0 +1,1 @@
+.function f,framed,4097,96,1

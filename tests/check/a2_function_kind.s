@@ -1,0 +1,1 @@
+.function f,frame,0,0,1

@@ -1,0 +1,1 @@
+.function 5,leaf,0,0,1

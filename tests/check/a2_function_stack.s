@@ -1,0 +1,1 @@
+.function f,framed,96,65537,1

@@ -1,0 +1,3 @@
+nop
+.function f,leaf,0,0,1
+nop

@@ -1,0 +1,3 @@
+.region r
+.function f,leaf,0,0,1
+nop

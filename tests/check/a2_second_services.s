@@ -1,0 +1,4 @@
+.services exit
+.services put
+.function f,leaf,0,0,1
+nop

@@ -1,0 +1,3 @@
+.services
+.function f,leaf,0,0,1
+nop

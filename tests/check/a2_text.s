@@ -1,0 +1,3 @@
+.text 1
+.function f,leaf,0,0,1
+nop

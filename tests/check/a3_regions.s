@@ -1,0 +1,20 @@
+.function f,leaf,0,0,1
+nop
+.region ro
+.skip 8
+.region ro
+.skip 8
+.region ro
+.skip 8
+.region ro
+.skip 8
+.region ro
+.skip 8
+.region ro
+.skip 8
+.region ro
+.skip 8
+.region ro
+.skip 8
+.region ro
+.skip 8

@@ -1,0 +1,3 @@
+.block b
+.function f,leaf,0,0,1
+nop

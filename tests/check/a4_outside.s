@@ -1,0 +1,3 @@
+.fuel 1
+.function f,leaf,0,0,1
+nop

@@ -1,0 +1,2 @@
+.function f,leaf,0,0,1
+mov 1 %o0
