@@ -1,5 +1,5 @@
 -- What is told of known bytes.
-use Rattle.std.proofs.Common.{◌≡◌, refl, subst, ap, ℕ, List, [], ◌++◌, Option, None, Some, IfSome, Result, Ok, Err, OnOk, ◌∙◌}
+use Rattle.std.proofs.Common.{◌≡◌, refl, subst, ℕ, List, Option, None, Some, IfSome, Result, Ok, Err, OnOk, ◌∙◌}
 use Rattle.std.specs.Io.KnownBytes.{Appends}
 use Rattle.sbx_image.specs.Parts.{Parts}
 use Rattle.sbx_image.specs.Reading.{reading}
