@@ -1,0 +1,13 @@
+//! How a machine of one's own starts, as a file spells it: words in RAM, the state registers, and registers by window.
+#![tactic(auto)]
+
+mod fault;
+mod names;
+mod numbers;
+mod reader;
+mod start;
+
+pub use fault::{Cause, StartFault};
+pub use numbers::address;
+pub use reader::read_start;
+pub use start::{Control, Register, Start};
