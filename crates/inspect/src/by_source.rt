@@ -41,7 +41,7 @@ fn parted(alloc: Global, words: &[String]) -> Result<Split<'_>, AllocError> {
         } else if word.as_str() == "--source" && source.is_none() {
             is_next = true;
         } else {
-            rest.push(word.clone()?)?;
+            rest.push(String::from_str(alloc, word.as_str())?)?;
         }
     }
     if is_next {
