@@ -10,7 +10,8 @@
 //! bytes, the exit word in hexadecimal, the output's bytes, and three decimal counts. Bytes are hexadecimal, and `-` where there are
 //! none. A line that begins with `#` is a comment.
 //!
-//! A run is compared on a board of as many windows, on the fast flat machine, which counts for as many, and twice on the plain one.
+//! A run is compared on a board of as many windows, on the fast flat machine, which counts for as many, at once and byte by byte, and
+//! twice on the plain one.
 //!
 //! Then it does with each program of `examples` what the sandbox's commands do, and prints what they tell.
 #![tactic(auto)]
@@ -22,6 +23,7 @@ mod examples;
 mod faults;
 mod fields;
 mod flat;
+mod pieces;
 mod runs;
 mod verdicts;
 
