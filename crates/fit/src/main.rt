@@ -1,6 +1,7 @@
 //! The program `fit`: compiler-made SPARC assembly as an annotated source.
 #![tactic(auto)]
 
+mod annotate;
 mod words;
 
 use fit_gas::Source;
@@ -201,17 +202,28 @@ fn words_of(rt: &HostRuntime) -> io::Result<Vec<String>> {
     Ok(words)
 }
 
+/// The status of words that ask for nothing, which are told what they may be.
+fn usage(rt: &HostRuntime) -> u8 {
+    let _ = eprint!(rt; "{USAGE}");
+    3
+}
+
 /// Does what the words ask for, and gives the exit status.
 fn answer(rt: &HostRuntime, words: &[String]) -> Result<u8, Stop> {
+    if let Some((first, others)) = words.split_first()
+        && first.as_str() == "annotate"
+    {
+        return match annotate::job_of(others) {
+            Some(job) => annotate::perform(rt, job),
+            None => Ok(usage(rt)),
+        };
+    }
     match read_words(rt.alloc(), words) {
         Ok(Some(job)) => {
             perform(rt, &job)?;
             Ok(0)
         }
-        Ok(None) => {
-            let _ = eprint!(rt; "{USAGE}");
-            Ok(3)
-        }
+        Ok(None) => Ok(usage(rt)),
         Err(_) => Err(Stop::Memory),
     }
 }

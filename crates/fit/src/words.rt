@@ -10,6 +10,7 @@ const MOST: u64 = 1_000_000_000_000;
 
 /// What is told of words that ask for nothing, and of `--help`.
 pub const USAGE: &str = "Usage: fit SRC.s.. -o OUT.s [--turns N] [--strict] [--region]
+       fit annotate SRC.s [-o OUT.s] [--strict]
 
 Turns compiler-made SPARC assembly, the files as one program, into an annotated source
 that `sandbox asm` and `sandbox verify` accept. What isn't shown is tested at run time.
@@ -20,8 +21,13 @@ that `sandbox asm` and `sandbox verify` accept. What isn't shown is tested at ru
   --strict     where a test would be added, no source is made
   --region     an access has to lie in the data, and not in the object that it names
 
-Status 0: made. 1: a test would be added, and --strict says no. 2: refused, with a line and
-a reason. 3: other words. 4: a file can't be read or written. 5: memory.
+fit annotate takes a source in the project's own language, and gives it the annotations that it
+hasn't got: cells, fuel, params, results, and a number for each 0 that stands for a function's
+stack or budget. Nothing else changes. What isn't shown is noted, with its line and what to write;
+with --strict no source is made then. Without -o it goes to standard output.
+
+Status 0: made. 1: a test would be added, or something isn't shown, and --strict says no.
+2: refused, with a line and a reason. 3: other words. 4: a file can't be read or written. 5: memory.
 ";
 
 /// What is to be done.
@@ -61,7 +67,7 @@ fn number_of(word: &str) -> Option<u64> {
 }
 
 /// Whether a word begins as an option does.
-fn is_option(word: &str) -> bool {
+pub fn is_option(word: &str) -> bool {
     matches!(word.as_bytes(), [b'-', ..])
 }
 

@@ -1,0 +1,136 @@
+//! A source with all annotations that can be found.
+ghost use Rattle.std.specs.Prelude.{◌≡◌, IfOk, IsOk};
+ghost use Rattle.sbx_asm.specs.Items.{lines_of};
+ghost use Rattle.sbx_asm.specs.Images.{source_image};
+ghost use Rattle.fit_insert.specs.Lines.{IsAnnotated, without};
+
+use crate::additions::additions_of;
+use crate::declared::{Declared, Looking, declared_by};
+use crate::notes::{Asked, Note};
+use fit_code::{Fault, NO_LINE, Reason};
+use fit_insert::insert;
+use fit_source::{lines_of, program_of};
+use sbx_asm::{AsmFault, assemble};
+use std::alloc::{AllocError, Global};
+
+/// Why there is no annotated source.
+#[derive(Drop)]
+pub enum Refusal {
+    /// The assembler refuses the source.
+    Source(AsmFault),
+    /// A word has no place in a program, or memory was refused.
+    Program(Fault),
+    /// With its annotations the assembler would refuse it, at a line of what would be made.
+    Made(AsmFault),
+}
+
+impl From<AllocError> for Refusal {
+    fn from(error: AllocError) -> Refusal {
+        Refusal::Program(Fault::from(error))
+    }
+}
+
+impl From<Fault> for Refusal {
+    fn from(fault: Fault) -> Refusal {
+        Refusal::Program(fault)
+    }
+}
+
+impl From<AsmFault> for Refusal {
+    fn from(fault: AsmFault) -> Refusal {
+        Refusal::Source(fault)
+    }
+}
+
+/// A source with its annotations, and notes of what isn't shown.
+#[derive(Drop)]
+pub struct Annotated {
+    pub text: Vec<u8>,
+    pub notes: Vec<Note>,
+}
+
+/// How many pages of stack hold so many bytes and the first frame's save area.
+fn pages_for(room: u64) -> u64 {
+    room.saturating_add(64 + 4095) / 4096
+}
+
+/// The notes of what isn't shown, by line, with one where the stack has fewer pages than the first function asks for.
+fn notes_of(looking: &Looking<'_>, declared: Declared) -> Result<Vec<Note>, AllocError> {
+    let Declared {
+        functions,
+        mut notes,
+        ..
+    } = declared;
+    if let Some(Some(first)) = functions.first() {
+        let pages = pages_for(first.room);
+        if pages > u64::from(looking.image.stack_pages()) {
+            notes.push(Note {
+                line: looking.line_of(0, 0),
+                asked: Asked::More {
+                    what: "the number of `.stack`",
+                    least: pages,
+                },
+            })?;
+        }
+    }
+    notes.as_mut_slice().sort_unstable_by_key(|note| note.line);
+    Ok(notes)
+}
+
+/// What an inserted line that is no annotation is told as; it can't be.
+fn misplaced() -> Refusal {
+    Refusal::Program(Fault::new(
+        NO_LINE,
+        Reason::Unreadable("an annotation has no place in the source"),
+    ))
+}
+
+/// A text that the assembler takes.
+fn taken(alloc: Global, text: Vec<u8>) -> Result<Vec<u8>, Refusal>
+    ensures same { IfOk result (λ taken. taken.items ≡ text.items) }
+    ensures means { IfOk result (λ taken. IsOk (source_image taken.items)) }
+{
+    match assemble(alloc, text.as_slice()) {
+        Ok(_image) => Ok(text),
+        Err(fault) => Err(Refusal::Made(fault)),
+    }
+}
+
+/// A source with all annotations that can be found: cells, fuel, params, results, where the source tells depths depths, and for each 0
+/// that stands for a function's stack room or budget its number. What it says already stays, and is taken for granted. Of a function
+/// of which a block's fuel is said no other block's is found. What isn't shown is noted, by line, and the verifier would refuse it there.
+/// What is made means an image, and without its annotations it is the source without its own.
+///
+/// # Errors
+/// `Source` as the assembler refuses the source. `Program` where a word has no place in a program, with its line, and where more is known
+/// of a block than an image may say. `Made` where the annotations pass another limit of the language. Asked of memory in each.
+pub fn annotate(alloc: Global, file: &str, source: &[u8]) -> Result<Annotated, Refusal>
+    ensures stays { IfOk result (λ made. IsAnnotated (lines_of source.now) (lines_of made.text.items)) }
+    ensures without { IfOk result (λ made. without (lines_of made.text.items) ≡ without (lines_of source.now)) }
+    ensures means { IfOk result (λ made. IsOk (source_image made.text.items)) }
+{
+    let image = assemble(alloc, source)?;
+    let lines = lines_of(alloc, source)?;
+    let read = program_of(alloc, file, &image, &lines)?;
+    let looking = Looking {
+        alloc,
+        image: &image,
+        heads: lines.heads.as_slice(),
+    };
+    let declared = declared_by(&looking, read)?;
+    let added = additions_of(alloc, &looking, &declared)?;
+    let notes = notes_of(&looking, declared)?;
+    let inserted = insert(
+        alloc,
+        source,
+        added.additions.as_slice(),
+        added.totals.as_slice(),
+    )?;
+    match inserted {
+        Some(text) => Ok(Annotated {
+            text: taken(alloc, text)?,
+            notes,
+        }),
+        None => Err(misplaced()),
+    }
+}
