@@ -41,7 +41,7 @@ fn parted(alloc: Global, words: &[String]) -> Result<Split<'_>, AllocError> {
         } else if word.as_str() == "--source" && source.is_none() {
             is_next = true;
         } else {
-            rest.push(word.clone()?)?;
+            rest.push(String::from_str(alloc, word.as_str())?)?;
         }
     }
     if is_next {
@@ -82,7 +82,7 @@ fn has_names(job: &Job<'_>) -> bool {
     match *job {
         Job::Image { form, .. } | Job::Why { form, .. } => form == Form::Text,
         Job::Trace { .. } => true,
-        Job::Run { .. } => false,
+        Job::Run { .. } | Job::States { .. } | Job::Machine { .. } => false,
     }
 }
 
