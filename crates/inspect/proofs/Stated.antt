@@ -4,6 +4,9 @@ use Rattle.sbx_image.specs.Parts.{Parts}
 use Rattle.sbx_image.specs.Reading.{reading}
 use Rattle.sbx_raw.specs.Fronts.{Wrote}
 use Rattle.sbx_image_states.specs.Told.{IsStated}
+use Rattle.sbx_start.specs.Starts.{IsFit}
+use Rattle.sbx_start.specs.declared.start.Start.{Start}
+use Rattle.sbx_machine.specs.Told.{IsTold}
 use Rattle.inspect.specs.States.{StatesOf}
 
 -- where they were told, of the file's image
@@ -19,3 +22,9 @@ stated_if windows limit file input old new parts (Err e) read told = told
 pub stated_on : (count windows limit : ℕ) (parts : Parts) (input : List ℕ) (old new : Option (List ℕ)) → count ≡ windows
     → Wrote old new (IsStated count parts input limit) → Wrote old new (IsStated windows parts input limit)
 stated_on count windows limit parts input old new many wrote = subst (λ (n : ℕ). Wrote old new (IsStated n parts input limit)) many wrote
+
+-- what is told of a machine on a count of windows is that on as many windows
+pub own_on : (count windows limit : ℕ) (start : Start) (old new : Option (List ℕ)) → count ≡ windows → IsFit count start
+    → Wrote old new (IsTold count start limit) → (s : Start) × IsFit windows s × Wrote old new (IsTold windows s limit)
+own_on count windows limit start old new many fit wrote =
+    (start, subst (λ (n : ℕ). IsFit n start) many fit, subst (λ (n : ℕ). Wrote old new (IsTold n start limit)) many wrote)

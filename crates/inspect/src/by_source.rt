@@ -82,7 +82,7 @@ fn has_names(job: &Job<'_>) -> bool {
     match *job {
         Job::Image { form, .. } | Job::Why { form, .. } => form == Form::Text,
         Job::Trace { .. } => true,
-        Job::Run { .. } => false,
+        Job::Run { .. } | Job::States { .. } | Job::Machine { .. } => false,
     }
 }
 

@@ -1,13 +1,14 @@
 //! Why nothing is told, and how that is told.
 use sbx_command::Stop;
 use sbx_files::FileFault;
+use sbx_start::{Cause, StartFault};
 use std::io::Write;
 
 /// The status where a file or a stream fails.
 const FILE: u8 = 4;
 
-/// The status where a source, or a map, is no image's or another one's.
-const NO_IMAGE: u8 = 2;
+/// The status where a source or a map is no image's or another one's, or a machine's file doesn't say what it has to.
+const BYTES: u8 = 2;
 
 /// Why nothing is told.
 #[derive(Clone, Copy)]
@@ -22,6 +23,8 @@ pub enum Fault<'a> {
     Broken(&'a str, usize),
     /// There is something wrong with the input.
     Input(FileFault),
+    /// There is something wrong with a line of the file at the second path, or with the binary at the first.
+    Start(&'a str, &'a str, StartFault),
 }
 
 impl Fault<'_> {
@@ -35,16 +38,31 @@ impl Fault<'_> {
             }
             Fault::Foreign(path) => {
                 let _ = eprintln!(rt; "inspect: {path}: the source is another image's");
-                NO_IMAGE
+                BYTES
             }
             Fault::Broken(path, line) => {
                 let _ = eprintln!(rt; "inspect: {path}: line {line} is none of a map");
-                NO_IMAGE
+                BYTES
             }
+            Fault::Start(binary, file, fault) => report_start(rt, binary, file, fault),
             Fault::Input(fault) => {
                 let _ = eprintln!(rt; "inspect: input: {fault}");
                 FILE
             }
         }
     }
+}
+
+/// Tells what is wrong with the start of a machine, and gives the exit status.
+fn report_start(rt: &HostRuntime, binary: &str, file: &str, fault: StartFault) -> u8 {
+    let StartFault { line, cause } = fault;
+    if let Cause::Memory(want) = cause {
+        return Stop::Memory(want).report(&mut rt.stderr()).status;
+    }
+    let _ = if line == 0 {
+        eprintln!(rt; "inspect: {binary}: {cause}")
+    } else {
+        eprintln!(rt; "inspect: {file}: line {line}: {cause}")
+    };
+    BYTES
 }

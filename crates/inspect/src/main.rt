@@ -4,6 +4,7 @@
 mod by_source;
 mod commands;
 mod faults;
+mod machine;
 mod naming;
 mod progress;
 mod reports;
@@ -13,6 +14,7 @@ mod words;
 
 use commands::{MOST, explain_image, run_image, show_image, trace_image};
 use faults::Fault;
+use machine::run_machine;
 use progress::Lines;
 use sbx_command::{Full, Stop};
 use sbx_files::{Counted, FileFault, hold_streams, open_file};
@@ -66,6 +68,8 @@ fn tell<F: Read, I: Read, O: Write, P: Progress>(
             explain_image(alloc, form, file, out)?;
             Ok(())
         }
+        // (a machine is told by its own way, from its own files)
+        Job::Machine { .. } => Ok(()),
     }
 }
 
@@ -96,20 +100,24 @@ fn perform_on<'a>(
     }
 }
 
-/// The path of a job's image file.
+/// The path of a job's file.
 fn path_of<'a>(job: &Job<'a>) -> &'a str {
-    let (Job::Image { image, .. }
-    | Job::Run { image, .. }
-    | Job::Trace { image, .. }
-    | Job::States { image, .. }
-    | Job::Why { image, .. }) = *job;
-    image
+    let (Job::Image { image: path, .. }
+    | Job::Run { image: path, .. }
+    | Job::Trace { image: path, .. }
+    | Job::States { image: path, .. }
+    | Job::Machine { file: path, .. }
+    | Job::Why { image: path, .. }) = *job;
+    path
 }
 
 /// Does a job, and tells on standard output.
 fn perform<'a>(rt: &HostRuntime, job: &Job<'a>) -> Result<(), Fault<'a>> {
-    let image = path_of(job);
-    perform_on(rt, job, image, opened(rt, image)?)
+    let path = path_of(job);
+    match job {
+        Job::Machine { setting, .. } => run_machine(rt, path, setting),
+        _ => perform_on(rt, job, path, opened(rt, path)?),
+    }
 }
 
 /// The words after the program's name.

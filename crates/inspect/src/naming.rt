@@ -104,7 +104,10 @@ fn tell_named<I: Read, O: Write, P: Progress>(
             trace(alloc, names, windows, limit, &image, input, out, progress)
         }
         Job::Why { .. } => explain(alloc, names, image, out),
-        Job::Image { .. } | Job::Run { .. } => show(alloc, names, &image, out),
+        // (the other jobs aren't told by names, and don't come here)
+        Job::Image { .. } | Job::Run { .. } | Job::States { .. } | Job::Machine { .. } => {
+            show(alloc, names, &image, out)
+        }
     }
 }
 

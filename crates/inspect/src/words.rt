@@ -2,7 +2,9 @@
 ghost use Rattle.std.specs.Prelude.{IfSome};
 ghost use Rattle.inspect.specs.Jobs.{IsInRange};
 
+use crate::machine::Setting;
 use sbx_command::{Windows, turns, window_count};
+use sbx_start::address;
 use std::convert::AsStr;
 
 /// What is told is for people, or for programs.
@@ -41,6 +43,11 @@ pub enum Job<'a> {
         windows: Windows,
         limit: u64,
     },
+    /// The states of a machine of one's own, which the lines of a file set.
+    Machine {
+        file: &'a str,
+        setting: Setting<'a>,
+    },
     /// Why it is refused.
     Why {
         image: &'a str,
@@ -59,14 +66,17 @@ pub const USAGE: &str =
                and what it changed
   states IMG   runs any image on standard input and tells the processor's state a turn, for
                programs: registers, word, event, and what changed
+  machine FILE runs words in RAM from any state, as FILE says, with no board, and tells its
+               states, and the words of RAM that changed
   why IMG      tells why an image is refused: the rule, the word, and what is known there
   check SRC    tells what is wrong with a source: each line's first fault, or the rule that
                its image breaks, at the line
   map SRC      tells where the lines and the labels of a source stand in its image
   --version    of the script ./inspect: the version, the commit of the sources, and the kit
 
-run, trace, states: --windows N is the count of register windows, 4 to 32 (8);
-                    --limit T the most turns, 0 to 9999999999 (100000).
+run, trace, states, machine: --windows N is the count of register windows, 4 to 32 (8);
+                             --limit T the most turns, 0 to 9999999999 (100000).
+machine: --binary BIN puts the bytes of BIN into RAM, from --at ADDRESS on (0).
 image, run, why, check: --json tells all of it in one line, a JSON object.
 image, trace, why: --source SRC tells it by the names and the lines of its source, or of the
                    map that `inspect map` made of it.
@@ -79,12 +89,17 @@ const WINDOWS: &str = "--windows wants a decimal number from 4 to 32";
 /// What the limit of turns is.
 const LIMIT: &str = "--limit wants a decimal number from 0 to 9999999999";
 
+/// What the address of a binary is.
+const AT: &str = "--at wants an address, as 0x4000";
+
 /// What the words after the command give, each at most once.
 #[derive(Clone, Copy)]
 struct Options<'a> {
     image: Option<&'a str>,
     windows: Option<&'a str>,
     limit: Option<&'a str>,
+    binary: Option<&'a str>,
+    at: Option<&'a str>,
     form: Form,
 }
 
@@ -97,6 +112,10 @@ enum Next {
     Windows,
     /// A limit of turns.
     Limit,
+    /// The path of a binary.
+    Binary,
+    /// An address.
+    At,
 }
 
 /// Puts a word where none is yet.
@@ -125,9 +144,13 @@ impl<'a> Options<'a> {
         match next {
             Next::Windows => put(&mut self.windows, word),
             Next::Limit => put(&mut self.limit, word),
+            Next::Binary => put(&mut self.binary, word),
+            Next::At => put(&mut self.at, word),
             Next::Any => match word {
                 "--windows" => Some(Next::Windows),
                 "--limit" => Some(Next::Limit),
+                "--binary" => Some(Next::Binary),
+                "--at" => Some(Next::At),
                 "--json" => self.take_json(),
                 path => put(&mut self.image, path),
             },
@@ -141,6 +164,8 @@ fn options_of<S: AsStr>(words: &[S]) -> Option<Options<'_>> {
         image: None,
         windows: None,
         limit: None,
+        binary: None,
+        at: None,
         form: Form::Text,
     };
     let mut next = Next::Any;
@@ -149,7 +174,7 @@ fn options_of<S: AsStr>(words: &[S]) -> Option<Options<'_>> {
     }
     match next {
         Next::Any => Some(options),
-        Next::Windows | Next::Limit => None,
+        Next::Windows | Next::Limit | Next::Binary | Next::At => None,
     }
 }
 
@@ -180,10 +205,45 @@ fn numbered<'a>(command: &str, image: &'a str, options: &Options<'a>) -> Option<
     }
 }
 
+/// The address that a text gives; 0 without a text.
+fn place(text: Option<&str>) -> Option<u64> {
+    match text {
+        Some(text) => address(text),
+        None => Some(0),
+    }
+}
+
+/// The job of a machine of one's own. An address is that of a binary.
+fn machine_job<'a>(file: &'a str, options: &Options<'a>) -> Option<Job<'a>>
+    ensures { IfSome result IsInRange }
+{
+    let windows = window_count(options.windows)?;
+    let limit = turns(options.limit)?;
+    let at = place(options.at)?;
+    match (options.form, options.binary, options.at) {
+        (Form::Json, _, _) | (Form::Text, None, Some(_)) => None,
+        (Form::Text, binary, _) => Some(Job::Machine {
+            file,
+            setting: Setting {
+                windows,
+                limit,
+                binary,
+                at,
+            },
+        }),
+    }
+}
+
 /// The job of a command with its options.
 fn job_of<'a>(command: &str, image: &'a str, options: &Options<'a>) -> Option<Job<'a>>
     ensures { IfSome result IsInRange }
 {
+    if command == "machine" {
+        return machine_job(image, options);
+    }
+    if options.binary.is_some() || options.at.is_some() {
+        return None;
+    }
     let form = options.form;
     match (command, options.windows, options.limit) {
         ("image", None, None) => Some(Job::Image { image, form }),
@@ -209,12 +269,14 @@ pub fn number_wanted<S: AsStr>(words: &[S]) -> Option<&'static str> {
         match before {
             "--windows" if window_count(Some(word)).is_none() => return Some(WINDOWS),
             "--limit" if turns(Some(word)).is_none() => return Some(LIMIT),
+            "--at" if address(word).is_none() => return Some(AT),
             _ => before = word,
         }
     }
     match before {
         "--windows" => Some(WINDOWS),
         "--limit" => Some(LIMIT),
+        "--at" => Some(AT),
         _ => None,
     }
 }

@@ -1,0 +1,104 @@
+//! A machine of one's own that a file sets.
+ghost use Rattle.std.specs.Prelude.{◌≤◌, OnOk};
+ghost use Rattle.sbx_raw.specs.Fronts.{Wrote};
+ghost use Rattle.sbx_start.specs.Starts.{IsFit};
+ghost use Rattle.sbx_start.specs.declared.start.Start.{Start};
+ghost use Rattle.sbx_machine.specs.Told.{IsTold};
+
+use crate::commands::MOST;
+use crate::faults::Fault;
+use crate::opened;
+use sbx_command::{ReadFault, Stop, Windows, read_whole};
+use sbx_files::FileFault;
+use sbx_machine::machine_windows;
+use sbx_start::{StartFault, read_start};
+use std::alloc::Global;
+use std::io::{BufWriter, Write};
+
+/// Why nothing is told of a machine, or not all of it.
+#[derive(Clone, Copy)]
+pub enum MachineFault {
+    /// The job has stopped.
+    Stop(Stop),
+    /// There is something wrong with its start.
+    Start(StartFault),
+}
+
+/// What a machine is made of, beside the lines of its file: its windows, the most turns, and a binary from an address on.
+#[derive(Clone, Copy)]
+pub struct Setting<'a> {
+    pub windows: Windows,
+    pub limit: u64,
+    pub binary: Option<&'a str>,
+    pub at: u64,
+}
+
+/// Runs a machine from the start that the bytes of a binary and of a file say, and tells its states, and the words of RAM that it changed.
+pub fn tell_machine<O: Write>(
+    alloc: Global,
+    setting: &Setting<'_>,
+    binary: &[u8],
+    file: &[u8],
+    out: &mut O,
+) -> Result<(), MachineFault>
+    ensures { OnOk result ((start : Start) × IsFit setting.now.windows start
+        × Wrote (O.contents out.old) (O.contents out.new) (IsTold setting.now.windows start setting.now.limit)) }
+{
+    let windows = setting.windows.count();
+    let start = match read_start(alloc, windows, setting.at, binary, file) {
+        Ok(start) => start,
+        Err(fault) => return Err(MachineFault::Start(fault)),
+    };
+    match machine_windows(alloc, windows, &start, setting.limit, out) {
+        Ok(()) => Ok(()),
+        Err(fault) => Err(MachineFault::Stop(Stop::from(fault))),
+    }
+}
+
+/// All bytes of the file at a path.
+fn bytes_of<'a>(rt: &HostRuntime, path: &'a str) -> Result<Vec<u8>, Fault<'a>> {
+    let mut file = opened(rt, path)?;
+    match read_whole(rt.alloc(), &mut file, MOST) {
+        Ok(bytes) => Ok(bytes),
+        Err(ReadFault::Memory(want)) => Err(Fault::Stop(Stop::Memory(want))),
+        Err(ReadFault::TooLong) => Err(Fault::File(path, FileFault::TooLong)),
+        Err(ReadFault::Reader) => Err(Fault::File(path, FileFault::Failing)),
+    }
+}
+
+/// The bytes of a setting's binary, none where there is none.
+fn binary_of<'a>(rt: &HostRuntime, setting: &Setting<'a>) -> Result<Vec<u8>, Fault<'a>> {
+    match setting.binary {
+        Some(path) => bytes_of(rt, path),
+        None => Ok(Vec::new(rt.alloc())),
+    }
+}
+
+/// Runs the machine of the file at a path, and tells it on standard output.
+pub fn run_machine<'a>(
+    rt: &HostRuntime,
+    path: &'a str,
+    setting: &Setting<'a>,
+) -> Result<(), Fault<'a>> {
+    let binary = binary_of(rt, setting)?;
+    let file = bytes_of(rt, path)?;
+    let mut out = match BufWriter::new(rt.alloc(), rt.stdout()) {
+        Ok(out) => out,
+        Err(error) => return Err(Fault::Stop(Stop::of(&error, Stop::Output))),
+    };
+    match tell_machine(
+        rt.alloc(),
+        setting,
+        binary.as_slice(),
+        file.as_slice(),
+        &mut out,
+    ) {
+        Ok(()) => Ok(()),
+        Err(MachineFault::Stop(stop)) => Err(Fault::Stop(stop)),
+        Err(MachineFault::Start(fault)) => Err(Fault::Start(
+            setting.binary.unwrap_or(path),
+            path,
+            fault,
+        )),
+    }
+}
