@@ -16,18 +16,22 @@ pub flow_at : (n windows : ℕ) (parts : Parts) (a b c d : Option (List ℕ)) (r
 flow_at n windows parts a b c d (Ok flowed) same whole part = subst (λ (w : ℕ). Streamed a b c d (IsFlowed parts w flowed)) same whole
 flow_at n windows parts a b c d (Err fault) same whole part = part
 
-pub engine_told : (engine : Bool) (windows : ℕ) (parts : Parts) (a b c d : Option (List ℕ)) (flowed : Flowed) (told : Told) → engine ≡ true → told ≡ told_of_flow flowed → EngineGives windows parts a b c d (Ok flowed) → RunsSo engine windows parts a b c d (Ok told)
+pub engine_told : (engine : Bool) (windows : ℕ) (parts : Parts) (a b c d : Option (List ℕ)) (flowed : Flowed) (told : Told)
+    → engine ≡ true → told ≡ told_of_flow flowed → EngineGives windows parts a b c d (Ok flowed) → RunsSo engine windows parts a b c d (Ok told)
 engine_told true windows parts a b c d flowed told is same gives = (flowed, same, gives)
 engine_told false windows parts a b c d flowed told is same gives = absurd (cc)
 
-pub engine_failed : (engine : Bool) (windows : ℕ) (parts : Parts) (a b c d : Option (List ℕ)) (fault : RunFault) → engine ≡ true → EngineGives windows parts a b c d (Err fault) → RunsSo engine windows parts a b c d (Err fault)
+pub engine_failed : (engine : Bool) (windows : ℕ) (parts : Parts) (a b c d : Option (List ℕ)) (fault : RunFault)
+    → engine ≡ true → EngineGives windows parts a b c d (Err fault) → RunsSo engine windows parts a b c d (Err fault)
 engine_failed true windows parts a b c d fault is gives = gives
 engine_failed false windows parts a b c d fault is gives = absurd (cc)
 
-pub board_told : (engine : Bool) (windows : ℕ) (parts : Parts) (a b c d : Option (List ℕ)) (finished : Finished) (told : Told) → engine ≡ false → told ≡ told_of finished → RunGives windows parts a b c d (Ok finished) → RunsSo engine windows parts a b c d (Ok told)
+pub board_told : (engine : Bool) (windows : ℕ) (parts : Parts) (a b c d : Option (List ℕ)) (finished : Finished) (told : Told)
+    → engine ≡ false → told ≡ told_of finished → RunGives windows parts a b c d (Ok finished) → RunsSo engine windows parts a b c d (Ok told)
 board_told false windows parts a b c d finished told is same gives = (finished, same, gives)
 board_told true windows parts a b c d finished told is same gives = absurd (cc)
 
-pub board_failed : (engine : Bool) (windows : ℕ) (parts : Parts) (a b c d : Option (List ℕ)) (fault : RunFault) → engine ≡ false → RunGives windows parts a b c d (Err fault) → RunsSo engine windows parts a b c d (Err fault)
+pub board_failed : (engine : Bool) (windows : ℕ) (parts : Parts) (a b c d : Option (List ℕ)) (fault : RunFault)
+    → engine ≡ false → RunGives windows parts a b c d (Err fault) → RunsSo engine windows parts a b c d (Err fault)
 board_failed false windows parts a b c d fault is gives = gives
 board_failed true windows parts a b c d fault is gives = absurd (cc)

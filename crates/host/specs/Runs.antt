@@ -24,7 +24,9 @@ EngineGives windows parts reader reader_now writer writer_now (Err fault) = Stre
 
 -- what is told is what one of the two gave
 abbrev pub RunsSo : Bool → ℕ → Parts → Option (List ℕ) → Option (List ℕ) → Option (List ℕ) → Option (List ℕ) → Result Told RunFault → Type 0
-RunsSo true windows parts reader reader_now writer writer_now (Ok told) = (flowed : Flowed) × (told ≡ told_of_flow flowed) × EngineGives windows parts reader reader_now writer writer_now (Ok flowed)
+RunsSo true windows parts reader reader_now writer writer_now (Ok told) =
+    (flowed : Flowed) × (told ≡ told_of_flow flowed) × EngineGives windows parts reader reader_now writer writer_now (Ok flowed)
 RunsSo true windows parts reader reader_now writer writer_now (Err fault) = EngineGives windows parts reader reader_now writer writer_now (Err fault)
-RunsSo false windows parts reader reader_now writer writer_now (Ok told) = (finished : Finished) × (told ≡ told_of finished) × RunGives windows parts reader reader_now writer writer_now (Ok finished)
+RunsSo false windows parts reader reader_now writer writer_now (Ok told) =
+    (finished : Finished) × (told ≡ told_of finished) × RunGives windows parts reader reader_now writer writer_now (Ok finished)
 RunsSo false windows parts reader reader_now writer writer_now (Err fault) = RunGives windows parts reader reader_now writer writer_now (Err fault)
