@@ -42,6 +42,16 @@ impl Tally {
         }
     }
 
+    /// Counts a turn.
+    #[inline(always)]
+    pub fn count_one(&mut self)
+        requires { self.old.traffic.turns < 2 ^ 62 }
+        ensures windows { self.new.windows ≡ self.old.windows }
+        ensures turns { self.new.traffic ≡ record self.old.traffic { turns = self.old.traffic.turns + 1 } }
+    {
+        self.traffic.turns += 1;
+    }
+
     /// The counts behind the next step, of a decoded word or of none; None where they would have more turns than the limit.
     #[inline(always)]
     pub fn after(self, next: Option<&Decoded>, limit: u64) -> Option<Tally>
