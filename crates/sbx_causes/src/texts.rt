@@ -34,6 +34,7 @@ fn fault_place(alloc: Global, line: &[u8]) -> Result<usize, AllocError> {
 fn character_reason(line: &[u8], at: usize) -> TextReason {
     match line.get(at).copied() {
         Some(b'%') => TextReason::BarePercent,
+        Some(b'\'' | b'"') => TextReason::Quote,
         _ => TextReason::NoToken,
     }
 }

@@ -1,3 +1,4 @@
 pub mod Texts
 pub mod Values
 pub mod Refusals
+pub mod Mends

@@ -4,6 +4,7 @@ ghost use Rattle.sbx_inspect.specs.Sights.{IsSeen};
 ghost use Rattle.sbx_known.specs.Courses.{AreWell, IsWell};
 ghost use Rattle.sbx_known.specs.Spots.{IsSpot};
 
+use crate::mends::push_mend;
 use crate::values::Known;
 use sbx_declare::{Bounds, Location};
 use sbx_domain::State;
@@ -21,34 +22,40 @@ fn mark(known: Option<Range>, declared: Range) -> &'static str {
     }
 }
 
-/// A location that a declaration names, beside what is known of it; an arrow marks one that isn't within.
+/// A location that a declaration names, beside what is known of it; an arrow marks one that isn't within, and below
+/// stands what mends it. `is_back` says whether the way there leads to its own block or an earlier one.
 fn push_declared(
     out: &mut String,
     location: u16,
     declared: Range,
-    known: Option<Range>,
+    state: &State,
+    is_back: bool,
 ) -> Result<(), AllocError> {
+    let known = state.range(location);
     let mark = mark(known, declared);
-    let (location, bounds, known) = (Location(location), Bounds(declared), Known(known));
+    let (name, bounds, known) = (Location(location), Bounds(declared), Known(known));
     writeln!(
         out,
-        "  {location} is declared as {bounds}, and is {known}{mark}"
-    )
+        "  {name} is declared as {bounds}, and is {known}{mark}"
+    )?;
+    push_mend(out, location, declared, state, is_back)
 }
 
-/// The cells of the block at an address, if it has any.
+/// The cells of the block at an address, if it has any. `is_back` says whether the way there leads to its own block or
+/// an earlier one.
 fn push_cells(
     out: &mut String,
     address: u32,
     cells: &[Cell],
     state: &State,
+    is_back: bool,
 ) -> Result<(), AllocError> {
     if cells.is_empty() {
         return Ok(());
     }
     writeln!(out, "\nafter it, where the block at {address:08X} begins:")?;
     for cell in cells {
-        push_declared(out, cell.location, cell.range, state.range(cell.location))?;
+        push_declared(out, cell.location, cell.range, state, is_back)?;
     }
     Ok(())
 }
@@ -66,7 +73,7 @@ fn push_outs(
     writeln!(out, "\nafter it, {heading}:")?;
     let mut location = 8u16;
     for range in ranges {
-        push_declared(out, location, *range, state.range(location))?;
+        push_declared(out, location, *range, state, false)?;
         location = location.wrapping_add(1);
     }
     Ok(())
@@ -76,19 +83,26 @@ fn push_outs(
 fn push_begins(
     out: &mut String,
     image: &Image,
-    function: usize,
+    spot: &Spot,
     block: usize,
     after: &State,
 ) -> Result<(), AllocError>
-    requires function { function < length image.now.functions }
-    requires well { IsWell image.now function (Going.To block) }
+    requires spot { IsSpot image.now spot.now }
+    requires well { IsWell image.now spot.now.function (Going.To block) }
 {
     if block == 0 {
-        let params = function_at(image, function).params.as_slice();
+        let params = function_at(image, spot.function).params.as_slice();
         return push_outs(out, "where the function begins", params, after);
     }
-    let declared = block_at(image, function, block);
-    push_cells(out, declared.address, declared.cells.as_slice(), after)
+    let declared = block_at(image, spot.function, block);
+    let is_back = block <= spot.block;
+    push_cells(
+        out,
+        declared.address,
+        declared.cells.as_slice(),
+        after,
+        is_back,
+    )
 }
 
 /// What a way leads to, beside what is known after the word: what another block begins with, or back in the caller the function's
@@ -107,7 +121,7 @@ fn push_way(
         return Ok(());
     };
     match course.going {
-        Going::To(block) => push_begins(out, image, spot.function, block, after),
+        Going::To(block) => push_begins(out, image, spot, block, after),
         Going::Back => {
             let results = function_at(image, spot.function).results.as_slice();
             push_outs(out, "back in the caller", results, after)

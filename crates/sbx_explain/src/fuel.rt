@@ -107,7 +107,8 @@ fn push_budget(
 
 /// What is said where a way lacks fuel that leads to its own block or an earlier one.
 const LOOP: &str =
-    "  this way closes a loop: fuel has to fall from round to round, by a term that counts the rounds\n";
+    "  this way closes a loop: fuel has to fall by a round's turns, by a term that counts the rounds,\n  \
+     whose number is below 0 where they are counted upwards\n";
 
 fn closes_loop(spot: &Spot, going: Going) -> bool {
     matches!(going, Going::To(block) if block <= spot.block)

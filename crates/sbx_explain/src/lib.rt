@@ -5,6 +5,7 @@ mod arrivals;
 mod depths;
 mod folded;
 mod fuel;
+mod mends;
 mod room;
 mod rules;
 mod sides;

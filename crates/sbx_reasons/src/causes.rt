@@ -5,6 +5,7 @@ use crate::accesses::{Asked, push_access};
 use crate::registers::push_reserved;
 use crate::services::push_service;
 use crate::shapes::push_shape;
+use crate::tagged::push_tagged;
 use crate::targets::push_target;
 use crate::undefined::push_undefined;
 use crate::unwritable::push_strange_cells;
@@ -19,12 +20,10 @@ fn mending(cause: Cause) -> &'static str {
     match cause {
         Cause::ZeroDivisor =>
             "a division by 0 traps: compare the divisor with 0, and divide in a block where it isn't 0\n",
-        Cause::TagOverflow =>
-            "the operands have to be multiples of 4, and the result a word: narrower cells, or no trapping form\n",
         Cause::RunsPastEnd =>
             "behind it stands no word of the function: end that with `ta 0`, a return or a branch\n",
         Cause::BadEntry =>
-            "a run begins in function 0, which nobody calls: it has no parameters, and ends with `ta 0`\n",
+            "a run begins in the first function, which has no parameters, and ends with `ta 0`\n",
         Cause::UnkeptResults =>
             "the caller takes the results for granted: a wider `.result`, or a value within\n",
         _ => "",
@@ -53,6 +52,7 @@ pub fn push_reason(
         Cause::ReservedRegister => push_reserved(out, image, spot),
         Cause::Misaligned => push_access(out, image, sight, Asked::Alignment),
         Cause::OutOfBounds => push_access(out, image, sight, Asked::Place),
+        Cause::TagOverflow => push_tagged(out, sight),
         Cause::UndeclaredService => push_service(out, image.services(), spot),
         Cause::UnkeptCells => push_strange_cells(out, image, spot),
         _ => out.push_str(mending(cause)),

@@ -7,6 +7,7 @@ mod reads;
 mod registers;
 mod services;
 mod shapes;
+mod tagged;
 mod targets;
 mod undefined;
 mod unwritable;

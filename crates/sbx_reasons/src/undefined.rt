@@ -1,5 +1,6 @@
 //! What a word reads that may hold anything, and what left it so.
-ghost use Rattle.std.specs.Prelude.{◌<◌};
+ghost use Rattle.std.specs.Prelude.{◌≡◌, ◌<◌};
+ghost use Rattle.sbx_rules.specs.Places.{callee_of, find_entry};
 ghost use Rattle.sbx_inspect.specs.Sights.{IsSeen};
 ghost use Rattle.sbx_known.specs.Spots.{IsSpot};
 
@@ -8,12 +9,12 @@ use crate::words::word_at;
 use sbx_declare::Location;
 use sbx_domain::State;
 use sbx_faults::{frame_word_read, reads_codes, reads_y};
-use sbx_image::Image;
+use sbx_image::{Function, Image};
 use sbx_inspect::Sight;
 use sbx_known::{Spot, address_of, function_at, runs};
 use sbx_rules::asked;
 use std::alloc::AllocError;
-use v8_meaning::Operation;
+use v8_meaning::{Operation, target};
 
 /// What is read: a location, the condition codes or Y.
 #[derive(Clone, Copy, PartialEq, Eq)]
@@ -82,16 +83,79 @@ fn lost_by(image: &Image, spot: &Spot, read: Read) -> Loss
     loss
 }
 
+/// The function that begins at an address, by number.
+fn entry_at(functions: &[Function], address: u32) -> Option<usize>
+    ensures { result ≡ find_entry 0 address functions.now }
+{
+    for (number, function) in functions.iter().enumerate() {
+        if function.entry == address {
+            return Some(number);
+        }
+    }
+    None
+}
+
+/// The function that an operation at an address calls, by number.
+fn callee_of(image: &Image, address: u32, operation: &Operation) -> Option<usize>
+    ensures { result ≡ callee_of image.now address operation.now }
+{
+    match operation {
+        Operation::Call(displacement) => {
+            entry_at(image.functions(), target(address, *displacement))
+        }
+        _ => None,
+    }
+}
+
+/// Pushes how a function that was called gives back what stands in a register.
+fn push_result(
+    out: &mut String,
+    image: &Image,
+    call: u32,
+    register: u16,
+) -> Result<(), AllocError> {
+    let operation = asked(word_at(image, call));
+    let Some(number) = callee_of(image, call, &operation) else {
+        return out.push_str("\n");
+    };
+    let declared = match image.functions().get(number) {
+        Some(function) => function.results.as_slice().len(),
+        None => 0,
+    };
+    if declared.saturating_add(8) == usize::from(register) {
+        writeln!(out, ", or declare a `.result` of function {number} for it")
+    } else {
+        writeln!(
+            out,
+            ", or declare each `.result` of function {number} up to it"
+        )
+    }
+}
+
+/// Pushes that a call didn't keep what is read, and what mends it.
+fn push_call(out: &mut String, image: &Image, call: u32, read: Read) -> Result<(), AllocError> {
+    write!(out, ", since the call at {call:08X}, which keeps ")?;
+    match read {
+        Read::Location(register) => {
+            out.push_str(
+                "locals, ins and slots only: hold it in one, or write it behind the call",
+            )?;
+            match register {
+                8..=13 => push_result(out, image, call, register),
+                _ => out.push_str("\n"),
+            }
+        }
+        Read::Codes | Read::Y => { out.push_str("neither codes nor Y: set them behind the call\n") }
+    }
+}
+
 /// Pushes that what is read may hold anything, since when, and what would mend it.
 fn push_read(out: &mut String, image: &Image, spot: &Spot, read: Read) -> Result<(), AllocError>
     requires { IsSpot image.now spot.now }
 {
     read.push_name(out)?;
     match lost_by(image, spot, read) {
-        Loss::Call(address) => writeln!(
-            out,
-            ", since the call at {address:08X}, which keeps it not: write it behind the call"
-        ),
+        Loss::Call(address) => push_call(out, image, address, read),
         Loss::Save(address) => writeln!(
             out,
             ", since SAVE at {address:08X}, which leaves the ins alone known: write it first"
@@ -100,8 +164,11 @@ fn push_read(out: &mut String, image: &Image, spot: &Spot, read: Read) -> Result
             (0, Read::Location(_)) if spot.function == 0 => {
                 out.push_str(", since the function begins: write it first\n")
             }
-            (_, Read::Codes | Read::Y) => out.push_str(
-                ", since the block begins, which knows neither codes nor Y: write it first\n",
+            (_, Read::Codes) => out.push_str(
+                ", since the block begins, which knows none: set them first, by `cmp` or a form with `cc`\n",
+            ),
+            (_, Read::Y) => out.push_str(
+                ", since the block begins, which doesn't know it: write it first\n",
             ),
             (0, _) => out.push_str(
                 ", since the function begins: write it first, or declare a parameter\n",

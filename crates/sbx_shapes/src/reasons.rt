@@ -5,6 +5,7 @@
 pub enum TextReason {
     NotAscii,
     NoToken,
+    Quote,
     BarePercent,
     LargeNumber,
     LongLine,
@@ -126,6 +127,8 @@ impl TextReason {
         match self {
             TextReason::NotAscii => "a byte past ASCII stands outside a comment",
             TextReason::NoToken => "no token begins with this character",
+            TextReason::Quote =>
+                "quotes make no token: a character is written as its number, 48 for 0, 65 for A",
             TextReason::BarePercent => "no name stands right behind the %",
             TextReason::LargeNumber => "the number is 2^40 or more",
             TextReason::LongLine => "the line has more than 1,024 bytes",
