@@ -5,8 +5,8 @@ use std::test::Fail;
 /// A binary, and a file that has each kind of line: comments, blanks, and things that are said twice.
 #[test]
 fn lines_are_set(rt: HostRuntime) -> Result<(), Fail> {
-    let file =
-        b"0x10 0x01020304 5 ! \xFF\r\n\n!\n pc 8\n%psr 0xA7\nwindow 7\t\n%g1 0x3000\n%sp 16\npc 0x2000\ncontext_table 0xFFFFFFFFC\nwindow 0\n%i7 1\ny 4294967295";
+    let file = b"0x10 0x01020304 5 ! \xFF\r\n\n!\n pc 8\n%psr 0xA7\nwindow 7\t\n\
+        %g1 0x3000\n%sp 16\npc 0x2000\ncontext_table 0xFFFFFFFFC\nwindow 0\n%i7 1\ny 4294967295";
     let start = read_start(rt.alloc(), 8, 0x17, b"\x09\x09", file)
         .ok()
         .ok_or("no start")?;
