@@ -4,9 +4,8 @@ use Rattle.sbx_image.specs.Parts.{Parts}
 use Rattle.sbx_image.specs.Reading.{reading}
 use Rattle.sbx_raw.specs.Fronts.{Wrote}
 use Rattle.sbx_image_states.specs.Told.{IsStated}
-use Rattle.sbx_start.specs.Starts.{IsFit}
-use Rattle.sbx_start.specs.declared.start.Start.{Start}
-use Rattle.sbx_machine.specs.Told.{IsTold}
+use Rattle.inspect.specs.declared.machine.MachineFault.{MachineFault}
+use Rattle.inspect.specs.Machines.{MachineOf}
 use Rattle.inspect.specs.States.{StatesOf}
 
 -- where they were told, of the file's image
@@ -24,7 +23,6 @@ pub stated_on : (count windows limit : ℕ) (parts : Parts) (input : List ℕ) (
 stated_on count windows limit parts input old new many wrote = subst (λ (n : ℕ). Wrote old new (IsStated n parts input limit)) many wrote
 
 -- what is told of a machine on a count of windows is that on as many windows
-pub own_on : (count windows limit : ℕ) (start : Start) (old new : Option (List ℕ)) → count ≡ windows → IsFit count start
-    → Wrote old new (IsTold count start limit) → (s : Start) × IsFit windows s × Wrote old new (IsTold windows s limit)
-own_on count windows limit start old new many fit wrote =
-    (start, subst (λ (n : ℕ). IsFit n start) many fit, subst (λ (n : ℕ). Wrote old new (IsTold n start limit)) many wrote)
+pub machine_on : (count windows limit at : ℕ) (binary file : List ℕ) (old new : Option (List ℕ)) (r : Result (Unit {0}) MachineFault) → count ≡ windows
+    → MachineOf count limit at binary file old new r → MachineOf windows limit at binary file old new r
+machine_on count windows limit at binary file old new r many told = subst (λ (n : ℕ). MachineOf n limit at binary file old new r) many told

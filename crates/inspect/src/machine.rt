@@ -1,9 +1,5 @@
 //! A machine of one's own that a file sets.
-ghost use Rattle.std.specs.Prelude.{◌≤◌, OnOk};
-ghost use Rattle.sbx_raw.specs.Fronts.{Wrote};
-ghost use Rattle.sbx_start.specs.Starts.{IsFit};
-ghost use Rattle.sbx_start.specs.declared.start.Start.{Start};
-ghost use Rattle.sbx_machine.specs.Told.{IsTold};
+ghost use Rattle.inspect.specs.Machines.{MachineOf};
 
 use crate::commands::MOST;
 use crate::faults::Fault;
@@ -33,7 +29,8 @@ pub struct Setting<'a> {
     pub at: u64,
 }
 
-/// Runs a machine from the start that the bytes of a binary and of a file say, and tells its states, and the words of RAM that it changed.
+/// Runs a machine from the start that the bytes of a binary and of a file spell, and tells its states, and the words of RAM that it
+/// changed; or what is wrong with the file, and then nothing is written.
 pub fn tell_machine<O: Write>(
     alloc: Global,
     setting: &Setting<'_>,
@@ -41,8 +38,7 @@ pub fn tell_machine<O: Write>(
     file: &[u8],
     out: &mut O,
 ) -> Result<(), MachineFault>
-    ensures { OnOk result ((start : Start) × IsFit setting.now.windows start
-        × Wrote (O.contents out.old) (O.contents out.new) (IsTold setting.now.windows start setting.now.limit)) }
+    ensures { MachineOf setting.now.windows setting.now.limit setting.now.at binary.now file.now (O.contents out.old) (O.contents out.new) result }
 {
     let windows = setting.windows.count();
     let start = match read_start(alloc, windows, setting.at, binary, file) {

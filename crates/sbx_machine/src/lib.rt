@@ -5,5 +5,7 @@
 mod bare;
 mod changed;
 mod run;
+#[cfg(test)]
+mod tests;
 
 pub use run::machine_windows;

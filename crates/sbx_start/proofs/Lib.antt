@@ -1,0 +1,5 @@
+mod Blank
+mod Numerals
+mod Outcomes
+mod Splitting
+mod Words

@@ -2,10 +2,14 @@
 #![tactic(auto)]
 
 mod fault;
+mod item;
+mod lines;
 mod names;
 mod numbers;
 mod reader;
 mod start;
+#[cfg(test)]
+mod tests;
 
 pub use fault::{Cause, StartFault};
 pub use numbers::address;

@@ -1,18 +1,20 @@
-//! Numbers, as the lines of a start spell them.
-ghost use Rattle.std.specs.Prelude.{◌≡◌, ◌≤◌, ◌^◌, ◌<◌, IfSome};
+//! Numbers, as the words of a start's lines spell them.
+ghost use Rattle.std.specs.Prelude.{◌≡◌, ◌≤◌, ◌-◌, ◌^◌, ◌<◌, IfSome};
 ghost use Rattle.std.specs.Option.{SomeIff};
 ghost use Rattle.std.specs.Str.Parse.{IsNumeral, digits_value};
+ghost use Rattle.sbx_start.specs.Lines.{number_of, numeral_of};
 
 use sbx_jobs::decimal;
+use std::str;
 
 /// The greatest physical address, of 36 bits (appendix H).
-const MOST_ADDRESS: u64 = 0xF_FFFF_FFFF;
+pub const MOST_ADDRESS: u64 = 0xF_FFFF_FFFF;
 
 /// The greatest word.
-const MOST_WORD: u64 = 0xFFFF_FFFF;
+pub const MOST_WORD: u64 = 0xFFFF_FFFF;
 
 /// The number that a text spells by hexadecimal digits alone, if it is at most `most`.
-pub fn hexadecimal(text: &str, most: u64) -> Option<u64>
+fn hexadecimal(text: &str, most: u64) -> Option<u64>
     ensures { SomeIff result (IsNumeral 16 text.now × (digits_value 16 text.now ≤ most))
         (digits_value 16 text.now) }
 {
@@ -25,27 +27,41 @@ pub fn hexadecimal(text: &str, most: u64) -> Option<u64>
     }
 }
 
-/// The number that a text spells, 0x and hexadecimal digits, or decimal digits alone, if it is at most `most`.
-fn number(text: &str, most: u64) -> Option<u64>
-    ensures { IfSome result (λ number. number ≤ most) }
+/// The number of hexadecimal digits.
+fn hexadecimal_of(digits: &[u8], most: u64) -> Option<u64>
+    ensures { result ≡ numeral_of 16 most digits.now }
 {
-    match text.strip_prefix("0x") {
-        Some(digits) => hexadecimal(digits, most),
-        None => decimal(text, most),
+    match str::from_utf8(digits) {
+        Ok(text) => hexadecimal(text, most),
+        Err(_) => None,
+    }
+}
+
+/// The number of decimal digits.
+fn decimal_of(digits: &[u8], most: u64) -> Option<u64>
+    ensures { result ≡ numeral_of 10 most digits.now }
+{
+    match str::from_utf8(digits) {
+        Ok(text) => decimal(text, most),
+        Err(_) => None,
+    }
+}
+
+/// The number that a word spells, 0x and hexadecimal digits, or decimal digits alone, if it is at most `most`.
+pub fn number(word: &[u8], most: u64) -> Option<u64>
+    ensures value { result ≡ number_of most word.now }
+    ensures most { IfSome result (λ number. number ≤ most) }
+{
+    match word.strip_prefix(b"0x") {
+        Some(digits) => hexadecimal_of(digits, most),
+        None => decimal_of(word, most),
     }
 }
 
 /// The physical address that a text spells, of 36 bits at most.
 pub fn address(text: &str) -> Option<u64>
-    ensures { IfSome result (λ number. number < 2 ^ 36) }
+    ensures value { result ≡ number_of (2 ^ 36 - 1) text.now }
+    ensures reach { IfSome result (λ number. number < 2 ^ 36) }
 {
-    number(text, MOST_ADDRESS)
-}
-
-/// The word that a text spells.
-pub fn word(text: &str) -> Option<u32> {
-    match number(text, MOST_WORD) {
-        Some(number) => Some(number as u32),
-        None => None,
-    }
+    number(text.as_bytes(), MOST_ADDRESS)
 }
