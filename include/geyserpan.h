@@ -220,9 +220,9 @@ void geyserpan_engine_free(geyserpan_engine engine);
 uint32_t geyserpan_engine_begin(geyserpan_engine *engine, geyserpan_image *image);
 
 /* Goes on with the run as `step` does: ENDED, WANTS, FULL, PAUSED, OUTPUT, each with done; or HANDLE. A SAVE that finds no window free
-   makes 25 turns at once, or fewer: where they aren't left they are put by for the next step, so that steps of one turn go on too, and
-   none makes more than were allowed. It may take memory: MEMORY, with done, says that it was refused; what was read and written so far
-   stands, nothing is lost, and a further step goes on from there. LOST never comes, which is proved. */
+   makes 25 turns at once: where fewer are left they are put by for the next step, so that steps of one turn go on too, and none makes
+   more than it was allowed with those that were put by. It may take memory: MEMORY, with done, says that it was refused; what was read
+   and written so far stands, nothing is lost, and a further step goes on from there. LOST never comes, which is proved. */
 uint32_t geyserpan_engine_step(geyserpan_engine *engine, uint64_t turns, const uint8_t *input, size_t input_length, uint32_t last,
                                uint8_t *room, size_t room_length, geyserpan_done *done);
 
