@@ -108,9 +108,9 @@ typedef struct {
     uint32_t exit, zero;
 } geyserpan_report;
 
-/* What a step did: the turns of the run so far; the bytes of this piece that were read (hand the rest in again) and those that were
-   written to the front of the room (take them away); and the exit word, 0 where the status isn't ENDED. Written with each status
-   of step but HANDLE. */
+/* What a step did, on a board or the engine: the turns of the run so far; the bytes of this piece that were read (hand the rest in
+   again) and those that were written to the front of the room (take them away); and the exit word, 0 where the status isn't ENDED.
+   Written with each status of a step but HANDLE. */
 typedef struct {
     uint64_t turns, read, written;
     uint32_t exit, zero;
@@ -194,6 +194,40 @@ uint32_t geyserpan_step(geyserpan_run *run, uint64_t turns, const uint8_t *input
 
 /* Lets the run and the board go, and keeps the handle. */
 void geyserpan_end(geyserpan_run *run);
+
+/* ---- The engine: runs without a board, for a host that chooses it by these names ----
+
+   Output, exit word, turns, overflows and underflows are those of a run on a board of as many windows as the terms say, 4 to 32; the
+   board isn't made, and its windows are counted. There is no page to tell of. */
+
+/* Runs the image to its end on the input: OK, ROOM, OUTPUT, MEMORY, HANDLE as run_image. In the report `referenced` and `modified` are 0. */
+uint32_t geyserpan_engine_run(geyserpan_image *image, const uint8_t *input, size_t input_length, uint8_t *room, size_t room_length,
+                              geyserpan_report *report);
+
+typedef struct {
+    void *at;
+} geyserpan_engine;
+
+/* Makes a handle that holds no run: OK, or MEMORY, which leaves the struct as it was. */
+uint32_t geyserpan_engine_new(geyserpan_engine *engine);
+
+/* Ends a handle, with its run. */
+void geyserpan_engine_free(geyserpan_engine engine);
+
+/* Begins a run of the image, on any windows that it was opened for. The run that the handle had is given up once there is the new one.
+   The image isn't needed after it: it may be closed, or opened anew, while the run goes on. OK; HANDLE, MEMORY: the run that there was
+   goes on. */
+uint32_t geyserpan_engine_begin(geyserpan_engine *engine, geyserpan_image *image);
+
+/* Goes on with the run as `step` does: ENDED, WANTS, FULL, PAUSED, OUTPUT, each with done; or HANDLE. A SAVE that finds no window free
+   makes 25 turns at once: where fewer are left they are put by for the next step, so that steps of one turn go on too, and none makes
+   more than it was allowed with those that were put by. It may take memory: MEMORY, with done, says that it was refused; what was read
+   and written so far stands, nothing is lost, and a further step goes on from there. LOST never comes, which is proved. */
+uint32_t geyserpan_engine_step(geyserpan_engine *engine, uint64_t turns, const uint8_t *input, size_t input_length, uint32_t last,
+                               uint8_t *room, size_t room_length, geyserpan_done *done);
+
+/* Lets the run go, and keeps the handle. */
+void geyserpan_engine_end(geyserpan_engine *engine);
 
 /* ---- Memory ----
 

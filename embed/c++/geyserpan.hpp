@@ -72,16 +72,10 @@ public:
     }
 
     // The output of a run on this input. The room is kept from run to run, and grows where an output doesn't fit.
-    std::string_view run(std::string_view input, geyserpan_report &report)
-    {
-        uint32_t status = attempt(input, report);
-        if (status == GEYSERPAN_ROOM) {
-            room.resize(report.output);
-            status = attempt(input, report);
-        }
-        check(status);
-        return { reinterpret_cast<const char *>(room.data()), static_cast<std::size_t>(report.output) };
-    }
+    std::string_view run(std::string_view input, geyserpan_report &report) { return run_by(geyserpan_run_image, input, report); }
+
+    // The same on the engine, without a board: the report tells of no pages.
+    std::string_view run_on_engine(std::string_view input, geyserpan_report &report) { return run_by(geyserpan_engine_run, input, report); }
 
     // The handle. One that was moved from holds none.
     geyserpan_image *open()
@@ -93,47 +87,59 @@ public:
 
 private:
     geyserpan_image handle = {};
-    uint32_t attempt(std::string_view input, geyserpan_report &report)
+    std::string_view run_by(decltype(geyserpan_run_image) *call, std::string_view input, geyserpan_report &report)
     {
-        return geyserpan_run_image(open(), bytes_of(input), input.size(), room.data(), room.size(), &report);
+        uint32_t status = call(open(), bytes_of(input), input.size(), room.data(), room.size(), &report);
+        if (status == GEYSERPAN_ROOM) {
+            room.resize(report.output);
+            status = call(open(), bytes_of(input), input.size(), room.data(), room.size(), &report);
+        }
+        check(status);
+        return { reinterpret_cast<const char *>(room.data()), static_cast<std::size_t>(report.output) };
     }
     std::vector<uint8_t> room = std::vector<uint8_t>(256);
 };
 
-// A run in pieces, on a board that is used again.
-class run {
+// A run in pieces, by these calls.
+template <typename handle_type, auto make, auto let_go, auto start, auto go_on> class pieces {
 public:
-    run() { check(geyserpan_run_new(&handle)); }
-    run(run &&other) noexcept : handle(std::exchange(other.handle, {})) {}
-    run &operator=(run &&other) noexcept
+    pieces() { check(make(&handle)); }
+    pieces(pieces &&other) noexcept : handle(std::exchange(other.handle, {})) {}
+    pieces &operator=(pieces &&other) noexcept
     {
         std::swap(handle, other.handle);
         return *this;
     }
-    ~run()
+    ~pieces()
     {
         if (handle.at)
-            geyserpan_run_free(handle);
+            let_go(handle);
     }
 
-    void begin(image &of) { check(geyserpan_begin(open(), of.open())); }
+    void begin(image &of) { check(start(open(), of.open())); }
 
     // A status of geyserpan_step. What was written stands at the front of the room.
     uint32_t step(uint64_t turns, std::string_view piece, bool last, std::vector<uint8_t> &room, geyserpan_done &done)
     {
         static uint8_t none;
-        return geyserpan_step(open(), turns, bytes_of(piece), piece.size(), last, room.empty() ? &none : room.data(), room.size(), &done);
+        return go_on(open(), turns, bytes_of(piece), piece.size(), last, room.empty() ? &none : room.data(), room.size(), &done);
     }
 
 private:
-    geyserpan_run *open()
+    handle_type *open()
     {
         if (!handle.at)
             throw std::logic_error("the run was moved");
         return &handle;
     }
-    geyserpan_run handle = {};
+    handle_type handle = {};
 };
+
+// On a board that is used again.
+using run = pieces<geyserpan_run, geyserpan_run_new, geyserpan_run_free, geyserpan_begin, geyserpan_step>;
+
+// On the engine, which has no board and counts on as many windows as its image's terms say. A step may answer MEMORY, and another goes on.
+using engine = pieces<geyserpan_engine, geyserpan_engine_new, geyserpan_engine_free, geyserpan_engine_begin, geyserpan_engine_step>;
 
 } // namespace geyserpan
 #endif

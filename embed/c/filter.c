@@ -1,6 +1,6 @@
-/* Answers requests by an image that a stranger wrote: filter IMG < REQUESTS
+/* Answers requests by an image that a stranger wrote: filter IMG [engine] < REQUESTS
    Each line of standard input is a request, and standard output takes a line for each. The image is checked once; each run of it
-   has a line as its input, 100,000 turns and 4,096 bytes of output at most. */
+   has a line as its input, 100,000 turns and 4,096 bytes of output at most. With `engine` no board is made for it. */
 #include "geyserpan.h"
 #include <stdio.h>
 #include <string.h>
@@ -15,14 +15,16 @@ static int refuse(uint32_t status, const geyserpan_why *why)
     return 2;
 }
 
-static int answer_all(geyserpan_image *kept)
+typedef uint32_t run_call(geyserpan_image *, const uint8_t *, size_t, uint8_t *, size_t, geyserpan_report *);
+
+static int answer_all(geyserpan_image *kept, run_call *run)
 {
     static const geyserpan_why none;
     static uint8_t room[4096];
     static char line[65536];
     geyserpan_report report;
     while (fgets(line, sizeof line, stdin)) {
-        uint32_t status = geyserpan_run_image(kept, (const uint8_t *)line, strcspn(line, "\n"), room, sizeof room, &report);
+        uint32_t status = run(kept, (const uint8_t *)line, strcspn(line, "\n"), room, sizeof room, &report);
         if (status != GEYSERPAN_OK)
             return refuse(status, &none);
         fwrite(room, 1, report.output, stdout);
@@ -33,7 +35,7 @@ static int answer_all(geyserpan_image *kept)
 
 int main(int count, char **words)
 {
-    if (count != 2 || geyserpan_abi() != GEYSERPAN_ABI)
+    if (count < 2 || geyserpan_abi() != GEYSERPAN_ABI)
         return 3;
     FILE *file = fopen(words[1], "rb");
     if (!file)
@@ -47,7 +49,8 @@ int main(int count, char **words)
     if (geyserpan_image_new(&kept) != GEYSERPAN_OK)
         return 5;
     uint32_t status = geyserpan_open(&kept, image, length, &terms, &why);
-    int ended = status == GEYSERPAN_OK ? answer_all(&kept) : refuse(status, &why);
+    run_call *run = count > 2 && !strcmp(words[2], "engine") ? geyserpan_engine_run : geyserpan_run_image;
+    int ended = status == GEYSERPAN_OK ? answer_all(&kept, run) : refuse(status, &why);
     geyserpan_image_free(kept);
     return ended;
 }

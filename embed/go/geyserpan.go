@@ -94,13 +94,27 @@ func Open(bytes []byte, terms Terms) (*Image, error) {
 	return image, nil
 }
 
-// Run runs it on an input. The output is the front of the room.
+// Run runs it on an input, on a new board. The output is the front of the room.
 func (i *Image) Run(input, room []byte) ([]byte, Report, error) {
+	return i.run(false, input, room)
+}
+
+// RunOnEngine gives what Run gives, without a board.
+func (i *Image) RunOnEngine(input, room []byte) ([]byte, Report, error) {
+	return i.run(true, input, room)
+}
+
+func (i *Image) run(engine bool, input, room []byte) ([]byte, Report, error) {
 	var told C.geyserpan_report
 	if i.handle == nil {
 		return nil, Report{}, ErrClosed
 	}
-	status := C.geyserpan_run_image(i.handle, first(input), C.size_t(len(input)), first(room), C.size_t(len(room)), &told)
+	var status C.uint32_t
+	if engine {
+		status = C.geyserpan_engine_run(i.handle, first(input), C.size_t(len(input)), first(room), C.size_t(len(room)), &told)
+	} else {
+		status = C.geyserpan_run_image(i.handle, first(input), C.size_t(len(input)), first(room), C.size_t(len(room)), &told)
+	}
 	report := Report{uint64(told.turns), uint64(told.overflows), uint64(told.underflows), uint64(told.output), uint32(told.exit)}
 	runtime.KeepAlive(i)
 	if err := refusal(status, &C.geyserpan_why{}); err != nil {
@@ -118,29 +132,47 @@ func (i *Image) Close() {
 	}
 }
 
-// Run is a run in pieces, on a board that is used again. One call at a time.
-type Run struct{ handle *C.geyserpan_run }
+// Run is a run in pieces, on a board that is used again or on the engine. One call at a time.
+type Run struct {
+	board  *C.geyserpan_run
+	engine *C.geyserpan_engine
+}
 
 // Begin begins a run of an image on a new board.
 func Begin(image *Image) (*Run, error) {
-	run := &Run{new(C.geyserpan_run)}
-	if status := C.geyserpan_run_new(run.handle); status != C.GEYSERPAN_OK {
-		return nil, refusal(status, &C.geyserpan_why{})
-	}
-	runtime.SetFinalizer(run, (*Run).Close)
-	if err := run.Begin(image); err != nil {
-		run.Close()
-		return nil, err
-	}
-	return run, nil
+	run := &Run{board: new(C.geyserpan_run)}
+	return run.made(C.geyserpan_run_new(run.board), image)
 }
 
-// Begin begins a run of an image on its board; that which there was is given up.
+// BeginOnEngine begins one without a board, which counts on as many windows as the image's terms say.
+func BeginOnEngine(image *Image) (*Run, error) {
+	run := &Run{engine: new(C.geyserpan_engine)}
+	return run.made(C.geyserpan_engine_new(run.engine), image)
+}
+
+func (r *Run) made(status C.uint32_t, image *Image) (*Run, error) {
+	if status != C.GEYSERPAN_OK {
+		return nil, refusal(status, &C.geyserpan_why{})
+	}
+	runtime.SetFinalizer(r, (*Run).Close)
+	if err := r.Begin(image); err != nil {
+		r.Close()
+		return nil, err
+	}
+	return r, nil
+}
+
+// Begin begins a run of an image; that which there was is given up, and a board used again.
 func (r *Run) Begin(image *Image) error {
-	if r.handle == nil || image.handle == nil {
+	if r.board == nil && r.engine == nil || image.handle == nil {
 		return ErrClosed
 	}
-	status := C.geyserpan_begin(r.handle, image.handle)
+	var status C.uint32_t
+	if r.engine != nil {
+		status = C.geyserpan_engine_begin(r.engine, image.handle)
+	} else {
+		status = C.geyserpan_begin(r.board, image.handle)
+	}
 	runtime.KeepAlive(image)
 	runtime.KeepAlive(r)
 	return refusal(status, &C.geyserpan_why{})
@@ -154,17 +186,22 @@ type Done struct {
 }
 
 // Step goes on for at most so many turns, with the next piece of the input, behind which there is none where last is set. With Output
-// what is granted was put out, and there is more.
+// what is granted was put out, and there is more. On the engine memory may be refused, which is an error: Done stands all the same,
+// and a further step goes on.
 func (r *Run) Step(turns uint64, piece []byte, last bool, room []byte) (Status, Done, error) {
 	var done C.geyserpan_done
-	if r.handle == nil {
+	if r.board == nil && r.engine == nil {
 		return 0, Done{}, ErrClosed
 	}
-	var end C.uint32_t
+	var end, status C.uint32_t
 	if last {
 		end = 1
 	}
-	status := C.geyserpan_step(r.handle, C.uint64_t(turns), first(piece), C.size_t(len(piece)), end, first(room), C.size_t(len(room)), &done)
+	if r.engine != nil {
+		status = C.geyserpan_engine_step(r.engine, C.uint64_t(turns), first(piece), C.size_t(len(piece)), end, first(room), C.size_t(len(room)), &done)
+	} else {
+		status = C.geyserpan_step(r.board, C.uint64_t(turns), first(piece), C.size_t(len(piece)), end, first(room), C.size_t(len(room)), &done)
+	}
 	runtime.KeepAlive(r)
 	told := Done{uint64(done.turns), int(done.read), int(done.written), uint32(done.exit)}
 	switch Status(status) {
@@ -174,11 +211,14 @@ func (r *Run) Step(turns uint64, piece []byte, last bool, room []byte) (Status, 
 	return Status(status), told, refusal(status, &C.geyserpan_why{})
 }
 
-// Close lets the run and its board go.
+// Close lets the run go, and its board.
 func (r *Run) Close() {
-	if r.handle != nil {
-		C.geyserpan_run_free(*r.handle)
-		r.handle = nil
-		runtime.SetFinalizer(r, nil)
+	if r.board != nil {
+		C.geyserpan_run_free(*r.board)
 	}
+	if r.engine != nil {
+		C.geyserpan_engine_free(*r.engine)
+	}
+	r.board, r.engine = nil, nil
+	runtime.SetFinalizer(r, nil)
 }

@@ -1,4 +1,4 @@
-"""Answers requests by an image that a stranger wrote: filter.py IMG < REQUESTS
+"""Answers requests by an image that a stranger wrote: filter.py IMG [engine] < REQUESTS
 
 Each line of standard input is a request, and standard output takes a line for each.
 """
@@ -7,17 +7,17 @@ import sys
 from geyserpan import Image, Refusal, Terms
 
 
-def main(path):
+def main(path, engine):
     with open(path, "rb") as file:
         data = file.read()
     with Image(data, Terms(turns=100_000, output=4096)) as image:
         for line in sys.stdin.buffer:
-            output, _report = image.run(line.rstrip(b"\n"))
+            output, _report = image.run(line.rstrip(b"\n"), engine=engine)
             sys.stdout.buffer.write(output + b"\n")
 
 
 if __name__ == "__main__":
     try:
-        main(sys.argv[1])
+        main(sys.argv[1], sys.argv[2:] == ["engine"])
     except Refusal as refusal:
         sys.exit(f"filter: {refusal}")

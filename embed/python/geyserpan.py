@@ -2,6 +2,7 @@
 
     image = Image(bytes, Terms(turns=100_000))
     output, report = image.run(b"HAL")
+    output, report = image.run(b"HAL", engine=True)  # without a board: the report tells of no pages
 
 The library is sought where GEYSERPAN_LIB says (a path), else by the system.
 """
@@ -61,6 +62,10 @@ def _load(path):
         "facts_of": [POINTER(c_void_p), POINTER(Facts)],
         "run_image": [POINTER(c_void_p), c_char_p, c_size_t, c_void_p, c_size_t, POINTER(Report)],
         "run_new": [POINTER(c_void_p)], "run_free": [c_void_p],
+        "engine_run": [POINTER(c_void_p), c_char_p, c_size_t, c_void_p, c_size_t, POINTER(Report)],
+        "engine_new": [POINTER(c_void_p)], "engine_free": [c_void_p],
+        "engine_begin": [POINTER(c_void_p), POINTER(c_void_p)],
+        "engine_step": [POINTER(c_void_p), c_uint64, c_char_p, c_size_t, c_uint32, c_void_p, c_size_t, POINTER(Done)],
         "begin": [POINTER(c_void_p), POINTER(c_void_p)],
         "step": [POINTER(c_void_p), c_uint64, c_char_p, c_size_t, c_uint32, c_void_p, c_size_t, POINTER(Done)],
     }
@@ -156,12 +161,13 @@ class Image(_Handle):
         _check(_library.geyserpan_facts_of(self._open(), byref(facts)))
         return facts
 
-    def run(self, data):
-        """The output of a run on this input, and its report."""
+    def run(self, data, engine=False):
+        """The output of a run on this input, and its report: on a board, or on the engine, which has no pages."""
+        call = _library.geyserpan_engine_run if engine else _library.geyserpan_run_image
         report = Report()
         while True:
             buffer = ctypes.create_string_buffer(max(self._room, 1))
-            status = _library.geyserpan_run_image(self._open(), data, len(data), buffer, self._room, byref(report))
+            status = call(self._open(), data, len(data), buffer, self._room, byref(report))
             if status != ROOM:
                 _check(status)
                 return buffer.raw[:report.output], report
@@ -171,26 +177,35 @@ class Image(_Handle):
 class Run(_Handle):
     """A run in pieces, on a board that is used again."""
 
-    _free = _library.geyserpan_run_free
+    _new, _free = _library.geyserpan_run_new, _library.geyserpan_run_free
+    _begin, _step = _library.geyserpan_begin, _library.geyserpan_step
 
     def __init__(self, image=None):
         self._handle, self.exit, self.turns = c_void_p(), None, 0
-        _check(_library.geyserpan_run_new(byref(self._handle)))
+        _check(type(self)._new(byref(self._handle)))
         if image:
             self.begin(image)
 
     def begin(self, image):
         """Begins a run of an image; that which there was is given up."""
-        _check(_library.geyserpan_begin(self._open(), image._open()))
+        _check(type(self)._begin(self._open(), image._open()))
         self.exit, self.turns = None, 0
 
     def step(self, piece=b"", last=False, turns=1_000_000, room=4096):
-        """The status (ENDED, WANTS, FULL, PAUSED, OUTPUT), how many bytes of the piece were read, and what was put out."""
+        """The status (ENDED, WANTS, FULL, PAUSED, OUTPUT; of an Engine MEMORY too, which a further step goes on from), how many bytes of the
+        piece were read, and what was put out."""
         buffer, done = ctypes.create_string_buffer(max(room, 1)), Done()
-        status = _library.geyserpan_step(self._open(), turns, piece, len(piece), last, buffer, room, byref(done))
+        status = type(self)._step(self._open(), turns, piece, len(piece), last, buffer, room, byref(done))
         if status in (HANDLE, LOST):
             raise Refusal(status)
         self.turns = done.turns
         if status == ENDED:
             self.exit = done.exit
         return status, done.read, buffer.raw[:done.written]
+
+
+class Engine(Run):
+    """A run in pieces on the engine, which has no board and counts on as many windows as its image's terms say."""
+
+    _new, _free = _library.geyserpan_engine_new, _library.geyserpan_engine_free
+    _begin, _step = _library.geyserpan_engine_begin, _library.geyserpan_engine_step

@@ -81,6 +81,18 @@ static uint32_t put(const geyserpan_report *report)
     return report->exit;
 }
 
+/* The engine gives what the board gave, but for pages, of which it has none. */
+static void engine_once(geyserpan_image *image, const geyserpan_report *board)
+{
+    static uint8_t other[sizeof room];
+    geyserpan_report report;
+    HOLDS(geyserpan_engine_run(image, input, input_length, other, sizeof other, &report) == GEYSERPAN_OK);
+    HOLDS(report.turns == board->turns && report.overflows == board->overflows && report.underflows == board->underflows);
+    HOLDS(report.output == board->output && !memcmp(other, room, board->output) && report.exit == board->exit && !report.zero);
+    for (int i = 0; i < 3; i++)
+        HOLDS(!report.referenced[i] && !report.modified[i]);
+}
+
 static void once(uint32_t windows)
 {
     geyserpan_terms terms = { UINT64_MAX, UINT64_MAX, 7, windows };
@@ -92,21 +104,41 @@ static void once(uint32_t windows)
         static uint8_t other[sizeof room];
         HOLDS(geyserpan_run_image(&image, input, input_length, other, sizeof other, &kept) == GEYSERPAN_OK);
         HOLDS(!memcmp(&report, &kept, sizeof report) && !memcmp(room, other, report.output) && !report.zero);
+        engine_once(&image, &report);
     }
     geyserpan_image_free(image);
     put(&report);
 }
 
+/* The handle of a run in pieces: on a board, or where there is none on the engine. */
+typedef struct {
+    geyserpan_run *board;
+    geyserpan_engine *engine;
+} stepped;
+
+/* So many turns the engine puts by at most. */
+#define PUT_BY 24
+
+static uint32_t step(stepped run, uint64_t turns, const uint8_t *piece, size_t length, uint32_t last, uint8_t *to, size_t most, geyserpan_done *done)
+{
+    return run.board ? geyserpan_step(run.board, turns, piece, length, last, to, most, done)
+                     : geyserpan_engine_step(run.engine, turns, piece, length, last, to, most, done);
+}
+
 /* A run in pieces of so many bytes, rooms of so many, and so many turns a step. */
-static uint32_t in_pieces(geyserpan_run *run, size_t piece, size_t most, uint64_t turns, size_t *length, geyserpan_done *done)
+static uint32_t in_pieces(stepped run, size_t piece, size_t most, uint64_t turns, size_t *length, geyserpan_done *done)
 {
     static const uint8_t none;
     size_t read = 0, written = 0;
+    uint64_t made = 0;
     uint32_t status;
     do {
         size_t next = input_length - read < piece ? input_length - read : piece;
         uint8_t *to = room + written, guard = to[most];
-        status = geyserpan_step(run, turns, next ? input + read : &none, next, read + next == input_length, to, most, done);
+        uint64_t before = made;
+        status = step(run, turns, next ? input + read : &none, next, read + next == input_length, to, most, done);
+        made = done->turns;
+        HOLDS(made >= before && (run.board || made - before <= turns + PUT_BY));
         HOLDS(done->read <= next && done->written <= most && to[most] == guard && !done->zero);
         HOLDS(status != GEYSERPAN_WANTS || done->read == next);
         HOLDS(status != GEYSERPAN_FULL || done->written == most);
@@ -127,11 +159,12 @@ static void pieces(size_t piece, size_t most, uint64_t turns)
     geyserpan_report report;
     static uint8_t whole[sizeof room];
     size_t length;
+    const stepped board = { &run, NULL };
     HOLDS(geyserpan_run_new(&run) == GEYSERPAN_OK);
     HOLDS(geyserpan_begin(&run, &image) == GEYSERPAN_OK);
     HOLDS(geyserpan_run_image(&image, input, input_length, whole, sizeof whole, &report) == GEYSERPAN_OK);
     for (int i = 0; i < 2; i++) {
-        HOLDS(in_pieces(&run, piece, most, turns, &length, &done) == GEYSERPAN_ENDED);
+        HOLDS(in_pieces(board, piece, most, turns, &length, &done) == GEYSERPAN_ENDED);
         HOLDS(length == report.output && !memcmp(room, whole, length) && done.exit == report.exit && done.turns == report.turns);
         HOLDS(geyserpan_step(&run, turns, input, input_length, 0, room, sizeof room, &again) == GEYSERPAN_ENDED);
         HOLDS(again.exit == done.exit && again.turns == done.turns && !again.read && !again.written);
@@ -141,9 +174,37 @@ static void pieces(size_t piece, size_t most, uint64_t turns)
     geyserpan_step(&run, 7, input, input_length, 1, room, sizeof room, &again);
     HOLDS(geyserpan_begin(&run, &image) == GEYSERPAN_OK);
     geyserpan_close(&image);
-    HOLDS(in_pieces(&run, piece, most, turns, &length, &done) == GEYSERPAN_ENDED && length == report.output);
+    HOLDS(in_pieces(board, piece, most, turns, &length, &done) == GEYSERPAN_ENDED && length == report.output);
     fwrite(room, 1, length, stdout);
     geyserpan_run_free(run);
+    geyserpan_image_free(image);
+}
+
+/* The engine in pieces on so many windows, beside a board's run to its end. */
+static void engine_pieces(uint32_t windows, size_t piece, size_t most, uint64_t turns)
+{
+    const geyserpan_terms terms = { UINT64_MAX, UINT64_MAX, 7, windows };
+    geyserpan_image image = opened(&terms);
+    geyserpan_engine engine;
+    const stepped run = { NULL, &engine };
+    geyserpan_done done, again;
+    geyserpan_report report;
+    static uint8_t whole[sizeof room];
+    size_t length;
+    HOLDS(geyserpan_run_image(&image, input, input_length, whole, sizeof whole, &report) == GEYSERPAN_OK);
+    HOLDS(geyserpan_engine_new(&engine) == GEYSERPAN_OK && geyserpan_engine_begin(&engine, &image) == GEYSERPAN_OK);
+    HOLDS(in_pieces(run, piece, most, turns, &length, &done) == GEYSERPAN_ENDED);
+    HOLDS(length == report.output && !memcmp(room, whole, length) && done.exit == report.exit && done.turns == report.turns);
+    HOLDS(geyserpan_engine_step(&engine, turns, input, input_length, 0, room, sizeof room, &again) == GEYSERPAN_ENDED);
+    HOLDS(again.exit == done.exit && again.turns == done.turns && !again.read && !again.written);
+    /* given up in the middle; then the image goes before its run does */
+    HOLDS(geyserpan_engine_begin(&engine, &image) == GEYSERPAN_OK);
+    geyserpan_engine_step(&engine, 7, input, input_length, 1, room, sizeof room, &again);
+    HOLDS(geyserpan_engine_begin(&engine, &image) == GEYSERPAN_OK);
+    geyserpan_close(&image);
+    HOLDS(in_pieces(run, piece, most, turns, &length, &done) == GEYSERPAN_ENDED && length == report.output && !memcmp(room, whole, length));
+    fwrite(room, 1, length, stdout);
+    geyserpan_engine_free(engine);
     geyserpan_image_free(image);
 }
 
@@ -154,6 +215,74 @@ static void keeps(uint32_t status, uint32_t wanted, const uint8_t *bytes, size_t
     HOLDS(status == wanted);
     for (size_t i = 0; i < length; i++)
         HOLDS(bytes[i] == 0xA5);
+}
+
+/* The engine's ends, with an image that puts out so many bytes, more than two, of its input. */
+static void engine_edges(uint64_t length)
+{
+    geyserpan_terms terms = all;
+    geyserpan_report report, before;
+    geyserpan_why why;
+    geyserpan_done done, no_done;
+    geyserpan_image image;
+    geyserpan_engine engine;
+    uint8_t small[64];
+    memset(small, 0xA5, sizeof small);
+    memset(&done, 0xA5, sizeof done);
+    memset(&report, 0xA5, sizeof report);
+    no_done = done;
+    before = report;
+
+    /* empty handles */
+    HOLDS(geyserpan_image_new(&image) == GEYSERPAN_OK && geyserpan_engine_new(&engine) == GEYSERPAN_OK);
+    keeps(geyserpan_engine_run(&image, input, input_length, small, sizeof small, &report), GEYSERPAN_HANDLE, small, sizeof small);
+    HOLDS(geyserpan_engine_begin(&engine, &image) == GEYSERPAN_HANDLE);
+    keeps(geyserpan_engine_step(&engine, 1, input, input_length, 1, small, sizeof small, &done), GEYSERPAN_HANDLE, small, sizeof small);
+    HOLDS(!memcmp(&done, &no_done, sizeof done) && !memcmp(&report, &before, sizeof report));
+    geyserpan_engine_end(&engine);
+
+    /* each count of windows; a room that is too small, by one byte too; more output than is granted */
+    for (terms.windows = 4; terms.windows <= 32; terms.windows++) {
+        HOLDS(geyserpan_open(&image, file, file_length, &terms, &why) == GEYSERPAN_OK && geyserpan_engine_begin(&engine, &image) == GEYSERPAN_OK);
+        HOLDS(geyserpan_engine_step(&engine, UINT64_MAX, input, input_length, 1, small, sizeof small, &done) == GEYSERPAN_ENDED && done.written == length);
+        HOLDS(geyserpan_engine_run(&image, input, input_length, small, sizeof small, &report) == GEYSERPAN_OK && report.output == length);
+        HOLDS(small[length] == 0xA5 && report.turns == done.turns && report.exit == done.exit);
+    }
+    memset(small, 0xA5, sizeof small);
+    for (size_t size = 0; size < length; size++) {
+        memset(&report, 0, sizeof report);
+        keeps(geyserpan_engine_run(&image, input, input_length, small, size, &report), GEYSERPAN_ROOM, small, sizeof small);
+        HOLDS(report.output == length);
+    }
+    HOLDS(geyserpan_engine_run(&image, input, input_length, small, length, &report) == GEYSERPAN_OK && small[length] == 0xA5);
+    memset(small, 0xA5, sizeof small);
+    terms = all;
+    terms.output = length - 1;
+    HOLDS(geyserpan_open(&image, file, file_length, &terms, &why) == GEYSERPAN_OK);
+    keeps(geyserpan_engine_run(&image, input, input_length, small, sizeof small, &report), GEYSERPAN_OUTPUT, small, sizeof small);
+    HOLDS(report.output == length);
+
+    /* a limit of output; rooms and pieces of 0; no turns */
+    terms.output = 2;
+    HOLDS(geyserpan_open(&image, file, file_length, &terms, &why) == GEYSERPAN_OK && geyserpan_engine_begin(&engine, &image) == GEYSERPAN_OK);
+    keeps(geyserpan_engine_step(&engine, 0, input, 0, 0, small, 0, &done), GEYSERPAN_PAUSED, small, sizeof small);
+    HOLDS(!done.turns && !done.read && !done.written && !done.exit && !done.zero);
+    keeps(geyserpan_engine_step(&engine, UINT64_MAX, input, 0, 0, small, 0, &done), GEYSERPAN_WANTS, small, sizeof small);
+    keeps(geyserpan_engine_step(&engine, UINT64_MAX, input, input_length, 0, small, 0, &done), GEYSERPAN_FULL, small, sizeof small);
+    HOLDS(done.read && !done.written);
+    size_t read = done.read;
+    HOLDS(geyserpan_engine_step(&engine, UINT64_MAX, input + read, input_length - read, 1, small, sizeof small, &done) == GEYSERPAN_OUTPUT && done.written == 2);
+    HOLDS(small[2] == 0xA5);
+    HOLDS(geyserpan_engine_step(&engine, UINT64_MAX, input, input_length, 1, small, sizeof small, &done) == GEYSERPAN_OUTPUT && !done.written && !done.read);
+
+    /* a handle that holds no image leaves the run that there was */
+    geyserpan_close(&image);
+    HOLDS(geyserpan_engine_begin(&engine, &image) == GEYSERPAN_HANDLE);
+    HOLDS(geyserpan_engine_step(&engine, UINT64_MAX, input, input_length, 1, small, sizeof small, &done) == GEYSERPAN_OUTPUT && !done.written && !done.read);
+    geyserpan_engine_end(&engine);
+    HOLDS(geyserpan_engine_step(&engine, 1, input, 0, 1, small, 0, &done) == GEYSERPAN_HANDLE);
+    geyserpan_image_free(image);
+    geyserpan_engine_free(engine);
 }
 
 /* What is refused, with an image that puts out more than two bytes of its input: nothing of the room is written. */
@@ -260,6 +389,8 @@ static void edges(void)
     geyserpan_image_free(image);
     geyserpan_run_free(run);
 
+    engine_edges(length);
+
     /* texts that fit, and that don't */
     uint8_t text[96], none[1] = { 0xA5 };
     HOLDS(geyserpan_version(text, sizeof text) <= 32 && geyserpan_version(none, 0) <= 32 && none[0] == 0xA5);
@@ -278,18 +409,25 @@ static void many(long runs)
     geyserpan_report report;
     geyserpan_why why;
     geyserpan_done done;
-    HOLDS(geyserpan_run_new(&run) == GEYSERPAN_OK);
+    geyserpan_engine engine;
+    HOLDS(geyserpan_run_new(&run) == GEYSERPAN_OK && geyserpan_engine_new(&engine) == GEYSERPAN_OK);
     for (long i = 0; i < runs; i++) {
         HOLDS(geyserpan_run_image(&image, input, input_length, room, sizeof room, &report) == GEYSERPAN_OK);
         HOLDS(geyserpan_begin(&run, &image) == GEYSERPAN_OK);
         HOLDS(geyserpan_step(&run, UINT64_MAX, input, input_length, 1, room, sizeof room, &done) == GEYSERPAN_ENDED && done.written == report.output);
+        HOLDS(geyserpan_engine_begin(&engine, &image) == GEYSERPAN_OK);
+        HOLDS(geyserpan_engine_step(&engine, UINT64_MAX, input, input_length, 1, room, sizeof room, &done) == GEYSERPAN_ENDED && done.written == report.output);
+        HOLDS(geyserpan_engine_run(&image, input, input_length, room, sizeof room, &report) == GEYSERPAN_OK && report.output == done.written);
         if (i % 16 == 0)
             HOLDS(geyserpan_once(file, file_length, &all, input, input_length, room, sizeof room, &report, &why) == GEYSERPAN_OK);
-        if (i % 32 == 0)
+        if (i % 32 == 0) {
             geyserpan_end(&run);
+            geyserpan_engine_end(&engine);
+        }
         if (i % 64 == 0)
             HOLDS(geyserpan_open(&image, file, file_length, &all, &why) == GEYSERPAN_OK);
     }
+    geyserpan_engine_free(engine);
     geyserpan_run_free(run);
     geyserpan_image_free(image);
     fwrite(room, 1, report.output, stdout);
@@ -305,25 +443,42 @@ static void *work(void *which)
     geyserpan_run run;
     geyserpan_report report;
     geyserpan_done done;
-    HOLDS(geyserpan_run_new(&run) == GEYSERPAN_OK);
+    geyserpan_engine engine;
+    HOLDS(geyserpan_run_new(&run) == GEYSERPAN_OK && geyserpan_engine_new(&engine) == GEYSERPAN_OK);
     for (long i = 0; i < runs_each; i++) {
         HOLDS(geyserpan_run_image(&image, bytes, sizeof bytes, out, sizeof out, &report) == GEYSERPAN_OK);
         HOLDS(report.output == sizeof bytes && !memcmp(out, bytes, sizeof bytes));
         HOLDS(geyserpan_begin(&run, &image) == GEYSERPAN_OK);
         HOLDS(geyserpan_step(&run, UINT64_MAX, bytes, sizeof bytes, 1, out, sizeof out, &done) == GEYSERPAN_ENDED);
         HOLDS(done.written == sizeof bytes && !memcmp(out, bytes, sizeof bytes));
+        memset(out, 0, sizeof out);
+        HOLDS(geyserpan_engine_begin(&engine, &image) == GEYSERPAN_OK);
+        HOLDS(geyserpan_engine_step(&engine, UINT64_MAX, bytes, sizeof bytes, 1, out, sizeof out, &done) == GEYSERPAN_ENDED);
+        HOLDS(done.written == sizeof bytes && !memcmp(out, bytes, sizeof bytes));
+        HOLDS(geyserpan_engine_run(&image, bytes, sizeof bytes, out, sizeof out, &report) == GEYSERPAN_OK);
+        HOLDS(report.output == sizeof bytes && !memcmp(out, bytes, sizeof bytes));
     }
+    geyserpan_engine_free(engine);
     geyserpan_run_free(run);
     geyserpan_image_free(image);
     return NULL;
 }
 
-/* Each thread has handles of its own. Then one handle goes from thread to thread, by joins. */
-static void *hand(void *image)
+/* Each thread has handles of its own. Then handles go from thread to thread, by joins. */
+typedef struct {
+    geyserpan_image image;
+    geyserpan_engine engine;
+} handed;
+
+static void *hand(void *handles)
 {
+    handed *given = handles;
     uint8_t bytes[1] = { 'z' }, out[8];
     geyserpan_report report;
-    HOLDS(geyserpan_run_image(image, bytes, 1, out, sizeof out, &report) == GEYSERPAN_OK && out[0] == 'z');
+    geyserpan_done done;
+    HOLDS(geyserpan_run_image(&given->image, bytes, 1, out, sizeof out, &report) == GEYSERPAN_OK && out[0] == 'z');
+    out[0] = 0;
+    HOLDS(geyserpan_engine_step(&given->engine, UINT64_MAX, bytes, 1, 0, out, sizeof out, &done) == GEYSERPAN_WANTS && done.written == 1 && out[0] == 'z');
     return NULL;
 }
 
@@ -335,10 +490,12 @@ static void threads(long count, long runs)
         HOLDS(!pthread_create(&thread[i], NULL, work, (void *)i));
     for (long i = 0; i < count; i++)
         HOLDS(!pthread_join(thread[i], NULL));
-    geyserpan_image image = opened(&all);
+    handed handles = { opened(&all), { NULL } };
+    HOLDS(geyserpan_engine_new(&handles.engine) == GEYSERPAN_OK && geyserpan_engine_begin(&handles.engine, &handles.image) == GEYSERPAN_OK);
     for (long i = 0; i < count; i++)
-        HOLDS(!pthread_create(&thread[0], NULL, hand, &image) && !pthread_join(thread[0], NULL));
-    geyserpan_image_free(image);
+        HOLDS(!pthread_create(&thread[0], NULL, hand, &handles) && !pthread_join(thread[0], NULL));
+    geyserpan_engine_free(handles.engine);
+    geyserpan_image_free(handles.image);
     printf("threads\n");
 }
 
@@ -360,18 +517,26 @@ static void cost(long runs, const char *kind)
     geyserpan_why why;
     geyserpan_done done;
     HOLDS(geyserpan_run_new(&run) == GEYSERPAN_OK && geyserpan_begin(&run, &image) == GEYSERPAN_OK);
-    int is_once = !strcmp(kind, "once"), is_kept = !strcmp(kind, "kept");
+    geyserpan_engine engine;
+    HOLDS(geyserpan_engine_new(&engine) == GEYSERPAN_OK);
+    int is_once = !strcmp(kind, "once"), is_kept = !strcmp(kind, "kept"), is_engine = !strcmp(kind, "engine"), is_begun = !strcmp(kind, "begun");
     double begun = used();
     for (long i = 0; i < runs; i++)
         if (is_once) {
             HOLDS(geyserpan_once(file, file_length, &all, input, input_length, room, sizeof room, &report, &why) == GEYSERPAN_OK);
         } else if (is_kept) {
             HOLDS(geyserpan_run_image(&image, input, input_length, room, sizeof room, &report) == GEYSERPAN_OK);
+        } else if (is_engine) {
+            HOLDS(geyserpan_engine_run(&image, input, input_length, room, sizeof room, &report) == GEYSERPAN_OK);
+        } else if (is_begun) {
+            HOLDS(geyserpan_engine_begin(&engine, &image) == GEYSERPAN_OK);
+            HOLDS(geyserpan_engine_step(&engine, UINT64_MAX, input, input_length, 1, room, sizeof room, &done) == GEYSERPAN_ENDED);
         } else {
             HOLDS(geyserpan_restart(&run, &image) == GEYSERPAN_OK);
             HOLDS(geyserpan_step(&run, UINT64_MAX, input, input_length, 1, room, sizeof room, &done) == GEYSERPAN_ENDED);
         }
     printf("%.2f\n", (used() - begun) / runs);
+    geyserpan_engine_free(engine);
     geyserpan_run_free(run);
     geyserpan_image_free(image);
 }
@@ -402,6 +567,8 @@ int main(int count, char **words)
         once((uint32_t)word(count, words, 3, 8));
     else if (!strcmp(mode, "pieces"))
         pieces((size_t)word(count, words, 3, 1), (size_t)word(count, words, 4, 1), (uint64_t)word(count, words, 5, 1000000));
+    else if (!strcmp(mode, "engine"))
+        engine_pieces((uint32_t)word(count, words, 3, 8), (size_t)word(count, words, 4, 1), (size_t)word(count, words, 5, 1), (uint64_t)word(count, words, 6, 1000000));
     else if (!strcmp(mode, "edges"))
         edges();
     else if (!strcmp(mode, "many"))

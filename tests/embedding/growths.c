@@ -39,6 +39,7 @@ static uint8_t image[4 << 20], source[1 << 20], input[1 << 16], room[1 << 20], w
 static size_t image_length, source_length, input_length;
 static geyserpan_image kept;
 static geyserpan_run run;
+static geyserpan_engine engine;
 static geyserpan_facts facts;
 static geyserpan_report report;
 static geyserpan_why why;
@@ -57,6 +58,41 @@ static uint32_t begins(void)
     if (status == GEYSERPAN_OK && refused < 0)
         geyserpan_end(&run);
     return status;
+}
+
+static uint32_t engine_runs(void) { return geyserpan_engine_run(&kept, input, input_length, room, sizeof room, &report); }
+static uint32_t engine_begins(void)
+{
+    uint32_t status = geyserpan_engine_begin(&engine, &kept);
+    if (status == GEYSERPAN_OK && refused < 0)
+        geyserpan_engine_end(&engine);
+    return status;
+}
+
+/* Refuses each growth that the engine's steps ask for, in turn: a further step goes on, and the output is the same. */
+static long refuse_steps(uint64_t length)
+{
+    for (long count = 0;; count++) {
+        size_t read = 0, written = 0;
+        uint32_t status;
+        refused = -1;
+        HOLDS(geyserpan_engine_begin(&engine, &kept) == GEYSERPAN_OK);
+        asked = 0;
+        refused = count;
+        long refusals = 0;
+        do {
+            status = geyserpan_engine_step(&engine, UINT64_MAX, input + read, input_length - read, 1, room + written, sizeof room - written, &done);
+            read += done.read;
+            written += done.written;
+            refusals += status == GEYSERPAN_MEMORY;
+        } while (status == GEYSERPAN_MEMORY && refusals == 1);
+        HOLDS(status == GEYSERPAN_ENDED && written == length && !memcmp(room, whole, length));
+        HOLDS(refusals == (asked > count));
+        refused = -1;
+        geyserpan_engine_end(&engine);
+        if (!refusals)
+            return count;
+    }
 }
 
 /* Refuses each growth that a call asks for, in turn, until it asks for no more. */
@@ -105,20 +141,29 @@ int main(int count, char **words)
     HOLDS(geyserpan_image_new(&kept) == GEYSERPAN_MEMORY);
     asked = 0;
     HOLDS(geyserpan_run_new(&run) == GEYSERPAN_MEMORY);
+    asked = 0;
+    HOLDS(geyserpan_engine_new(&engine) == GEYSERPAN_MEMORY);
     refused = -1;
-    HOLDS(geyserpan_image_new(&kept) == GEYSERPAN_OK && geyserpan_run_new(&run) == GEYSERPAN_OK);
+    HOLDS(geyserpan_image_new(&kept) == GEYSERPAN_OK && geyserpan_run_new(&run) == GEYSERPAN_OK && geyserpan_engine_new(&engine) == GEYSERPAN_OK);
     HOLDS(onces() == GEYSERPAN_OK);
     uint64_t length = report.output;
     memcpy(whole, room, length);
 
-    long tried[6] = { refuse_each(checks, 0), refuse_each(opens, 0), refuse_each(onces, 1), 0, 0, 0 };
+    long tried[9] = { refuse_each(checks, 0), refuse_each(opens, 0), refuse_each(onces, 1), 0, 0, 0, 0, 0, 0 };
     tried[3] = refuse_each(runs, 1);
     HOLDS(report.output == length && !memcmp(room, whole, length));
     tried[4] = refuse_each(begins, 0);
     geyserpan_end(&run);
-    tried[5] = refuse_each(assembles, 1);
-    for (int i = 0; i < 6; i++)
+    tried[5] = refuse_each(engine_runs, 1);
+    HOLDS(report.output == length && !memcmp(room, whole, length));
+    tried[6] = refuse_each(engine_begins, 0);
+    tried[7] = refuse_steps(length);
+    tried[8] = refuse_each(assembles, 1);
+    long growths = 0;
+    for (int i = 0; i < 9; i++) {
         HOLDS(tried[i] > 0);
+        growths += tried[i];
+    }
     HOLDS(needed == image_length && !memcmp(room, image, image_length));
 
     /* no growth is asked for by what goes on with a board */
@@ -129,7 +174,8 @@ int main(int count, char **words)
     HOLDS(done.written == length && !memcmp(room, whole, length));
     geyserpan_image_free(kept);
     geyserpan_run_free(run);
+    geyserpan_engine_free(engine);
     HOLDS(!blocks);
-    printf("%ld growths\n", tried[0] + tried[1] + tried[2] + tried[3] + tried[4] + tried[5]);
+    printf("%ld growths\n", growths);
     return 0;
 }

@@ -18,7 +18,7 @@ int main(void)
     AT(geyserpan_report, referenced), AT(geyserpan_report, modified), AT(geyserpan_report, exit), AT(geyserpan_report, zero);
     printf("\ndone %zu", sizeof(geyserpan_done));
     AT(geyserpan_done, turns), AT(geyserpan_done, read), AT(geyserpan_done, written), AT(geyserpan_done, exit), AT(geyserpan_done, zero);
-    printf("\nimage %zu\nrun %zu\nblock %zu", sizeof(geyserpan_image), sizeof(geyserpan_run), sizeof(geyserpan_block));
+    printf("\nimage %zu\nrun %zu\nengine %zu\nblock %zu", sizeof(geyserpan_image), sizeof(geyserpan_run), sizeof(geyserpan_engine), sizeof(geyserpan_block));
     AT(geyserpan_block, ok), AT(geyserpan_block, at);
     printf("\n");
     return 0;

@@ -1,4 +1,7 @@
 pub mod Values
 pub mod ImageHandleValues
 pub mod RunHandleValues
+pub mod Fronts
 pub mod SteppedOn
+pub mod EngineSteppedOn
+pub mod EngineHandleValues

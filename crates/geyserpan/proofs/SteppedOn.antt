@@ -1,27 +1,18 @@
 -- A step into the front of a room.
 use Rattle.std.proofs.Common.{◌≡◌, ◌≢◌, ◌-◌, ◌≤◌, ℕ, ◌+◌, Bool, List, Some, refl, ◌++◌, drop, length, take, sym, ap, subst, ◌∙◌, arith, length-append}
-use Rattle.std.proofs.lemmas.List.{take-append-le, drop-append-le}
 use Rattle.sbx_image.specs.Parts.{Parts}
 use Rattle.sbx_session.specs.Going.{Goes, IsAllOf, IsFrontOf}
 use Rattle.sbx_session.specs.Steps.{IsStep, IsVouched, StandsSo}
 use Rattle.sbx_session.specs.declared.session.Stand.{Stand}
 use Rattle.sbx_session.specs.declared.session.Stand.TheVariants.{Ended, Full, Wants}
 use Rattle.sbx_session.specs.declared.session.Step.{Step}
+use Rattle.geyserpan.proofs.Fronts.{behind_same, longer, written_same}
 use Rattle.geyserpan.specs.Goings.{IsGoingOn}
 use Rattle.geyserpan.specs.Runs.{Runs, StepsSo, granted_in}
 use Rattle.geyserpan.specs.declared.run_slot.RunSlot.{RunSlot}
 use Rattle.geyserpan.specs.declared.run_slot.Done.{Done}
 use Rattle.geyserpan.specs.declared.run_slot.Going.{Going}
 use Rattle.geyserpan.specs.declared.statuses.TheConstants.{ENDED, FULL, HANDLE, LOST, OUTPUT, WANTS}
-
-module _ (input front front_after rest : List ℕ) (step : Step) (fits : step.written ≤ length front_after) (long : length front ≡ length front_after) where
-  written_same : take step.written (front_after ++ rest) ≡ take step.written front_after
-  written_same = take-append-le step.written front_after rest fits
-
-  behind_same : drop step.written front_after ≡ drop step.written front → drop step.written (front_after ++ rest) ≡ drop step.written (front ++ rest)
-  behind_same same =
-      let shorter : step.written ≤ length front = subst (λ (k : ℕ). step.written ≤ k) (sym long) fits in
-      drop-append-le step.written front_after rest fits ∙ ap (λ (l : List ℕ). l ++ rest) same ∙ sym (drop-append-le step.written front rest shorter)
 
 -- what the session's step says, of the whole room
 pub stepped_on : (old new : Going) (input before after front front_after rest : List ℕ) (last : Bool) (step : Step) (done : Done) (status : ℕ)
@@ -36,11 +27,11 @@ pub stepped_on : (old new : Going) (input before after front front_after rest : 
     → IsGoingOn old new input before after done status
 stepped_on old new input before after front front_after rest last step done status is was now long read written vouched ended held turns few left wants full cut =
     let takes : take done.written after ≡ take step.written front_after =
-    ap (λ (k : ℕ). take k after) written ∙ ap (λ (l : List ℕ). take step.written l) now ∙ written_same input front front_after rest step is.written long in
+    ap (λ (k : ℕ). take k after) written ∙ ap (λ (l : List ℕ). take step.written l) now ∙ written_same front front_after rest step.written is.written long in
     let reads : take done.read input ≡ take step.read input = ap (λ (k : ℕ). take k input) read in record {
       read = subst (λ (k : ℕ). k ≤ length input) (sym read) is.read;
       written = subst (λ (k : ℕ). k ≤ length after) (sym written) (subst (λ (l : List ℕ). step.written ≤ length l) (sym now) (longer step.written front_after rest is.written));
-      behind = ap (λ (k : ℕ). drop k after) written ∙ ap (λ (l : List ℕ). drop step.written l) now ∙ behind_same input front front_after rest step is.written long is.behind
+      behind = ap (λ (k : ℕ). drop k after) written ∙ ap (λ (l : List ℕ). drop step.written l) now ∙ behind_same front front_after rest step.written is.written long is.behind
           ∙ ap (λ (l : List ℕ). drop step.written l) (sym was) ∙ ap (λ (k : ℕ). drop k before) (sym written);
       goes = λ found parts so_far all g.
           subst (λ (r : List ℕ). Goes 8 parts (so_far ++ r) (all ++ take done.written after) new.session) (sym reads)
@@ -66,9 +57,6 @@ stepped_on old new input before after front front_after rest last step done stat
   where
     stands : (stand : Stand) → step.stand ≡ stand → StandsSo stand input last front_after step
     stands stand same = subst (λ (s : Stand). StandsSo s input last front_after step) same is.stands
-
-    longer : (k : ℕ) (xs ys : List ℕ) → k ≤ length xs → k ≤ length (xs ++ ys)
-    longer k xs ys few = omega (arith, length-append {A = ℕ} xs ys)
 
 one_run : (a b : Going) → Some a ≡ Some b → a ≡ b
 one_run a b is = cc

@@ -5,3 +5,5 @@ pub mod Images
 pub mod Sources
 pub mod Goings
 pub mod Runs
+pub mod Engines
+pub mod EngineReports

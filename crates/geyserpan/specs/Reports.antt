@@ -19,8 +19,8 @@ pub record Tells (finished : Finished) (report : Report) : Type 0 where
   pub modified : report.modified ≡ finished.pages.modified
 
 -- The room begins with the output, and goes on as it was.
-abbrev pub Hands : Finished → List ℕ → List ℕ → Type 0
-Hands finished before after = after ≡ finished.output.items ++ drop (length finished.output.items) before
+abbrev pub Hands : List ℕ → List ℕ → List ℕ → Type 0
+Hands output before after = after ≡ output ++ drop (length output) before
 
 -- The report is of the image's run on this input, on so many windows.
 abbrev pub HasReport : Parts → ℕ → List ℕ → Report → Type 0
@@ -32,7 +32,7 @@ HasReport parts windows input report =
 abbrev pub HasRun : Parts → ℕ → List ℕ → List ℕ → List ℕ → Report → Type 0
 HasRun parts windows input before after report =
     (finished : Finished) × IsAnswer parts windows input finished × KeepsItsDepth parts windows (told_of finished)
-    × Hands finished before after × Tells finished report
+    × Hands finished.output.items before after × Tells finished report
 
 -- ---- of an image that is admitted, run on as many windows as the terms say
 

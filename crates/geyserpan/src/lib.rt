@@ -2,6 +2,10 @@
 #![tactic(auto)]
 
 mod admitting;
+mod engine_exports;
+mod engine_handle;
+mod engine_running;
+mod engine_slot;
 mod facts;
 mod image_exports;
 mod image_handle;

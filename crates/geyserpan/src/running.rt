@@ -1,11 +1,11 @@
 //! Runs whose output goes into room of the caller's. Here alone a run to its end is made.
 ghost use Rattle.std.specs.Prelude.{◌≡◌, ◌≢◌, ◌<◌, ◌≤◌, ℕ, List, length};
 ghost use Rattle.geyserpan.specs.Denials.{HasWindows, IsDenial};
-ghost use Rattle.geyserpan.specs.Reports.{Hands, HasReport, HasRun, IsHandStatus, Tells};
+ghost use Rattle.geyserpan.specs.Reports.{HasReport, HasRun, Tells};
 ghost use Rattle.geyserpan.specs.declared.terms.Terms.{Terms};
 ghost use Rattle.geyserpan.specs.declared.terms.Why.{Why};
 
-use crate::room::put_front;
+use crate::room::hand_on;
 use crate::statuses::{MEMORY, OK, OUTPUT, ROOM, WINDOWS};
 use crate::terms::{Terms, Why};
 use sbx_run::{Accepted, Finished, run_windows};
@@ -42,22 +42,6 @@ fn report_of(finished: &Finished) -> Report
     }
 }
 
-/// Hands the output of a run on, where it is no longer than is granted and the room has place for all of it.
-fn hand_on(finished: &Finished, most: u64, room: &mut [u8]) -> u32
-    ensures handed { result ≡ OK → Hands finished.now room.old room.new }
-    ensures stays { result ≢ OK → room.new ≡ room.old }
-    ensures granted { result ≡ OK → length finished.now.output.items ≤ most }
-    ensures longer { result ≡ OUTPUT → most < length finished.now.output.items }
-    ensures small { result ≡ ROOM → length room.old < length finished.now.output.items }
-    ensures one { IsHandStatus result }
-{
-    let output = finished.output.as_slice();
-    if most < output.len() as u64 {
-        return OUTPUT;
-    }
-    if put_front(room, output) { OK } else { ROOM }
-}
-
 /// Runs an accepted image to its end on the terms' windows, and writes its output to the front of the room.
 pub fn run_into(
     alloc: Global,
@@ -80,7 +64,7 @@ pub fn run_into(
         Some(Err(_fault)) => MEMORY,
         Some(Ok(finished)) => {
             *report = report_of(&finished);
-            hand_on(&finished, terms.output, room)
+            hand_on(finished.output.as_slice(), terms.output, room)
         }
     }
 }

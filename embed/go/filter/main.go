@@ -1,4 +1,4 @@
-// Command filter answers requests by an image that a stranger wrote: filter IMG < REQUESTS
+// Command filter answers requests by an image that a stranger wrote: filter IMG [engine] < REQUESTS
 // Each line of standard input is a request, and standard output takes a line for each.
 package main
 
@@ -10,7 +10,7 @@ import (
 	"geyserpan"
 )
 
-func answer(path string) error {
+func answer(path string, engine bool) error {
 	bytes, err := os.ReadFile(path)
 	if err != nil {
 		return err
@@ -20,10 +20,14 @@ func answer(path string) error {
 		return err
 	}
 	defer image.Close()
+	run := image.Run
+	if engine {
+		run = image.RunOnEngine
+	}
 	room := make([]byte, 4096)
 	out := bufio.NewWriter(os.Stdout)
 	for lines := bufio.NewScanner(os.Stdin); lines.Scan(); {
-		output, _, err := image.Run(lines.Bytes(), room)
+		output, _, err := run(lines.Bytes(), room)
 		if err != nil {
 			return err
 		}
@@ -34,10 +38,10 @@ func answer(path string) error {
 }
 
 func main() {
-	if len(os.Args) != 2 {
+	if len(os.Args) < 2 {
 		os.Exit(3)
 	}
-	if err := answer(os.Args[1]); err != nil {
+	if err := answer(os.Args[1], len(os.Args) > 2 && os.Args[2] == "engine"); err != nil {
 		fmt.Fprintln(os.Stderr, "filter:", err)
 		os.Exit(2)
 	}

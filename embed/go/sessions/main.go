@@ -1,4 +1,4 @@
-// Command sessions converses with many at once, each in a goroutine of its own: sessions IMG COUNT < INPUT
+// Command sessions converses with many at once, each in a goroutine of its own: sessions IMG COUNT [engine] < INPUT
 // Each of COUNT runs is fed standard input, 3 bytes at a time, and gives its output, 2 bytes at a time. Standard output takes the output
 // of the first; that of each other one has to be the same.
 package main
@@ -16,13 +16,13 @@ import (
 )
 
 // converse has an image of its own, since an image is given to one call at a time.
-func converse(data, input []byte) ([]byte, error) {
+func converse(begin func(*geyserpan.Image) (*geyserpan.Run, error), data, input []byte) ([]byte, error) {
 	image, err := geyserpan.Open(data, geyserpan.Terms{Turns: math.MaxUint64, Output: math.MaxUint64, Services: geyserpan.Exit | geyserpan.Get | geyserpan.Put, Windows: 8})
 	if err != nil {
 		return nil, err
 	}
 	defer image.Close()
-	run, err := geyserpan.Begin(image)
+	run, err := begin(image)
 	if err != nil {
 		return nil, err
 	}
@@ -54,7 +54,7 @@ type answer struct {
 	err    error
 }
 
-func all(path string, count int) error {
+func all(path string, count int, engine bool) error {
 	data, err := os.ReadFile(path)
 	if err != nil {
 		return err
@@ -63,10 +63,14 @@ func all(path string, count int) error {
 	if err != nil {
 		return err
 	}
+	begin := geyserpan.Begin
+	if engine {
+		begin = geyserpan.BeginOnEngine
+	}
 	answers := make(chan answer)
 	for i := 0; i < count; i++ {
 		go func() {
-			output, err := converse(data, input)
+			output, err := converse(begin, data, input)
 			answers <- answer{output, err}
 		}()
 	}
@@ -86,14 +90,14 @@ func all(path string, count int) error {
 }
 
 func main() {
-	if len(os.Args) != 3 {
+	if len(os.Args) < 3 {
 		os.Exit(3)
 	}
 	count, err := strconv.Atoi(os.Args[2])
 	if err != nil || count < 1 {
 		os.Exit(3)
 	}
-	if err := all(os.Args[1], count); err != nil {
+	if err := all(os.Args[1], count, len(os.Args) > 3 && os.Args[3] == "engine"); err != nil {
 		fmt.Fprintln(os.Stderr, "sessions:", err)
 		os.Exit(2)
 	}

@@ -1,6 +1,7 @@
 //! Runs machine code that you don't trust inside your own process: safe Rust over libgeyserpan, without dependencies.
 //!
-//! An [`Image`] is checked once, and run often. A [`Session`] is a run in pieces, which never waits.
+//! An [`Image`] is checked once, and run often. A [`Session`] is a run in pieces, which never waits. Both are on boards, or where a host
+//! says so ([`Image::run_on_engine`], [`Session::on_engine`]) on the engine, which has none.
 use std::{fmt, ptr};
 
 mod raw;
@@ -194,11 +195,18 @@ impl Image {
 
     /// Runs it to its end on an input. The output is at the front of the room; where it doesn't fit nothing is written.
     pub fn run(&mut self, input: &[u8], room: &mut [u8]) -> Result<Report, Fault> {
+        self.run_by(raw::geyserpan_run_image, input, room)
+    }
+
+    /// The same on the engine, without a board: the report tells of no pages.
+    pub fn run_on_engine(&mut self, input: &[u8], room: &mut [u8]) -> Result<Report, Fault> {
+        self.run_by(raw::geyserpan_engine_run, input, room)
+    }
+
+    fn run_by(&mut self, call: raw::RunCall, input: &[u8], room: &mut [u8]) -> Result<Report, Fault> {
         let mut report = Report::default();
         // SAFETY: the handle is open, and `&mut self` keeps other calls away.
-        let status = unsafe {
-            raw::geyserpan_run_image(&mut self.handle, input.as_ptr(), input.len(), room.as_mut_ptr(), room.len(), &mut report)
-        };
+        let status = unsafe { call(&mut self.handle, input.as_ptr(), input.len(), room.as_mut_ptr(), room.len(), &mut report) };
         match status {
             0 => Ok(report),
             _ => Err(Fault::of(status, raw::Why::default(), report.output)),
@@ -228,6 +236,8 @@ pub enum Stand {
     Paused,
     /// There is more to put out than is granted: what is granted was put out.
     Output,
+    /// Memory was refused, which is so on the engine alone. Nothing is lost, and a further step goes on.
+    Memory,
 }
 
 /// What a step did: how many bytes of the piece were read, how many stand at the front of the room, the turns of the run so far, and why
@@ -240,9 +250,32 @@ pub struct Step {
     pub stand: Stand,
 }
 
-/// A run in pieces, on a board of 1 MiB that is used again.
+/// The calls of a kind of session.
+struct Calls {
+    new: unsafe extern "C" fn(*mut raw::Handle) -> u32,
+    free: unsafe extern "C" fn(raw::Handle),
+    begin: unsafe extern "C" fn(*mut raw::Handle, *mut raw::Handle) -> u32,
+    step: raw::StepCall,
+}
+
+static BOARD: Calls = Calls {
+    new: raw::geyserpan_run_new,
+    free: raw::geyserpan_run_free,
+    begin: raw::geyserpan_begin,
+    step: raw::geyserpan_step,
+};
+
+static ENGINE: Calls = Calls {
+    new: raw::geyserpan_engine_new,
+    free: raw::geyserpan_engine_free,
+    begin: raw::geyserpan_engine_begin,
+    step: raw::geyserpan_engine_step,
+};
+
+/// A run in pieces, on a board of 1 MiB that is used again, or on the engine.
 pub struct Session {
     handle: raw::Handle,
+    calls: &'static Calls,
 }
 
 // SAFETY: as of `Image`.
@@ -251,18 +284,27 @@ unsafe impl Send for Session {}
 impl Session {
     /// Begins a run of an image on a new board.
     pub fn new(image: &mut Image) -> Result<Session, Fault> {
-        let mut session = Session { handle: raw::Handle { at: ptr::null_mut() } };
+        Session::by(&BOARD, image)
+    }
+
+    /// Begins a run of an image without a board, which counts on as many windows as the image's terms say.
+    pub fn on_engine(image: &mut Image) -> Result<Session, Fault> {
+        Session::by(&ENGINE, image)
+    }
+
+    fn by(calls: &'static Calls, image: &mut Image) -> Result<Session, Fault> {
+        let mut session = Session { handle: raw::Handle { at: ptr::null_mut() }, calls };
         // SAFETY: the handle is this frame's, and is written where the status is 0.
-        match unsafe { raw::geyserpan_run_new(&mut session.handle) } {
+        match unsafe { (calls.new)(&mut session.handle) } {
             0 => session.begin(image).map(|()| session),
             status => Err(Fault::of(status, raw::Why::default(), 0)),
         }
     }
 
-    /// Begins a run of an image on the board that is there; the run that there was is given up.
+    /// Begins a run of an image; the run that there was is given up, and a board used again.
     pub fn begin(&mut self, image: &mut Image) -> Result<(), Fault> {
         // SAFETY: both handles are open, and `&mut` keeps other calls away.
-        match unsafe { raw::geyserpan_begin(&mut self.handle, &mut image.handle) } {
+        match unsafe { (self.calls.begin)(&mut self.handle, &mut image.handle) } {
             0 => Ok(()),
             status => Err(Fault::of(status, raw::Why::default(), 0)),
         }
@@ -273,11 +315,12 @@ impl Session {
         let mut done = raw::Done::default();
         // SAFETY: the handle is open, and `&mut self` keeps other calls away.
         let status = unsafe {
-            raw::geyserpan_step(
+            (self.calls.step)(
                 &mut self.handle, turns, piece.as_ptr(), piece.len(), last.into(), room.as_mut_ptr(), room.len(), &mut done,
             )
         };
         let stand = match status {
+            3 => Stand::Memory,
             8 => Stand::Ended(done.exit),
             9 => Stand::Wants,
             10 => Stand::Full,
@@ -292,8 +335,8 @@ impl Session {
 impl Drop for Session {
     fn drop(&mut self) {
         if !self.handle.at.is_null() {
-            // SAFETY: it came from `geyserpan_run_new`, and ends here.
-            unsafe { raw::geyserpan_run_free(raw::Handle { at: self.handle.at }) }
+            // SAFETY: it came from the `new` of these calls, and ends here.
+            unsafe { (self.calls.free)(raw::Handle { at: self.handle.at }) }
         }
     }
 }

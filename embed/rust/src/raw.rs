@@ -19,11 +19,17 @@ pub struct Done {
     pub zero: u32,
 }
 
-/// `geyserpan_image` and `geyserpan_run`.
+/// `geyserpan_image`, `geyserpan_run` and `geyserpan_engine`.
 #[repr(C)]
 pub struct Handle {
     pub at: *mut u8,
 }
+
+/// `geyserpan_run_image` and `geyserpan_engine_run`.
+pub type RunCall = unsafe extern "C" fn(*mut Handle, *const u8, usize, *mut u8, usize, *mut Report) -> u32;
+
+/// `geyserpan_step` and `geyserpan_engine_step`.
+pub type StepCall = unsafe extern "C" fn(*mut Handle, u64, *const u8, usize, u32, *mut u8, usize, *mut Done) -> u32;
 
 extern "C" {
     pub fn geyserpan_abi() -> u32;
@@ -44,5 +50,14 @@ extern "C" {
     pub fn geyserpan_begin(run: *mut Handle, image: *mut Handle) -> u32;
     pub fn geyserpan_step(
         run: *mut Handle, turns: u64, input: *const u8, input_length: usize, last: u32, room: *mut u8, room_length: usize, done: *mut Done,
+    ) -> u32;
+    pub fn geyserpan_engine_run(
+        image: *mut Handle, input: *const u8, input_length: usize, room: *mut u8, room_length: usize, report: *mut Report,
+    ) -> u32;
+    pub fn geyserpan_engine_new(engine: *mut Handle) -> u32;
+    pub fn geyserpan_engine_free(engine: Handle);
+    pub fn geyserpan_engine_begin(engine: *mut Handle, image: *mut Handle) -> u32;
+    pub fn geyserpan_engine_step(
+        engine: *mut Handle, turns: u64, input: *const u8, input_length: usize, last: u32, room: *mut u8, room_length: usize, done: *mut Done,
     ) -> u32;
 }

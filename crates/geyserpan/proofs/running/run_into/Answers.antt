@@ -1,17 +1,22 @@
-use Rattle.std.proofs.Common.{arith, rules}
+use Rattle.std.proofs.Common.{ℕ, List, ap, subst, length, arith, rules}
+use Rattle.geyserpan.specs.Reports.{Hands}
 use Rattle.geyserpan.proofs.running.run_into.Goals as goal
 
 pub returns-in-Some-Ok-clause-ran : goal.returns-in-Some-Ok-clause-ran
-returns-in-Some-Ok-clause-ran c = λ done. (c.in-Some-Ok.finished, search rules, search rules, c.hand_on.ensures.handed done, c.report_of.ensures)
+returns-in-Some-Ok-clause-ran c = λ done.
+    let handed = subst (λ (l : List ℕ). Hands l c.args.room.now c.hand_on.new.room) c.as_slice.ensures.value (c.hand_on.ensures.handed done) in
+    (c.in-Some-Ok.finished, search rules, search rules, handed, c.report_of.ensures)
 
 pub returns-in-Some-Ok-clause-longer : goal.returns-in-Some-Ok-clause-longer
 returns-in-Some-Ok-clause-longer c = λ is.
     let more = c.hand_on.ensures.longer is in
     let told = c.report_of.ensures.output in
-    ((c.in-Some-Ok.finished, search rules, search rules, c.report_of.ensures), omega (arith, more, told))
+    let same = ap (λ (l : List ℕ). length l) c.as_slice.ensures.value in
+    ((c.in-Some-Ok.finished, search rules, search rules, c.report_of.ensures), omega (arith, more, told, same))
 
 pub returns-in-Some-Ok-clause-small : goal.returns-in-Some-Ok-clause-small
 returns-in-Some-Ok-clause-small c = λ is.
     let more = c.hand_on.ensures.small is in
     let told = c.report_of.ensures.output in
-    ((c.in-Some-Ok.finished, search rules, search rules, c.report_of.ensures), omega (arith, more, told))
+    let same = ap (λ (l : List ℕ). length l) c.as_slice.ensures.value in
+    ((c.in-Some-Ok.finished, search rules, search rules, c.report_of.ensures), omega (arith, more, told, same))

@@ -1,0 +1,97 @@
+//! What the handle of a run in pieces on the engine holds.
+ghost use Rattle.std.specs.Prelude.{◌≡◌, ◌≢◌, ◌<◌, ◌≤◌};
+
+use crate::image_slot::Kept;
+use crate::run_slot::Done;
+use crate::statuses::{ENDED, FULL, HANDLE, LOST, MEMORY, OK, OUTPUT, PAUSED, WANTS, WINDOWS};
+use crate::terms::LEAST_WINDOWS;
+use sbx_paced::{Paced, Stand};
+use std::alloc::Global;
+
+/// A run that counts on as many windows as its image's terms say, and how many bytes of output it is still granted.
+#[derive(Drop)]
+pub struct EngineRun {
+    pub paced: Paced,
+    pub granted: u64,
+}
+
+/// A run, or none.
+#[derive(Drop)]
+pub struct EngineSlot {
+    pub run: Option<EngineRun>,
+}
+
+/// The status of a step, and the exit word; the step might write so many bytes of so much room.
+fn status_of(stand: Stand, most: usize, room: usize) -> (u32, u32)
+    ensures ended { result.0 ≡ ENDED → stand ≡ Stand.Ended result.1 }
+    ensures wants { result.0 ≡ WANTS → stand ≡ Stand.Wants }
+    ensures full { result.0 ≡ FULL → (stand ≡ Stand.Full) × (room ≤ most) }
+    ensures cut { result.0 ≡ OUTPUT → (stand ≡ Stand.Full) × (most < room) }
+    ensures paused { result.0 ≡ PAUSED → stand ≡ Stand.Paused }
+    ensures lost { result.0 ≡ LOST → stand ≡ Stand.Lost }
+    ensures holds { result.0 ≢ HANDLE }
+{
+    match stand {
+        Stand::Ended(word) => (ENDED, word),
+        Stand::Wants => (WANTS, 0),
+        Stand::Full => (if most < room { OUTPUT } else { FULL }, 0),
+        Stand::Paused => (PAUSED, 0),
+        Stand::Refused(_want) => (MEMORY, 0),
+        Stand::Lost => (LOST, 0),
+    }
+}
+
+impl EngineRun {
+    ghost use Rattle.geyserpan.specs.Engines.{GoesOn};
+
+    /// Goes on with the run, and writes at most as many bytes as it is still granted.
+    pub fn step(
+        &mut self,
+        turns: u64,
+        input: &[u8],
+        last: bool,
+        room: &mut [u8],
+        done: &mut Done,
+    ) -> u32
+        ensures { GoesOn self.old self.new turns input.now last room.old room.new done.new result }
+    {
+        let most = room.len().min(self.granted as usize);
+        let size = room.len();
+        let (front, _behind) = room.split_at_mut(most);
+        let step = self.paced.step(turns, input, last, front);
+        self.granted = self.granted.saturating_sub(step.written as u64);
+        let (status, exit) = status_of(step.stand, most, size);
+        *done = Done {
+            turns: self.paced.counts().turns,
+            read: step.read as u64,
+            written: step.written as u64,
+            exit,
+            zero: 0,
+        };
+        status
+    }
+}
+
+impl EngineSlot {
+    ghost use Rattle.geyserpan.specs.Engines.{Begins};
+
+    /// Begins a run of a kept image, in the place of the one that there is.
+    pub fn begin(&mut self, alloc: Global, kept: &Kept) -> u32
+        ensures begun { result ≡ OK → Begins kept.now self.new }
+        ensures stays { result ≢ OK → self.new ≡ self.old }
+    {
+        if kept.terms.windows < LEAST_WINDOWS {
+            return WINDOWS;
+        }
+        match Paced::new(alloc, &kept.accepted, kept.terms.windows) {
+            Ok(paced) => {
+                self.run = Some(EngineRun {
+                    paced,
+                    granted: kept.terms.output,
+                });
+                OK
+            }
+            Err(_refused) => MEMORY,
+        }
+    }
+}
