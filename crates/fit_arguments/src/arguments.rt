@@ -166,13 +166,13 @@ impl Arguments {
         })
     }
 
-    /// The object of a function's arguments.
-    fn place(&mut self, layout: &mut Layout, function: usize) -> Result<usize, Fault> {
+    /// The object of a function's arguments, which a line asks for.
+    fn place(&mut self, layout: &mut Layout, function: usize, line: Line) -> Result<usize, Fault> {
         if let Some(Some(object)) = self.places.get(function) {
             return Ok(*object);
         }
         let name = format!(in layout.alloc; "arguments of function {function}")?;
-        let object = layout.add_zeros(name, BYTES)?;
+        let object = layout.add_zeros(name, BYTES, line)?;
         if let Some(place) = self.places.get_mut(function) {
             *place = Some(object);
         }
@@ -263,14 +263,14 @@ fn push_placed(
     };
     match argument_of(function, own, place, step) {
         Ok(Some((callee, offset))) => {
-            let object = arguments.place(layout, callee)?;
+            let object = arguments.place(layout, callee, step.line)?;
             return push_access(layout, object, offset, step, out);
         }
         Ok(None) => {}
         Err(()) => return Err(refused(points, step.line)),
     }
     if let Some(offset) = address_of_own(function, step) {
-        let object = arguments.place(layout, own)?;
+        let object = arguments.place(layout, own, step.line)?;
         return push_address(layout, object, offset, step, destination(step), out);
     }
     Ok(push_step(out, *step)?)

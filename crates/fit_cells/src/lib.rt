@@ -4,6 +4,7 @@
 
 mod cells;
 mod compared;
+mod order;
 mod run;
 mod shape;
 mod thresholds;

@@ -1,6 +1,7 @@
 //! The shape of a function, for who goes along its ways.
+use crate::order::{order_by_loops, stretches_of};
 use fit_code::Function;
-use fit_graph::{Order, order_of, successors_in};
+use fit_graph::{Order, successors_in};
 use fit_live::Locations;
 use std::alloc::{AllocError, Global};
 
@@ -8,6 +9,8 @@ use std::alloc::{AllocError, Global};
 #[derive(Drop)]
 pub struct Shape {
     pub order: Order,
+    /// The places of the order where a stretch begins: ways lead back within one alone.
+    pub stretches: Vec<usize>,
     /// Of each block, the ways that lead to it, by `way_of`.
     pub sources: Vec<Vec<usize>>,
     /// Of each block, whether a way leads back to it.
@@ -73,11 +76,13 @@ fn heads_of(alloc: Global, function: &Function, order: &Order) -> Result<Vec<boo
 impl Shape {
     /// The shape of a function, of whose blocks this is live.
     pub fn of(alloc: Global, function: &Function, live: &[Locations]) -> Result<Shape, AllocError> {
-        let order = order_of(alloc, function)?;
+        let order = order_by_loops(alloc, function)?;
+        let stretches = stretches_of(alloc, function, &order)?;
         let heads = heads_of(alloc, function, &order)?;
         let sources = sources_of(alloc, function)?;
         Ok(Shape {
             order,
+            stretches,
             sources,
             heads,
             live: listed(alloc, live)?,

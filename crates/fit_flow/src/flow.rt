@@ -10,6 +10,7 @@ use fit_live::Locations;
 use sbx_domain::State;
 use sbx_range::{Cell, Range, all};
 use std::alloc::{AllocError, Global};
+use std::mem;
 
 /// A loop's head is widened to thresholds from the third change of its cells on, and any block at once to all words from this one on.
 const PATIENCE: u32 = 400;
@@ -62,8 +63,9 @@ pub struct Flow {
     narrowings: Vec<u32>,
     /// By the places of the order, the blocks that are to be visited.
     pending: Vec<bool>,
-    /// No place before this one is to be visited.
+    /// The places of the stretch that is looked at, from where on one may be to be visited to behind the last one.
     first: usize,
+    end: usize,
     /// Calls to which control comes.
     pub calls: Vec<Call>,
     /// What returns leave in %o0, %o1, ..; nothing where no return is reached.
@@ -113,6 +115,14 @@ fn calls(step: &Step) -> bool {
     step.callee.is_some()
 }
 
+/// A way out of a stretch, the block that it leads to, and what was known where it ends.
+#[derive(Drop)]
+struct Exit {
+    way: usize,
+    to: usize,
+    cells: Option<Vec<Cell>>,
+}
+
 impl Flow {
     /// Nothing is known of a function's blocks, all of which are to be visited.
     pub fn new(alloc: Global, function: &Function, live: &[Locations]) -> Result<Flow, AllocError> {
@@ -123,11 +133,12 @@ impl Flow {
             narrowings: Vec::new(alloc),
             pending: Vec::new(alloc),
             first: 0,
+            end: 0,
             calls: Vec::new(alloc),
             returned: None,
         };
         flow.extend(alloc, function)?;
-        flow.forget(alloc, function, &[0])?;
+        flow.revisit(&[0]);
         Ok(flow)
     }
 
@@ -140,7 +151,6 @@ impl Flow {
             self.narrowings.push(0)?;
         }
         self.pending = vec![in alloc; false; self.shape.order.blocks.len()]?;
-        self.first = 0;
         Ok(())
     }
 
@@ -154,9 +164,9 @@ impl Flow {
         }
     }
 
-    /// The first block that is to be visited.
+    /// The first block of the stretch that is to be visited.
     fn next(&mut self) -> Option<usize> {
-        for place in self.first..self.pending.len() {
+        for place in self.first..self.end {
             if let Some(pending) = self.pending.get_mut(place)
                 && *pending
             {
@@ -165,7 +175,7 @@ impl Flow {
                 return self.shape.order.blocks.get(place).copied();
             }
         }
-        self.first = self.pending.len();
+        self.first = self.end;
         None
     }
 
@@ -188,36 +198,40 @@ impl Flow {
         self.mark(block);
     }
 
-    /// Forgets what is known of some blocks and of all that can be reached from there: they are to be visited.
-    pub fn forget(
-        &mut self,
-        alloc: Global,
-        function: &Function,
-        starts: &[usize],
-    ) -> Result<(), AllocError> {
-        let mut seen = vec![in alloc; false; function.blocks.len()]?;
-        let mut open = Vec::from_slice(alloc, starts)?;
-        // A block is seen once, and has two ways.
-        for _ in 0..function
-            .blocks
-            .len()
-            .saturating_mul(2)
-            .saturating_add(starts.len())
-        {
-            let Some(block) = open.pop() else {
-                break;
-            };
-            if let Some(is_seen) = seen.get_mut(block)
-                && !*is_seen
-            {
-                *is_seen = true;
-                self.forget_block(block);
-                for to in successors_in(function, block).into_iter().flatten() {
-                    open.push(to)?;
-                }
+    /// Some blocks are to be visited again: with the loops around them, and what stands behind these as far as what comes there changes.
+    pub fn revisit(&mut self, blocks: &[usize]) {
+        for block in blocks {
+            self.mark(*block);
+        }
+    }
+
+    /// The blocks to which other ways lead than in another shape, and those from which ways lead to where other locations are live.
+    fn mark_reshaped(&mut self, before: &Shape) {
+        for block in 0..self.shape.sources.len() {
+            if self.shape.sources.get(block) != before.sources.get(block) {
+                self.mark(block);
+            }
+            if self.shape.live.get(block) != before.live.get(block) {
+                self.mark_sources(block);
             }
         }
-        Ok(())
+    }
+
+    /// The blocks from which ways lead to a block are to be visited.
+    fn mark_sources(&mut self, block: usize) {
+        let count = self
+            .shape
+            .sources
+            .get(block)
+            .map_or(0, |sources| sources.len());
+        for place in 0..count {
+            if let Some(sources) = self.shape.sources.get(block)
+                && let Some(way) = sources.get(place)
+            {
+                let from = *way / 2;
+                self.mark(from);
+            }
+        }
     }
 
     /// Takes over a function whose blocks `changed` are others than before, and at whose blocks other locations may be live.
@@ -229,19 +243,11 @@ impl Flow {
         changed: &[usize],
     ) -> Result<(), AllocError> {
         let shape = Shape::of(alloc, function, live)?;
-        let mut starts = Vec::from_slice(alloc, changed)?;
-        for (block, list) in self.shape.live.iter().enumerate() {
-            if shape.live.get(block) != Some(list)
-                && let Some(sources) = shape.sources.get(block)
-            {
-                for way in sources {
-                    starts.push(*way / 2)?;
-                }
-            }
-        }
-        self.shape = shape;
+        let before = mem::replace(&mut self.shape, shape);
         self.extend(alloc, function)?;
-        self.forget(alloc, function, starts.as_slice())
+        self.mark_reshaped(&before);
+        self.revisit(changed);
+        Ok(())
     }
 
     /// What is known where a block begins; nothing where no way comes there.
@@ -299,6 +305,18 @@ impl Flow {
         Ok(cells)
     }
 
+    /// A block is to be visited, if it stands in the stretch that is looked at.
+    fn mark_near(&mut self, block: usize) {
+        let is_near = self
+            .shape
+            .order
+            .place(block)
+            .is_some_and(|place| place < self.end);
+        if is_near {
+            self.mark(block);
+        }
+    }
+
     /// Goes along each way of a block; where what is known at its end changes, the block there is to be visited.
     fn leave(
         &mut self,
@@ -315,7 +333,7 @@ impl Flow {
                     None
                 };
                 if replace(&mut self.known.ways, way_of(block, way), found) {
-                    self.mark(to);
+                    self.mark_near(to);
                 }
             }
         }
@@ -371,7 +389,7 @@ impl Flow {
         thresholds: &Thresholds,
         state: &mut State,
     ) -> Result<(), Fault> {
-        let most = self.pending.len().saturating_add(1).saturating_mul(2_000);
+        let most = self.end.saturating_add(1).saturating_mul(2_000);
         for _ in 0..most {
             let Some(block) = self.next() else {
                 return Ok(());
@@ -394,14 +412,19 @@ impl Flow {
         ))
     }
 
-    /// Visits each block a few times more, where cells get narrower.
-    fn descend(&mut self, setting: &Setting, state: &mut State) -> Result<(), AllocError> {
-        for place in 0..self.shape.order.blocks.len() {
+    /// Visits each block of the stretch from a place on a few times more, where cells get narrower.
+    fn descend(
+        &mut self,
+        setting: &Setting,
+        start: usize,
+        state: &mut State,
+    ) -> Result<(), AllocError> {
+        for place in start..self.end {
             if let Some(block) = self.shape.order.blocks.get(place).copied() {
                 self.mark(block);
             }
         }
-        let most = self.pending.len().saturating_mul(16);
+        let most = self.end.saturating_mul(16);
         for _ in 0..most {
             let Some(block) = self.next() else {
                 return Ok(());
@@ -418,10 +441,12 @@ impl Flow {
         Ok(())
     }
 
-    /// Marks the blocks whose cells don't hold all that comes along their ways.
-    fn mark_broken(&mut self) {
-        for block in 0..self.changes.len() {
-            if !self.known.holds(&self.shape, block) {
+    /// Marks the blocks of the stretch from a place on whose cells don't hold all that comes along their ways.
+    fn mark_broken(&mut self, start: usize) {
+        for place in start..self.end {
+            if let Some(block) = self.shape.order.blocks.get(place).copied()
+                && !self.known.holds(&self.shape, block)
+            {
                 self.mark(block);
             }
         }
@@ -472,6 +497,79 @@ impl Flow {
         Ok(())
     }
 
+    /// Adds the ways of a block that lead out of the stretch, with what is known where they end, which is forgotten.
+    fn add_exits(
+        &mut self,
+        function: &Function,
+        block: usize,
+        exits: &mut Vec<Exit>,
+    ) -> Result<(), AllocError> {
+        for (number, to) in successors_in(function, block).into_iter().enumerate() {
+            if let Some(to) = to
+                && self
+                    .shape
+                    .order
+                    .place(to)
+                    .is_some_and(|place| place >= self.end)
+            {
+                let way = way_of(block, number);
+                let cells = self.known.take_way(way);
+                exits.push(Exit { way, to, cells })?;
+            }
+        }
+        Ok(())
+    }
+
+    /// Forgets what is known of the blocks of the stretch from a place on, all of which are to be visited; gives the ways out of it.
+    fn begin_stretch(&mut self, setting: &Setting, start: usize) -> Result<Vec<Exit>, AllocError> {
+        let mut exits = Vec::new(setting.alloc);
+        for place in start..self.end {
+            if let Some(block) = self.shape.order.blocks.get(place).copied() {
+                self.add_exits(setting.function, block, &mut exits)?;
+                self.forget_block(block);
+            }
+        }
+        Ok(exits)
+    }
+
+    /// Finds the ranges of a stretch anew, by what comes into it; where something else comes out of it than before, that is to be visited.
+    fn settle_stretch(
+        &mut self,
+        setting: &Setting,
+        thresholds: &Thresholds,
+        (start, end): (usize, usize),
+        state: &mut State,
+    ) -> Result<(), Fault> {
+        self.first = start;
+        self.end = end;
+        let exits = self.begin_stretch(setting, start)?;
+        self.ascend(setting, thresholds, state)?;
+        self.descend(setting, start, state)?;
+        self.mark_broken(start);
+        self.ascend(setting, thresholds, state)?;
+        for exit in exits {
+            if self.known.differs(exit.way, &exit.cells) {
+                self.mark(exit.to);
+            }
+        }
+        Ok(())
+    }
+
+    /// Where the stretch of a number begins, and where it ends; nothing if nothing of it is to be visited.
+    fn pending_stretch(&self, number: usize) -> Option<(usize, usize)> {
+        let start = self.shape.stretches.get(number).copied()?;
+        let end = match self.shape.stretches.get(number.saturating_add(1)) {
+            Some(next) => *next,
+            None => self.pending.len(),
+        };
+        let pending = self.pending.get(start..end)?;
+        if pending.iter().any(|pending| *pending) {
+            Some((start, end))
+        } else {
+            None
+        }
+    }
+
     /// Finds the ranges, by what is to be visited.
     pub fn settle(&mut self, setting: &Setting, state: &mut State) -> Result<(), Fault> {
         let thresholds = thresholds_of(
@@ -480,10 +578,11 @@ impl Flow {
             setting.function,
             setting.params,
         )?;
-        self.ascend(setting, &thresholds, state)?;
-        self.descend(setting, state)?;
-        self.mark_broken();
-        self.ascend(setting, &thresholds, state)?;
+        for number in 0..self.shape.stretches.len() {
+            if let Some(stretch) = self.pending_stretch(number) {
+                self.settle_stretch(setting, &thresholds, stretch, state)?;
+            }
+        }
         self.summarize(setting, state)?;
         Ok(())
     }

@@ -28,13 +28,18 @@ fn at(list: &[Option<Vec<Cell>>], place: usize) -> Option<&[Cell]> {
     }
 }
 
-/// Puts cells in the place of others, if they aren't the same. Says whether they aren't.
-pub fn replace(list: &mut Vec<Option<Vec<Cell>>>, place: usize, new: Option<Vec<Cell>>) -> bool {
-    let is_same = match (at(list.as_slice(), place), &new) {
+/// Whether what stands at a place of a list is the same as this.
+fn is_at(list: &[Option<Vec<Cell>>], place: usize, cells: &Option<Vec<Cell>>) -> bool {
+    match (at(list, place), cells) {
         (Some(old), Some(new)) => are_same(old, new.as_slice()),
         (None, None) => true,
         _ => false,
-    };
+    }
+}
+
+/// Puts cells in the place of others, if they aren't the same. Says whether they aren't.
+pub fn replace(list: &mut Vec<Option<Vec<Cell>>>, place: usize, new: Option<Vec<Cell>>) -> bool {
+    let is_same = is_at(list.as_slice(), place, &new);
     if !is_same && let Some(slot) = list.get_mut(place) {
         *slot = new;
     }
@@ -64,6 +69,19 @@ impl Known {
     /// Whether a way can be gone.
     pub fn is_open(&self, way: usize) -> bool {
         at(self.ways.as_slice(), way).is_some()
+    }
+
+    /// Forgets what is known where a way ends, and gives it.
+    pub fn take_way(&mut self, way: usize) -> Option<Vec<Cell>> {
+        match self.ways.get_mut(way) {
+            Some(slot) => slot.take(),
+            None => None,
+        }
+    }
+
+    /// Whether something else is known where a way ends.
+    pub fn differs(&self, way: usize, cells: &Option<Vec<Cell>>) -> bool {
+        !is_at(self.ways.as_slice(), way, cells)
     }
 
     /// What the ways have in common that lead to a block from blocks before a place of the order; nothing where none of them can be gone.

@@ -157,7 +157,7 @@ fn move_frame(
 ) -> Result<(), Fault> {
     let name = function.name.as_str();
     let name = format!(in layout.alloc; "frame of {name}")?;
-    let object = layout.add_zeros(name, size as usize)?;
+    let object = layout.add_zeros(name, size as usize, points.line)?;
     make_static(points, function, layout, object, size)?;
     if function.framed {
         function.frame = SAVE_AREA;

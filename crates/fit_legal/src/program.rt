@@ -164,23 +164,30 @@ fn copy_of(alloc: Global, files: &[String]) -> Result<Vec<String>, AllocError> {
     Ok(copies)
 }
 
+/// A fault at the first function beyond those that an image may have.
+fn check_count(source: &Source, order: &[usize]) -> Result<(), Fault> {
+    let Some(number) = order.get(FUNCTIONS) else {
+        return Ok(());
+    };
+    let line = source.codes.get(*number).map_or(NO_LINE, |code| code.line);
+    let reason = Reason::TooMany {
+        what: "functions",
+        most: 256,
+    };
+    Err(Fault::new(line, reason))
+}
+
 /// The program that a source is, from the global function `entry` on.
 ///
 /// # Errors
 /// What can't be made legal, with its line: recursion; a call or a jump through a register; the address of a
 /// function; an array whose size isn't constant; an instruction that sandboxed code may not have; a name that
-/// stands nowhere; a form that compilers don't write.
+/// stands nowhere; a form that compilers don't write; more functions, or bytes of data, than an image may have.
 pub fn program_of(alloc: Global, source: &Source, entry: &str) -> Result<Program, Fault> {
     let linked = links_of(alloc, source)?;
     let layout = layout_of(alloc, source, &linked)?;
     let order = order_of_calls(alloc, source, &linked, entry)?;
-    if order.len() > FUNCTIONS {
-        let reason = Reason::TooMany {
-            what: "functions",
-            most: 256,
-        };
-        return Err(Fault::new(NO_LINE, reason));
-    }
+    check_count(source, order.as_slice())?;
     let places = places_of(alloc, order.as_slice(), source.codes.len())?;
     let arguments = Arguments::new(alloc, source.codes.len())?;
     let mut legal = Legal {

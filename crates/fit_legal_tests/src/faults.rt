@@ -2,7 +2,7 @@
 use crate::told::are_told;
 
 /// What stands behind `main:` in the fourth line, and why there is no program.
-static REFUSED: [(&str, &str); 19] = [
+static REFUSED: [(&str, &str); 20] = [
     (
         " save %sp,-96,%sp\n call main\n nop\n ret\n restore",
         "t.s:6: recursion: main calls main",
@@ -81,6 +81,11 @@ static REFUSED: [(&str, &str); 19] = [
     (
         " quux %o0\n retl\n nop",
         "t.s:5: the instruction quux isn't known, or can't be used here",
+    ),
+    // As many bytes as an image's data may have, without room around them.
+    (
+        " retl\n nop\n.section \".bss\"\n.align 8\nsmall:\n .skip 8\nlarge:\n .skip 262136",
+        "t.s:11: more than 262144 bytes of data",
     ),
 ];
 

@@ -26,11 +26,6 @@ const LEAST: u64 = 10_000;
 /// As often as blocks are placed: each time tests may have been added.
 const PLACINGS: u32 = 8;
 
-/// The most lines of a source, and its most bytes.
-const LINES: u64 = 1_000_000;
-
-const BYTES: u64 = 16_777_216;
-
 /// How a program is fitted.
 #[derive(Clone, Copy)]
 pub struct Plan {
@@ -183,27 +178,6 @@ fn fit(
     })
 }
 
-/// A fault where a source has more of something than it may.
-fn check_count(what: &'static str, count: usize, most: u64) -> Result<(), Fault> {
-    let count = count as u64;
-    if count > most {
-        return Err(Fault::new(NO_LINE, Reason::TooGreat { what, count, most }));
-    }
-    Ok(())
-}
-
-/// Whether a source is one that the assembler reads.
-fn check_text(text: &str) -> Result<(), Fault> {
-    let mut lines: usize = 0;
-    for byte in text.as_bytes() {
-        if *byte == b'\n' {
-            lines = lines.saturating_add(1);
-        }
-    }
-    check_count("the lines of the source", lines, LINES)?;
-    check_count("the bytes of the source", text.len(), BYTES)
-}
-
 /// Makes an annotated source of a program. What a step leaves known in its place it leaves known in a slot, so that
 /// the ranges stay.
 pub fn make(alloc: Global, program: Program, plan: Plan) -> Result<Made, Fault> {
@@ -222,7 +196,6 @@ pub fn make(alloc: Global, program: Program, plan: Plan) -> Result<Made, Fault> 
     };
     let mut text = String::new(alloc);
     push_source(alloc, &mut text, &program, &notes)?;
-    check_text(text.as_str())?;
     Ok(Made {
         program,
         tests,

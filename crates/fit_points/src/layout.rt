@@ -29,11 +29,11 @@ fn multiple_from(least: u32, number: u32) -> u32 {
     }
 }
 
-/// A fault where data would end behind what an image may have.
-fn check_end(end: u32) -> Result<(), Fault> {
+/// A fault at a line where data would end behind what an image may have.
+fn check_end(end: u32, line: Line) -> Result<(), Fault> {
     if end.saturating_add(TAIL) > DATA + MOST {
         return Err(Fault::new(
-            NO_LINE,
+            line,
             Reason::TooMany {
                 what: "bytes of data",
                 most: u64::from(MOST),
@@ -54,8 +54,9 @@ pub struct Layout {
     constants: Option<Region>,
     /// Where the region begins that objects are added to.
     start: u32,
-    /// Where the last object ends.
+    /// Where the last object ends, and the line that it was added for.
     end: u32,
+    line: Line,
 }
 
 impl Layout {
@@ -68,22 +69,27 @@ impl Layout {
             constants: None,
             start: DATA,
             end: DATA + HEAD,
+            line: NO_LINE,
         }
     }
 
-    /// Adds an object; gives its number.
+    /// Adds an object for a line; gives its number.
+    ///
+    /// # Errors
+    /// At the line, where it would end behind what an image may have.
     pub fn add(
         &mut self,
         name: String,
         readonly: bool,
         align: u32,
         bytes: Vec<u8>,
+        line: Line,
     ) -> Result<usize, Fault> {
         let align = align.max(8);
         let start = multiple_from(self.end.saturating_add(PAD), align);
         let length = u32::try_from(bytes.len()).unwrap_or(u32::MAX);
         let end = start.saturating_add(length);
-        check_end(end)?;
+        check_end(end, line)?;
         let number = self.objects.len();
         self.objects.push(Object {
             name,
@@ -93,13 +99,17 @@ impl Layout {
             start,
         })?;
         self.end = end;
+        self.line = line;
         Ok(number)
     }
 
-    /// Adds an object of zeros.
-    pub fn add_zeros(&mut self, name: String, bytes: usize) -> Result<usize, Fault> {
+    /// Adds an object of zeros for a line.
+    ///
+    /// # Errors
+    /// As `add`.
+    pub fn add_zeros(&mut self, name: String, bytes: usize, line: Line) -> Result<usize, Fault> {
         let bytes = vec![in self.alloc; 0; bytes]?;
-        self.add(name, false, 8, bytes)
+        self.add(name, false, 8, bytes, line)
     }
 
     /// The address of an object plus a number, as a word.
@@ -129,7 +139,7 @@ impl Layout {
             self.end = self.start.saturating_add(HEAD);
             self.constants = Some(region);
         }
-        check_end(self.end)
+        check_end(self.end, self.line)
     }
 
     /// The regions that all objects lie in, by their addresses: that of the constants, where there are some, and the
@@ -189,14 +199,14 @@ pub fn object_of(
     }
 }
 
-/// Adds an object of the source; gives its number.
+/// Adds an object of the source, for the line where its name stands first; gives its number.
 fn add_datum(source: &Source, datum: &Datum, layout: &mut Layout) -> Result<usize, Fault> {
-    let name = match source.symbols.get(datum.symbol) {
-        Some(symbol) => symbol.name.clone()?,
-        None => String::new(source.alloc),
+    let (name, line) = match source.symbols.get(datum.symbol) {
+        Some(symbol) => (symbol.name.clone()?, symbol.line),
+        None => (String::new(source.alloc), NO_LINE),
     };
     let bytes = datum.bytes.clone()?;
-    layout.add(name, datum.readonly, datum.align, bytes)
+    layout.add(name, datum.readonly, datum.align, bytes, line)
 }
 
 /// Adds the objects of the source that are constants, or those that aren't.

@@ -154,7 +154,7 @@ impl Ranges {
                 *params = given;
             }
             if let Some(flow) = self.flows.get_mut(number) {
-                flow.forget(self.alloc, function, &[0])?;
+                flow.revisit(&[0]);
             }
         }
         Ok(())
@@ -223,21 +223,21 @@ impl Ranges {
             if let Some(results) = self.results.get_mut(number) {
                 *results = found;
             }
-            self.forget_calls(program, number)?;
+            self.revisit_calls(number)?;
         }
         Ok(is_new)
     }
 
     /// The blocks that call a function are to be looked at again.
-    fn forget_calls(&mut self, program: &Program, callee: usize) -> Result<(), AllocError> {
-        for (flow, function) in self.flows.iter_mut().zip(&program.functions) {
+    fn revisit_calls(&mut self, callee: usize) -> Result<(), AllocError> {
+        for flow in self.flows.iter_mut() {
             let mut blocks = Vec::new(self.alloc);
             for call in &flow.calls {
                 if call.callee == callee {
                     blocks.push(call.block)?;
                 }
             }
-            flow.forget(self.alloc, function, blocks.as_slice())?;
+            flow.revisit(blocks.as_slice());
         }
         Ok(())
     }

@@ -1,9 +1,10 @@
 //! The functions of a source.
 use crate::annotations::{Annotations, BlockNotes, FunctionNotes};
 use crate::data::push_data;
+use crate::length::Length;
 use crate::lines::{Told, push_slot};
 use crate::names::names_of;
-use fit_code::{Block, End, Function, Program, Step};
+use fit_code::{Block, End, Fault, Function, Line, NO_LINE, Program, Step};
 use sbx_declare::{Bounds, Location};
 use std::alloc::{AllocError, Global};
 use v8_formats::{Instr, Operand};
@@ -177,15 +178,25 @@ fn push_function_head(
     Ok(())
 }
 
-/// A function.
+/// The line of a block, or of its function where it has none.
+fn line_of(function: &Function, block: &Block) -> Line {
+    if block.line == NO_LINE {
+        function.line
+    } else {
+        block.line
+    }
+}
+
+/// A function, behind a source of some length.
 fn push_function(
     out: &mut String,
+    length: &mut Length,
     told: &mut Told<'_>,
     names: &[String],
     name: &str,
     function: &Function,
     notes: &FunctionNotes,
-) -> Result<(), AllocError> {
+) -> Result<(), Fault> {
     push_function_head(out, name, function, notes)?;
     for (number, block) in function.blocks.iter().enumerate() {
         let place = Place {
@@ -195,18 +206,22 @@ fn push_function(
             number,
         };
         push_block(out, told, names, place, block, notes.blocks.get(number))?;
+        length.count(out.as_str(), line_of(function, block))?;
     }
     Ok(())
 }
 
 /// A program as a source in the project's language, with the lines of C in comments. Its blocks stand in their places
 /// (`fit_place::place`).
+///
+/// # Errors
+/// At the line with which the source gets longer than the assembler reads: 1,000,000 lines, or 16,777,216 bytes.
 pub fn push_source(
     alloc: Global,
     out: &mut String,
     program: &Program,
     annotations: &Annotations,
-) -> Result<(), AllocError> {
+) -> Result<(), Fault> {
     let names = names_of(alloc, program)?;
     let room = match annotations.functions.first() {
         Some(notes) => notes.room,
@@ -215,6 +230,7 @@ pub fn push_source(
     push_head(out, program, room)?;
     push_data(out, program)?;
     let mut told = Told::new(program);
+    let mut length = Length::none();
     for (function, (name, notes)) in program
         .functions
         .iter()
@@ -222,6 +238,7 @@ pub fn push_source(
     {
         push_function(
             out,
+            &mut length,
             &mut told,
             names.as_slice(),
             name.as_str(),

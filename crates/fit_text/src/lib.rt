@@ -4,6 +4,7 @@
 mod annotations;
 mod code;
 mod data;
+mod length;
 mod lines;
 mod names;
 

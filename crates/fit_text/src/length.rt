@@ -1,0 +1,52 @@
+//! How long a source may become.
+use fit_code::{Fault, Line, Reason};
+
+/// The most lines of a source that the assembler reads, and its most bytes.
+const LINES: usize = 1_000_000;
+
+const BYTES: usize = 16_777_216;
+
+/// How long a source has become.
+#[derive(Clone, Copy)]
+pub struct Length {
+    lines: usize,
+    bytes: usize,
+}
+
+fn fault(line: Line, what: &'static str, most: usize) -> Fault {
+    let most = most as u64;
+    Fault::new(line, Reason::TooMany { what, most })
+}
+
+/// How many lines end in some text.
+fn line_ends(text: &[u8]) -> usize {
+    let mut count: usize = 0;
+    for byte in text {
+        count = count.saturating_add(usize::from(*byte == b'\n'));
+    }
+    count
+}
+
+impl Length {
+    /// A source of no lines.
+    pub fn none() -> Length {
+        Length { lines: 0, bytes: 0 }
+    }
+
+    /// Counts what was added to a source for a line of C or of assembly.
+    ///
+    /// # Errors
+    /// At that line, where the source has more lines or bytes now than the assembler reads.
+    pub fn count(&mut self, source: &str, line: Line) -> Result<(), Fault> {
+        let added = source.as_bytes().get(self.bytes..).unwrap_or(&[]);
+        self.lines = self.lines.saturating_add(line_ends(added));
+        self.bytes = source.len();
+        if self.lines > LINES {
+            return Err(fault(line, "lines in the source that would be made", LINES));
+        }
+        if self.bytes > BYTES {
+            return Err(fault(line, "bytes in the source that would be made", BYTES));
+        }
+        Ok(())
+    }
+}
