@@ -117,7 +117,8 @@ fn push_outside(out: &mut String, known: Range, declared: Range) -> Result<(), A
 
 /// What mends a location that may hold anything.
 const UNWRITTEN: &str =
-    "    it has to be written on this way; a call keeps locals, ins and slots only\n";
+    "    write it on this way, or list a cell for it in each block between it and the word that wrote it;\n    \
+     a call keeps locals, ins and slots only\n";
 
 /// Pushes what mends a location that isn't shown to hold what is declared of it. `is_back` says whether the way leads to
 /// its own block or an earlier one.

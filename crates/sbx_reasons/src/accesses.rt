@@ -108,7 +108,7 @@ fn push_wanted(
     match asked {
         Asked::Alignment => writeln!(
             out,
-            "and has to be a multiple of {size}: align its cell, or shift or mask the index"
+            "and has to be a multiple of {size}: `.align` before its label, a cell of such multiples, or a shift or mask"
         ),
         Asked::Place => push_place(out, image, size, transfer.writes_memory()),
     }

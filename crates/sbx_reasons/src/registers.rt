@@ -48,7 +48,8 @@ fn registers_written(operation: &Operation) -> ArrayVec<u8, 2> {
 /// What a register is kept for.
 fn kept_text(register: u8) -> &'static str {
     match register {
-        14 | 30 => "a frame's place: `save %sp,-F,%sp` and words of the frame alone name it",
+        14 | 30 =>
+            "a frame's place: `save %sp,-F,%sp`, and `ld` and `st` of a framed function's words, alone name it",
         _ => "the way back: CALL writes it, and `ret` or `retl` reads it",
     }
 }

@@ -125,7 +125,7 @@ pub(crate) fn push_shape(out: &mut String, image: &Image, spot: &Spot) -> Result
         Some(Part::InSlot) =>
             "a branch, a call, a return or a trap stands in no slot: `nop` here, and this word elsewhere\n",
         Some(Part::NoSlot) =>
-            "its slot has to stand in its block: begin the next block behind the slot\n",
+            "its slot has to stand in its block: write it, as `nop`, and begin the next block behind it\n",
         Some(Part::BehindSlot) =>
             "the slot of a branch or a return ends its block: begin one behind it\n",
         Some(Part::BehindExit) =>
