@@ -3,39 +3,26 @@ use Rattle.std.specs.Prelude.{ℕ, zero, suc, ◌≡◌, ◌<◌, ◌==◌, ◌&
 use Rattle.std.proofs.Common.{arith, refl}
 use Rattle.std.proofs.lemmas.Bool.Decides.{nat_tests}
 use Rattle.std.proofs.lemmas.Int.{ints}
-use Rattle.v8_alu.specs.Outcomes.{outcome}
-use Rattle.v8_formats.specs.Table.{meaning}
-use Rattle.v8_meaning.specs.Admitted.{is_admitted}
-use Rattle.v8_meaning.specs.Operations.{operation_of}
 use Rattle.sbx_image.specs.Parts.{Parts}
-use Rattle.sbx_form.specs.Forms.{add_term, add_terms}
 use Rattle.sbx_form.specs.Ranges.{range}
-use Rattle.sbx_form.specs.Rows.{range_add, range_or, range_sub}
-use Rattle.sbx_form.specs.Table.{range_of, row_of}
-use Rattle.sbx_form.specs.Refining.{both_of, common, narrowed, narrowed_by_value, refine, refine_by_value, some_pair, some_range, without}
-use Rattle.sbx_domain.specs.Forms.{form_value, is_kept}
-use Rattle.sbx_domain.specs.Known.{cell_entry, started, with_entry}
-use Rattle.sbx_domain.specs.Refining.{narrowed_at, refined}
-use Rattle.sbx_domain.specs.Results.{form_of}
-use Rattle.sbx_domain.specs.Transfer.{called, restored, saved, transferred}
 use Rattle.sbx_rules.specs.declared.cause.Cause.{Cause}
 use Rattle.sbx_rules.specs.declared.cause.Cause.TheVariants.{TooDeep}
 use Rattle.sbx_rules.specs.Causes.{number_of}
 use Rattle.sbx_rules.specs.Examples.{adding_of, refusal}
-use Rattle.sbx_rules.specs.Operations.{access_of, is_framed, reads_of, writes_of}
+use Rattle.sbx_rules.specs.Operations.{is_framed}
 use Rattle.sbx_image.specs.Order.{address_of, function_at, words_in}
-use Rattle.sbx_rules.specs.Places.{IsPlace, callee_at, word_of_place}
-use Rattle.sbx_rules.specs.Rules.{Holds, calls_deeper, is_entry, reads_undefined, touches_reserved}
+use Rattle.sbx_rules.specs.Places.{IsPlace, callee_at}
+use Rattle.sbx_rules.specs.Rules.{Holds, calls_deeper, is_entry}
 use Rattle.sbx_rules.specs.Verdicts.{Checked, IsFirst}
-use Rattle.sbx_rules.specs.Ways.{branch_way, falls, fuel_at, state_at, visits_at, weight_to}
+use Rattle.sbx_rules.proofs.Computed.{computed}
 use Rattle.sbx_rules.proofs.Quiet.{Lasts, all_checked, no_lesser_rule_lasting, no_rule, quiet_below, told_first}
 
 without_depth_0_0_quiet : quiet_below (adding_of 0 0) 0 0 0 20 ≡ true
-unfolding quiet_below form_value outcome meaning is_admitted operation_of add_term add_terms range_add range_or range_sub range_of row_of both_of common narrowed narrowed_by_value refine refine_by_value some_pair some_range without is_kept cell_entry started with_entry narrowed_at refined form_of called restored saved transferred access_of reads_of writes_of address_of callee_at word_of_place words_in reads_undefined touches_reserved branch_way falls fuel_at state_at visits_at weight_to
+unfolding quiet_below computed
 without_depth_0_0_quiet = refl
 
 without_depth_0_0_lasts : Lasts (adding_of 0 0) 0 0 0
-unfolding form_value outcome meaning is_admitted operation_of add_term add_terms range_add range_or range_sub range_of row_of both_of common narrowed narrowed_by_value refine refine_by_value some_pair some_range without is_kept cell_entry started with_entry narrowed_at refined form_of called restored saved transferred access_of reads_of writes_of address_of callee_at word_of_place words_in reads_undefined touches_reserved branch_way falls fuel_at state_at visits_at weight_to
+unfolding computed
 without_depth_0_0_lasts = record { edges = (tt, tt); end = λ e start s. omega (arith, ints); entry = λ e start s. omega (arith, ints); terms = refl }
 
 without_depth_before : (f b i : ℕ) → IsPlace (adding_of 0 0) f b i → address_of (adding_of 0 0) f b i < 0x40000 → (cause : Cause) → Holds (adding_of 0 0) f b i cause → ⊥
@@ -73,7 +60,7 @@ without_depth_here (suc zero) (suc b) i p at cause fewer h = let q = p.block in 
 without_depth_here (suc (suc f)) b i p at cause fewer h = let q = p.function in omega arith
 
 without_depth_holds : Holds (adding_of 0 0) 0 0 0 TooDeep
-unfolding form_value outcome meaning is_admitted operation_of add_term add_terms range_add range_or range_sub range_of row_of both_of common narrowed narrowed_by_value refine refine_by_value some_pair some_range without is_kept cell_entry started with_entry narrowed_at refined form_of called restored saved transferred access_of reads_of writes_of address_of callee_at word_of_place words_in reads_undefined touches_reserved branch_way falls fuel_at state_at visits_at weight_to
+unfolding computed
 without_depth_holds = refl
 
 pub without_depth : IsFirst (adding_of 0 0) (refusal 0 0x40000 TooDeep)
@@ -81,75 +68,75 @@ unfolding words_in address_of
 without_depth = told_first (adding_of 0 0) (refusal 0 0x40000 TooDeep) 0 0 (record { function = omega arith; block = omega arith; word = omega arith }) refl without_depth_holds without_depth_before without_depth_here
 
 with_depth_0_0_quiet : quiet_below (adding_of 1 0) 0 0 0 21 ≡ true
-unfolding quiet_below form_value outcome meaning is_admitted operation_of add_term add_terms range_add range_or range_sub range_of row_of both_of common narrowed narrowed_by_value refine refine_by_value some_pair some_range without is_kept cell_entry started with_entry narrowed_at refined form_of called restored saved transferred access_of reads_of writes_of address_of callee_at word_of_place words_in reads_undefined touches_reserved branch_way falls fuel_at state_at visits_at weight_to
+unfolding quiet_below computed
 with_depth_0_0_quiet = refl
 
 with_depth_0_0_lasts : Lasts (adding_of 1 0) 0 0 0
-unfolding form_value outcome meaning is_admitted operation_of add_term add_terms range_add range_or range_sub range_of row_of both_of common narrowed narrowed_by_value refine refine_by_value some_pair some_range without is_kept cell_entry started with_entry narrowed_at refined form_of called restored saved transferred access_of reads_of writes_of address_of callee_at word_of_place words_in reads_undefined touches_reserved branch_way falls fuel_at state_at visits_at weight_to
+unfolding computed
 with_depth_0_0_lasts = record { edges = (tt, tt); end = λ e start s. omega (arith, ints); entry = λ e start s. omega (arith, ints); terms = refl }
 
 with_depth_0_1_quiet : quiet_below (adding_of 1 0) 0 0 1 21 ≡ true
-unfolding quiet_below form_value outcome meaning is_admitted operation_of add_term add_terms range_add range_or range_sub range_of row_of both_of common narrowed narrowed_by_value refine refine_by_value some_pair some_range without is_kept cell_entry started with_entry narrowed_at refined form_of called restored saved transferred access_of reads_of writes_of address_of callee_at word_of_place words_in reads_undefined touches_reserved branch_way falls fuel_at state_at visits_at weight_to
+unfolding quiet_below computed
 with_depth_0_1_quiet = refl
 
 with_depth_0_1_lasts : Lasts (adding_of 1 0) 0 0 1
-unfolding form_value outcome meaning is_admitted operation_of add_term add_terms range_add range_or range_sub range_of row_of both_of common narrowed narrowed_by_value refine refine_by_value some_pair some_range without is_kept cell_entry started with_entry narrowed_at refined form_of called restored saved transferred access_of reads_of writes_of address_of callee_at word_of_place words_in reads_undefined touches_reserved branch_way falls fuel_at state_at visits_at weight_to
+unfolding computed
 with_depth_0_1_lasts = record { edges = (tt, tt); end = λ e start s. omega (arith, ints); entry = λ e start s. omega (arith, ints); terms = refl }
 
 with_depth_0_2_quiet : quiet_below (adding_of 1 0) 0 0 2 21 ≡ true
-unfolding quiet_below form_value outcome meaning is_admitted operation_of add_term add_terms range_add range_or range_sub range_of row_of both_of common narrowed narrowed_by_value refine refine_by_value some_pair some_range without is_kept cell_entry started with_entry narrowed_at refined form_of called restored saved transferred access_of reads_of writes_of address_of callee_at word_of_place words_in reads_undefined touches_reserved branch_way falls fuel_at state_at visits_at weight_to
+unfolding quiet_below computed
 with_depth_0_2_quiet = refl
 
 with_depth_0_2_lasts : Lasts (adding_of 1 0) 0 0 2
-unfolding form_value outcome meaning is_admitted operation_of add_term add_terms range_add range_or range_sub range_of row_of both_of common narrowed narrowed_by_value refine refine_by_value some_pair some_range without is_kept cell_entry started with_entry narrowed_at refined form_of called restored saved transferred access_of reads_of writes_of address_of callee_at word_of_place words_in reads_undefined touches_reserved branch_way falls fuel_at state_at visits_at weight_to
+unfolding computed
 with_depth_0_2_lasts = record { edges = (tt, tt); end = λ e start s. omega (arith, ints); entry = λ e start s. omega (arith, ints); terms = refl }
 
 with_depth_0_3_quiet : quiet_below (adding_of 1 0) 0 0 3 21 ≡ true
-unfolding quiet_below form_value outcome meaning is_admitted operation_of add_term add_terms range_add range_or range_sub range_of row_of both_of common narrowed narrowed_by_value refine refine_by_value some_pair some_range without is_kept cell_entry started with_entry narrowed_at refined form_of called restored saved transferred access_of reads_of writes_of address_of callee_at word_of_place words_in reads_undefined touches_reserved branch_way falls fuel_at state_at visits_at weight_to
+unfolding quiet_below computed
 with_depth_0_3_quiet = refl
 
 with_depth_0_3_lasts : Lasts (adding_of 1 0) 0 0 3
-unfolding form_value outcome meaning is_admitted operation_of add_term add_terms range_add range_or range_sub range_of row_of both_of common narrowed narrowed_by_value refine refine_by_value some_pair some_range without is_kept cell_entry started with_entry narrowed_at refined form_of called restored saved transferred access_of reads_of writes_of address_of callee_at word_of_place words_in reads_undefined touches_reserved branch_way falls fuel_at state_at visits_at weight_to
+unfolding computed
 with_depth_0_3_lasts = record { edges = (tt, tt); end = λ e start s. omega (arith, ints); entry = λ e start s. omega (arith, ints); terms = refl }
 
 with_depth_0_4_quiet : quiet_below (adding_of 1 0) 0 0 4 21 ≡ true
-unfolding quiet_below form_value outcome meaning is_admitted operation_of add_term add_terms range_add range_or range_sub range_of row_of both_of common narrowed narrowed_by_value refine refine_by_value some_pair some_range without is_kept cell_entry started with_entry narrowed_at refined form_of called restored saved transferred access_of reads_of writes_of address_of callee_at word_of_place words_in reads_undefined touches_reserved branch_way falls fuel_at state_at visits_at weight_to
+unfolding quiet_below computed
 with_depth_0_4_quiet = refl
 
 with_depth_0_4_lasts : Lasts (adding_of 1 0) 0 0 4
-unfolding form_value outcome meaning is_admitted operation_of add_term add_terms range_add range_or range_sub range_of row_of both_of common narrowed narrowed_by_value refine refine_by_value some_pair some_range without is_kept cell_entry started with_entry narrowed_at refined form_of called restored saved transferred access_of reads_of writes_of address_of callee_at word_of_place words_in reads_undefined touches_reserved branch_way falls fuel_at state_at visits_at weight_to
+unfolding computed
 with_depth_0_4_lasts = record { edges = (tt, tt); end = λ e start s. omega (arith, ints); entry = λ e start s. omega (arith, ints); terms = refl }
 
 with_depth_0_5_quiet : quiet_below (adding_of 1 0) 0 0 5 21 ≡ true
-unfolding quiet_below form_value outcome meaning is_admitted operation_of add_term add_terms range_add range_or range_sub range_of row_of both_of common narrowed narrowed_by_value refine refine_by_value some_pair some_range without is_kept cell_entry started with_entry narrowed_at refined form_of called restored saved transferred access_of reads_of writes_of address_of callee_at word_of_place words_in reads_undefined touches_reserved branch_way falls fuel_at state_at visits_at weight_to
+unfolding quiet_below computed
 with_depth_0_5_quiet = refl
 
 with_depth_0_5_lasts : Lasts (adding_of 1 0) 0 0 5
-unfolding form_value outcome meaning is_admitted operation_of add_term add_terms range_add range_or range_sub range_of row_of both_of common narrowed narrowed_by_value refine refine_by_value some_pair some_range without is_kept cell_entry started with_entry narrowed_at refined form_of called restored saved transferred access_of reads_of writes_of address_of callee_at word_of_place words_in reads_undefined touches_reserved branch_way falls fuel_at state_at visits_at weight_to
+unfolding computed
 with_depth_0_5_lasts = record { edges = (tt, tt); end = λ e start s. omega (arith, ints); entry = λ e start s. omega (arith, ints); terms = refl }
 
 with_depth_0_6_quiet : quiet_below (adding_of 1 0) 0 0 6 21 ≡ true
-unfolding quiet_below form_value outcome meaning is_admitted operation_of add_term add_terms range_add range_or range_sub range_of row_of both_of common narrowed narrowed_by_value refine refine_by_value some_pair some_range without is_kept cell_entry started with_entry narrowed_at refined form_of called restored saved transferred access_of reads_of writes_of address_of callee_at word_of_place words_in reads_undefined touches_reserved branch_way falls fuel_at state_at visits_at weight_to
+unfolding quiet_below computed
 with_depth_0_6_quiet = refl
 
 with_depth_0_6_lasts : Lasts (adding_of 1 0) 0 0 6
-unfolding form_value outcome meaning is_admitted operation_of add_term add_terms range_add range_or range_sub range_of row_of both_of common narrowed narrowed_by_value refine refine_by_value some_pair some_range without is_kept cell_entry started with_entry narrowed_at refined form_of called restored saved transferred access_of reads_of writes_of address_of callee_at word_of_place words_in reads_undefined touches_reserved branch_way falls fuel_at state_at visits_at weight_to
+unfolding computed
 with_depth_0_6_lasts = record { edges = (tt, tt); end = λ e start s. omega (arith, ints); entry = λ e start s. omega (arith, ints); terms = refl }
 
 with_depth_1_0_quiet : quiet_below (adding_of 1 0) 1 0 0 21 ≡ true
-unfolding quiet_below form_value outcome meaning is_admitted operation_of add_term add_terms range_add range_or range_sub range_of row_of both_of common narrowed narrowed_by_value refine refine_by_value some_pair some_range without is_kept cell_entry started with_entry narrowed_at refined form_of called restored saved transferred access_of reads_of writes_of address_of callee_at word_of_place words_in reads_undefined touches_reserved branch_way falls fuel_at state_at visits_at weight_to
+unfolding quiet_below computed
 with_depth_1_0_quiet = refl
 
 with_depth_1_0_lasts : Lasts (adding_of 1 0) 1 0 0
-unfolding form_value outcome meaning is_admitted operation_of add_term add_terms range_add range_or range_sub range_of row_of both_of common narrowed narrowed_by_value refine refine_by_value some_pair some_range without is_kept cell_entry started with_entry narrowed_at refined form_of called restored saved transferred access_of reads_of writes_of address_of callee_at word_of_place words_in reads_undefined touches_reserved branch_way falls fuel_at state_at visits_at weight_to
+unfolding computed
 with_depth_1_0_lasts = record { edges = (tt, tt); end = λ e start s. let c0 = s 8 (range (pos 0) (pos 254) 0) refl in omega (arith, ints); entry = λ e start s. let c0 = s 8 (range (pos 0) (pos 254) 0) refl in omega (arith, ints); terms = refl }
 
 with_depth_1_1_quiet : quiet_below (adding_of 1 0) 1 0 1 21 ≡ true
-unfolding quiet_below form_value outcome meaning is_admitted operation_of add_term add_terms range_add range_or range_sub range_of row_of both_of common narrowed narrowed_by_value refine refine_by_value some_pair some_range without is_kept cell_entry started with_entry narrowed_at refined form_of called restored saved transferred access_of reads_of writes_of address_of callee_at word_of_place words_in reads_undefined touches_reserved branch_way falls fuel_at state_at visits_at weight_to
+unfolding quiet_below computed
 with_depth_1_1_quiet = refl
 
 with_depth_1_1_lasts : Lasts (adding_of 1 0) 1 0 1
-unfolding form_value outcome meaning is_admitted operation_of add_term add_terms range_add range_or range_sub range_of row_of both_of common narrowed narrowed_by_value refine refine_by_value some_pair some_range without is_kept cell_entry started with_entry narrowed_at refined form_of called restored saved transferred access_of reads_of writes_of address_of callee_at word_of_place words_in reads_undefined touches_reserved branch_way falls fuel_at state_at visits_at weight_to
+unfolding computed
 with_depth_1_1_lasts = record { edges = (tt, tt); end = λ e start s. let c0 = s 8 (range (pos 0) (pos 254) 0) refl in omega (arith, ints); entry = λ e start s. let c0 = s 8 (range (pos 0) (pos 254) 0) refl in omega (arith, ints); terms = refl }
 
 with_depth_none : (f b i : ℕ) → IsPlace (adding_of 1 0) f b i → (cause : Cause) → Holds (adding_of 1 0) f b i cause → ⊥
@@ -173,27 +160,27 @@ pub with_depth : Checked (adding_of 1 0)
 with_depth = all_checked (adding_of 1 0) with_depth_none
 
 leaf_too_deep_0_0_quiet : quiet_below (adding_of 1 1) 0 0 0 21 ≡ true
-unfolding quiet_below form_value outcome meaning is_admitted operation_of add_term add_terms range_add range_or range_sub range_of row_of both_of common narrowed narrowed_by_value refine refine_by_value some_pair some_range without is_kept cell_entry started with_entry narrowed_at refined form_of called restored saved transferred access_of reads_of writes_of address_of callee_at word_of_place words_in reads_undefined touches_reserved branch_way falls fuel_at state_at visits_at weight_to
+unfolding quiet_below computed
 leaf_too_deep_0_0_quiet = refl
 
 leaf_too_deep_0_0_lasts : Lasts (adding_of 1 1) 0 0 0
-unfolding form_value outcome meaning is_admitted operation_of add_term add_terms range_add range_or range_sub range_of row_of both_of common narrowed narrowed_by_value refine refine_by_value some_pair some_range without is_kept cell_entry started with_entry narrowed_at refined form_of called restored saved transferred access_of reads_of writes_of address_of callee_at word_of_place words_in reads_undefined touches_reserved branch_way falls fuel_at state_at visits_at weight_to
+unfolding computed
 leaf_too_deep_0_0_lasts = record { edges = (tt, tt); end = λ e start s. omega (arith, ints); entry = λ e start s. omega (arith, ints); terms = refl }
 
 leaf_too_deep_0_1_quiet : quiet_below (adding_of 1 1) 0 0 1 21 ≡ true
-unfolding quiet_below form_value outcome meaning is_admitted operation_of add_term add_terms range_add range_or range_sub range_of row_of both_of common narrowed narrowed_by_value refine refine_by_value some_pair some_range without is_kept cell_entry started with_entry narrowed_at refined form_of called restored saved transferred access_of reads_of writes_of address_of callee_at word_of_place words_in reads_undefined touches_reserved branch_way falls fuel_at state_at visits_at weight_to
+unfolding quiet_below computed
 leaf_too_deep_0_1_quiet = refl
 
 leaf_too_deep_0_1_lasts : Lasts (adding_of 1 1) 0 0 1
-unfolding form_value outcome meaning is_admitted operation_of add_term add_terms range_add range_or range_sub range_of row_of both_of common narrowed narrowed_by_value refine refine_by_value some_pair some_range without is_kept cell_entry started with_entry narrowed_at refined form_of called restored saved transferred access_of reads_of writes_of address_of callee_at word_of_place words_in reads_undefined touches_reserved branch_way falls fuel_at state_at visits_at weight_to
+unfolding computed
 leaf_too_deep_0_1_lasts = record { edges = (tt, tt); end = λ e start s. omega (arith, ints); entry = λ e start s. omega (arith, ints); terms = refl }
 
 leaf_too_deep_0_2_quiet : quiet_below (adding_of 1 1) 0 0 2 20 ≡ true
-unfolding quiet_below form_value outcome meaning is_admitted operation_of add_term add_terms range_add range_or range_sub range_of row_of both_of common narrowed narrowed_by_value refine refine_by_value some_pair some_range without is_kept cell_entry started with_entry narrowed_at refined form_of called restored saved transferred access_of reads_of writes_of address_of callee_at word_of_place words_in reads_undefined touches_reserved branch_way falls fuel_at state_at visits_at weight_to
+unfolding quiet_below computed
 leaf_too_deep_0_2_quiet = refl
 
 leaf_too_deep_0_2_lasts : Lasts (adding_of 1 1) 0 0 2
-unfolding form_value outcome meaning is_admitted operation_of add_term add_terms range_add range_or range_sub range_of row_of both_of common narrowed narrowed_by_value refine refine_by_value some_pair some_range without is_kept cell_entry started with_entry narrowed_at refined form_of called restored saved transferred access_of reads_of writes_of address_of callee_at word_of_place words_in reads_undefined touches_reserved branch_way falls fuel_at state_at visits_at weight_to
+unfolding computed
 leaf_too_deep_0_2_lasts = record { edges = (tt, tt); end = λ e start s. omega (arith, ints); entry = λ e start s. omega (arith, ints); terms = refl }
 
 leaf_too_deep_before : (f b i : ℕ) → IsPlace (adding_of 1 1) f b i → address_of (adding_of 1 1) f b i < 0x40008 → (cause : Cause) → Holds (adding_of 1 1) f b i cause → ⊥
@@ -231,7 +218,7 @@ leaf_too_deep_here (suc zero) (suc b) i p at cause fewer h = let q = p.block in 
 leaf_too_deep_here (suc (suc f)) b i p at cause fewer h = let q = p.function in omega arith
 
 leaf_too_deep_holds : Holds (adding_of 1 1) 0 0 2 TooDeep
-unfolding form_value outcome meaning is_admitted operation_of add_term add_terms range_add range_or range_sub range_of row_of both_of common narrowed narrowed_by_value refine refine_by_value some_pair some_range without is_kept cell_entry started with_entry narrowed_at refined form_of called restored saved transferred access_of reads_of writes_of address_of callee_at word_of_place words_in reads_undefined touches_reserved branch_way falls fuel_at state_at visits_at weight_to
+unfolding computed
 leaf_too_deep_holds = refl
 
 pub leaf_too_deep : IsFirst (adding_of 1 1) (refusal 0 0x40008 TooDeep)

@@ -1,34 +1,20 @@
 -- The examples, computed: all tests by their values, and the fuel by arithmetic.
-use Rattle.std.specs.Prelude.{ℕ, zero, suc, ◌≡◌, ◌<◌, ◌≤◌, Bool, true, false, List, [], ◌∷◌, Option, Some, None, ℤ, pos, negsuc, ◌≤ℤ◌, if◌then◌else◌}
+use Rattle.std.specs.Prelude.{ℕ, zero, suc, ◌≡◌, ◌<◌, Bool, true, false, [], Option, Some, None, pos, ◌≤ℤ◌, if◌then◌else◌}
 use Rattle.std.proofs.Common.{arith, ap, inl, inr, refl, sym, ◌∙◌}
 use Rattle.std.proofs.lemmas.Int.{ints}
-use Rattle.v8_alu.specs.Outcomes.{outcome}
-use Rattle.v8_formats.specs.Table.{meaning}
-use Rattle.v8_meaning.specs.Admitted.{is_admitted}
-use Rattle.v8_meaning.specs.Operations.{operation_of}
-use Rattle.sbx_image.specs.Parts.{Parts}
 use Rattle.sbx_image.specs.Range.{Range}
-use Rattle.sbx_form.specs.Forms.{Cells, add_term, add_terms}
 use Rattle.sbx_form.specs.Ranges.{range}
-use Rattle.sbx_form.specs.Rows.{range_add, range_or, range_sub}
-use Rattle.sbx_form.specs.Table.{range_of, row_of}
-use Rattle.sbx_form.specs.Refining.{both_of, common, narrowed, narrowed_by_value, refine, refine_by_value, some_pair, some_range, without}
 use Rattle.sbx_domain.specs.declared.entry.Entry.{Entry}
-use Rattle.sbx_domain.specs.Forms.{form_value, is_kept}
-use Rattle.sbx_domain.specs.Known.{cell_entry, is_location, range_at, range_of_entry, started, with_entry}
-use Rattle.sbx_domain.specs.Refining.{narrowed_at, refined}
-use Rattle.sbx_domain.specs.Results.{form_of}
-use Rattle.sbx_domain.specs.Transfer.{called, restored, saved, transferred}
+use Rattle.sbx_domain.specs.Known.{cell_entry, is_location, range_at, range_of_entry, started}
 use Rattle.sbx_rules.specs.declared.cause.Cause.{Cause}
 use Rattle.sbx_rules.specs.declared.cause.Cause.TheVariants.{BadCall, UndefinedRead, ReservedRegister, UnkeptCells, OutOfFuel, OutOfStack, UnkeptResults, BadEntry}
 use Rattle.sbx_rules.specs.Causes.{number_of}
 use Rattle.sbx_rules.specs.Examples.{VerdictsAreThese, adding, after_save, echo, no_others, one_other, refusal, stray_stack}
-use Rattle.sbx_rules.specs.Operations.{access_of, reads_of, writes_of}
 use Rattle.sbx_image.specs.Order.{address_of, words_in}
-use Rattle.sbx_rules.specs.Places.{IsPlace, callee_at, word_of_place}
-use Rattle.sbx_rules.specs.Rules.{Holds, LacksFuel, reads_undefined, touches_reserved}
-use Rattle.sbx_rules.specs.Verdicts.{Breaks, Checked, IsFirst}
-use Rattle.sbx_rules.specs.Ways.{branch_way, falls, fuel_at, state_at, visits_at, weight_to}
+use Rattle.sbx_rules.specs.Places.{IsPlace}
+use Rattle.sbx_rules.specs.Rules.{Holds}
+use Rattle.sbx_rules.specs.Verdicts.{Checked, IsFirst}
+use Rattle.sbx_rules.proofs.Computed.{computed}
 use Rattle.sbx_rules.proofs.Depths.{leaf_too_deep, no_other_version, with_depth, without_depth}
 use Rattle.sbx_rules.proofs.Quiet.{Lasts, all_checked, no_lesser_rule, no_lesser_rule_lasting, no_rule, quiet_below, told_first}
 
@@ -50,99 +36,99 @@ nothing_begun l r e = let n : range_at (started []) l ≡ None = ap range_of_ent
 -- ---- the loop
 
 echo_0_0_quiet : quiet_below echo 0 0 0 21 ≡ true
-unfolding quiet_below form_value outcome meaning is_admitted operation_of add_term add_terms range_add range_or range_sub range_of row_of both_of common narrowed narrowed_by_value refine refine_by_value some_pair some_range without is_kept cell_entry started with_entry narrowed_at refined form_of called restored saved transferred access_of reads_of writes_of address_of callee_at word_of_place words_in reads_undefined touches_reserved branch_way falls fuel_at state_at visits_at weight_to
+unfolding quiet_below computed
 echo_0_0_quiet = refl
 
 echo_0_0_lasts : Lasts echo 0 0 0
-unfolding form_value outcome meaning is_admitted operation_of add_term add_terms range_add range_or range_sub range_of row_of both_of common narrowed narrowed_by_value refine refine_by_value some_pair some_range without is_kept cell_entry started with_entry narrowed_at refined form_of called restored saved transferred access_of reads_of writes_of address_of callee_at word_of_place words_in reads_undefined touches_reserved branch_way falls fuel_at state_at visits_at weight_to
+unfolding computed
 echo_0_0_lasts = record { edges = (tt, tt); end = λ e start s. omega (arith, ints); entry = λ e start s. omega (arith, ints); terms = refl }
 
 echo_0_1_quiet : quiet_below echo 0 0 1 21 ≡ true
-unfolding quiet_below form_value outcome meaning is_admitted operation_of add_term add_terms range_add range_or range_sub range_of row_of both_of common narrowed narrowed_by_value refine refine_by_value some_pair some_range without is_kept cell_entry started with_entry narrowed_at refined form_of called restored saved transferred access_of reads_of writes_of address_of callee_at word_of_place words_in reads_undefined touches_reserved branch_way falls fuel_at state_at visits_at weight_to
+unfolding quiet_below computed
 echo_0_1_quiet = refl
 
 echo_0_1_lasts : Lasts echo 0 0 1
-unfolding form_value outcome meaning is_admitted operation_of add_term add_terms range_add range_or range_sub range_of row_of both_of common narrowed narrowed_by_value refine refine_by_value some_pair some_range without is_kept cell_entry started with_entry narrowed_at refined form_of called restored saved transferred access_of reads_of writes_of address_of callee_at word_of_place words_in reads_undefined touches_reserved branch_way falls fuel_at state_at visits_at weight_to
+unfolding computed
 echo_0_1_lasts = record { edges = (λ start others s o. omega (arith, ints), tt); end = λ e start s. omega (arith, ints); entry = λ e start s. omega (arith, ints); terms = refl }
 
 echo_1_0_quiet : quiet_below echo 0 1 0 21 ≡ true
-unfolding quiet_below form_value outcome meaning is_admitted operation_of add_term add_terms range_add range_or range_sub range_of row_of both_of common narrowed narrowed_by_value refine refine_by_value some_pair some_range without is_kept cell_entry started with_entry narrowed_at refined form_of called restored saved transferred access_of reads_of writes_of address_of callee_at word_of_place words_in reads_undefined touches_reserved branch_way falls fuel_at state_at visits_at weight_to
+unfolding quiet_below computed
 echo_1_0_quiet = refl
 
 echo_1_0_lasts : Lasts echo 0 1 0
-unfolding form_value outcome meaning is_admitted operation_of add_term add_terms range_add range_or range_sub range_of row_of both_of common narrowed narrowed_by_value refine refine_by_value some_pair some_range without is_kept cell_entry started with_entry narrowed_at refined form_of called restored saved transferred access_of reads_of writes_of address_of callee_at word_of_place words_in reads_undefined touches_reserved branch_way falls fuel_at state_at visits_at weight_to
+unfolding computed
 echo_1_0_lasts = record { edges = (tt, tt); end = λ e start s. let c0 = s 16 (range (pos 1) (pos 1000) 0) refl in omega (arith, ints); entry = λ e start s. let c0 = s 16 (range (pos 1) (pos 1000) 0) refl in omega (arith, ints); terms = refl }
 
 echo_1_1_quiet : quiet_below echo 0 1 1 21 ≡ true
-unfolding quiet_below form_value outcome meaning is_admitted operation_of add_term add_terms range_add range_or range_sub range_of row_of both_of common narrowed narrowed_by_value refine refine_by_value some_pair some_range without is_kept cell_entry started with_entry narrowed_at refined form_of called restored saved transferred access_of reads_of writes_of address_of callee_at word_of_place words_in reads_undefined touches_reserved branch_way falls fuel_at state_at visits_at weight_to
+unfolding quiet_below computed
 echo_1_1_quiet = refl
 
 echo_1_1_lasts : Lasts echo 0 1 1
-unfolding form_value outcome meaning is_admitted operation_of add_term add_terms range_add range_or range_sub range_of row_of both_of common narrowed narrowed_by_value refine refine_by_value some_pair some_range without is_kept cell_entry started with_entry narrowed_at refined form_of called restored saved transferred access_of reads_of writes_of address_of callee_at word_of_place words_in reads_undefined touches_reserved branch_way falls fuel_at state_at visits_at weight_to
+unfolding computed
 echo_1_1_lasts = record { edges = (tt, tt); end = λ e start s. let c0 = s 16 (range (pos 1) (pos 1000) 0) refl in omega (arith, ints); entry = λ e start s. let c0 = s 16 (range (pos 1) (pos 1000) 0) refl in omega (arith, ints); terms = refl }
 
 echo_1_2_quiet : quiet_below echo 0 1 2 21 ≡ true
-unfolding quiet_below form_value outcome meaning is_admitted operation_of add_term add_terms range_add range_or range_sub range_of row_of both_of common narrowed narrowed_by_value refine refine_by_value some_pair some_range without is_kept cell_entry started with_entry narrowed_at refined form_of called restored saved transferred access_of reads_of writes_of address_of callee_at word_of_place words_in reads_undefined touches_reserved branch_way falls fuel_at state_at visits_at weight_to
+unfolding quiet_below computed
 echo_1_2_quiet = refl
 
 echo_1_2_lasts : Lasts echo 0 1 2
-unfolding form_value outcome meaning is_admitted operation_of add_term add_terms range_add range_or range_sub range_of row_of both_of common narrowed narrowed_by_value refine refine_by_value some_pair some_range without is_kept cell_entry started with_entry narrowed_at refined form_of called restored saved transferred access_of reads_of writes_of address_of callee_at word_of_place words_in reads_undefined touches_reserved branch_way falls fuel_at state_at visits_at weight_to
+unfolding computed
 echo_1_2_lasts = record { edges = (tt, tt); end = λ e start s. let c0 = s 16 (range (pos 1) (pos 1000) 0) refl in omega (arith, ints); entry = λ e start s. let c0 = s 16 (range (pos 1) (pos 1000) 0) refl in omega (arith, ints); terms = refl }
 
 echo_1_3_quiet : quiet_below echo 0 1 3 21 ≡ true
-unfolding quiet_below form_value outcome meaning is_admitted operation_of add_term add_terms range_add range_or range_sub range_of row_of both_of common narrowed narrowed_by_value refine refine_by_value some_pair some_range without is_kept cell_entry started with_entry narrowed_at refined form_of called restored saved transferred access_of reads_of writes_of address_of callee_at word_of_place words_in reads_undefined touches_reserved branch_way falls fuel_at state_at visits_at weight_to
+unfolding quiet_below computed
 echo_1_3_quiet = refl
 
 echo_1_3_lasts : Lasts echo 0 1 3
-unfolding form_value outcome meaning is_admitted operation_of add_term add_terms range_add range_or range_sub range_of row_of both_of common narrowed narrowed_by_value refine refine_by_value some_pair some_range without is_kept cell_entry started with_entry narrowed_at refined form_of called restored saved transferred access_of reads_of writes_of address_of callee_at word_of_place words_in reads_undefined touches_reserved branch_way falls fuel_at state_at visits_at weight_to
+unfolding computed
 echo_1_3_lasts = record { edges = (λ start others s o. let c0 = s 16 (range (pos 1) (pos 1000) 0) refl in omega (arith, ints), (λ start others s o. let c0 = s 16 (range (pos 1) (pos 1000) 0) refl in omega (arith, ints), tt)); end = λ e start s. let c0 = s 16 (range (pos 1) (pos 1000) 0) refl in omega (arith, ints); entry = λ e start s. let c0 = s 16 (range (pos 1) (pos 1000) 0) refl in omega (arith, ints); terms = refl }
 
 echo_2_0_quiet : quiet_below echo 0 2 0 21 ≡ true
-unfolding quiet_below form_value outcome meaning is_admitted operation_of add_term add_terms range_add range_or range_sub range_of row_of both_of common narrowed narrowed_by_value refine refine_by_value some_pair some_range without is_kept cell_entry started with_entry narrowed_at refined form_of called restored saved transferred access_of reads_of writes_of address_of callee_at word_of_place words_in reads_undefined touches_reserved branch_way falls fuel_at state_at visits_at weight_to
+unfolding quiet_below computed
 echo_2_0_quiet = refl
 
 echo_2_0_lasts : Lasts echo 0 2 0
-unfolding form_value outcome meaning is_admitted operation_of add_term add_terms range_add range_or range_sub range_of row_of both_of common narrowed narrowed_by_value refine refine_by_value some_pair some_range without is_kept cell_entry started with_entry narrowed_at refined form_of called restored saved transferred access_of reads_of writes_of address_of callee_at word_of_place words_in reads_undefined touches_reserved branch_way falls fuel_at state_at visits_at weight_to
+unfolding computed
 echo_2_0_lasts = record { edges = (tt, tt); end = λ e start s. let c0 = s 16 (range (pos 1) (pos 1000) 0) refl in omega (arith, ints); entry = λ e start s. let c0 = s 16 (range (pos 1) (pos 1000) 0) refl in omega (arith, ints); terms = refl }
 
 echo_2_1_quiet : quiet_below echo 0 2 1 21 ≡ true
-unfolding quiet_below form_value outcome meaning is_admitted operation_of add_term add_terms range_add range_or range_sub range_of row_of both_of common narrowed narrowed_by_value refine refine_by_value some_pair some_range without is_kept cell_entry started with_entry narrowed_at refined form_of called restored saved transferred access_of reads_of writes_of address_of callee_at word_of_place words_in reads_undefined touches_reserved branch_way falls fuel_at state_at visits_at weight_to
+unfolding quiet_below computed
 echo_2_1_quiet = refl
 
 echo_2_1_lasts : Lasts echo 0 2 1
-unfolding form_value outcome meaning is_admitted operation_of add_term add_terms range_add range_or range_sub range_of row_of both_of common narrowed narrowed_by_value refine refine_by_value some_pair some_range without is_kept cell_entry started with_entry narrowed_at refined form_of called restored saved transferred access_of reads_of writes_of address_of callee_at word_of_place words_in reads_undefined touches_reserved branch_way falls fuel_at state_at visits_at weight_to
+unfolding computed
 echo_2_1_lasts = record { edges = (tt, tt); end = λ e start s. let c0 = s 16 (range (pos 1) (pos 1000) 0) refl in omega (arith, ints); entry = λ e start s. let c0 = s 16 (range (pos 1) (pos 1000) 0) refl in omega (arith, ints); terms = refl }
 
 echo_2_2_quiet : quiet_below echo 0 2 2 21 ≡ true
-unfolding quiet_below form_value outcome meaning is_admitted operation_of add_term add_terms range_add range_or range_sub range_of row_of both_of common narrowed narrowed_by_value refine refine_by_value some_pair some_range without is_kept cell_entry started with_entry narrowed_at refined form_of called restored saved transferred access_of reads_of writes_of address_of callee_at word_of_place words_in reads_undefined touches_reserved branch_way falls fuel_at state_at visits_at weight_to
+unfolding quiet_below computed
 echo_2_2_quiet = refl
 
 echo_2_2_lasts : Lasts echo 0 2 2
-unfolding form_value outcome meaning is_admitted operation_of add_term add_terms range_add range_or range_sub range_of row_of both_of common narrowed narrowed_by_value refine refine_by_value some_pair some_range without is_kept cell_entry started with_entry narrowed_at refined form_of called restored saved transferred access_of reads_of writes_of address_of callee_at word_of_place words_in reads_undefined touches_reserved branch_way falls fuel_at state_at visits_at weight_to
+unfolding computed
 echo_2_2_lasts = record { edges = (tt, tt); end = λ e start s. let c0 = s 16 (range (pos 1) (pos 1000) 0) refl in omega (arith, ints); entry = λ e start s. let c0 = s 16 (range (pos 1) (pos 1000) 0) refl in omega (arith, ints); terms = refl }
 
 echo_2_3_quiet : quiet_below echo 0 2 3 21 ≡ true
-unfolding quiet_below form_value outcome meaning is_admitted operation_of add_term add_terms range_add range_or range_sub range_of row_of both_of common narrowed narrowed_by_value refine refine_by_value some_pair some_range without is_kept cell_entry started with_entry narrowed_at refined form_of called restored saved transferred access_of reads_of writes_of address_of callee_at word_of_place words_in reads_undefined touches_reserved branch_way falls fuel_at state_at visits_at weight_to
+unfolding quiet_below computed
 echo_2_3_quiet = refl
 
 echo_2_3_lasts : Lasts echo 0 2 3
-unfolding form_value outcome meaning is_admitted operation_of add_term add_terms range_add range_or range_sub range_of row_of both_of common narrowed narrowed_by_value refine refine_by_value some_pair some_range without is_kept cell_entry started with_entry narrowed_at refined form_of called restored saved transferred access_of reads_of writes_of address_of callee_at word_of_place words_in reads_undefined touches_reserved branch_way falls fuel_at state_at visits_at weight_to
+unfolding computed
 echo_2_3_lasts = record { edges = (λ start others s o. let c0 = s 16 (range (pos 1) (pos 1000) 0) refl in omega (arith, ints), (λ start others s o. let c0 = s 16 (range (pos 1) (pos 1000) 0) refl in omega (arith, ints), tt)); end = λ e start s. let c0 = s 16 (range (pos 1) (pos 1000) 0) refl in omega (arith, ints); entry = λ e start s. let c0 = s 16 (range (pos 1) (pos 1000) 0) refl in omega (arith, ints); terms = refl }
 
 echo_3_0_quiet : quiet_below echo 0 3 0 21 ≡ true
-unfolding quiet_below form_value outcome meaning is_admitted operation_of add_term add_terms range_add range_or range_sub range_of row_of both_of common narrowed narrowed_by_value refine refine_by_value some_pair some_range without is_kept cell_entry started with_entry narrowed_at refined form_of called restored saved transferred access_of reads_of writes_of address_of callee_at word_of_place words_in reads_undefined touches_reserved branch_way falls fuel_at state_at visits_at weight_to
+unfolding quiet_below computed
 echo_3_0_quiet = refl
 
 echo_3_0_lasts : Lasts echo 0 3 0
-unfolding form_value outcome meaning is_admitted operation_of add_term add_terms range_add range_or range_sub range_of row_of both_of common narrowed narrowed_by_value refine refine_by_value some_pair some_range without is_kept cell_entry started with_entry narrowed_at refined form_of called restored saved transferred access_of reads_of writes_of address_of callee_at word_of_place words_in reads_undefined touches_reserved branch_way falls fuel_at state_at visits_at weight_to
+unfolding computed
 echo_3_0_lasts = record { edges = (tt, tt); end = λ e start s. omega (arith, ints); entry = λ e start s. omega (arith, ints); terms = refl }
 
 echo_3_1_quiet : quiet_below echo 0 3 1 21 ≡ true
-unfolding quiet_below form_value outcome meaning is_admitted operation_of add_term add_terms range_add range_or range_sub range_of row_of both_of common narrowed narrowed_by_value refine refine_by_value some_pair some_range without is_kept cell_entry started with_entry narrowed_at refined form_of called restored saved transferred access_of reads_of writes_of address_of callee_at word_of_place words_in reads_undefined touches_reserved branch_way falls fuel_at state_at visits_at weight_to
+unfolding quiet_below computed
 echo_3_1_quiet = refl
 
 echo_3_1_lasts : Lasts echo 0 3 1
-unfolding form_value outcome meaning is_admitted operation_of add_term add_terms range_add range_or range_sub range_of row_of both_of common narrowed narrowed_by_value refine refine_by_value some_pair some_range without is_kept cell_entry started with_entry narrowed_at refined form_of called restored saved transferred access_of reads_of writes_of address_of callee_at word_of_place words_in reads_undefined touches_reserved branch_way falls fuel_at state_at visits_at weight_to
+unfolding computed
 echo_3_1_lasts = record { edges = (tt, tt); end = λ e start s. omega (arith, ints); entry = λ e start s. omega (arith, ints); terms = refl }
 
 echo_none : (f b i : ℕ) → IsPlace echo f b i → (cause : Cause) → Holds echo f b i cause → ⊥
@@ -172,75 +158,75 @@ echo_is_checked = all_checked echo echo_none
 -- ---- the call
 
 adding_0_0_quiet : quiet_below (adding (pos 254) (pos 255) 39) 0 0 0 21 ≡ true
-unfolding quiet_below form_value outcome meaning is_admitted operation_of add_term add_terms range_add range_or range_sub range_of row_of both_of common narrowed narrowed_by_value refine refine_by_value some_pair some_range without is_kept cell_entry started with_entry narrowed_at refined form_of called restored saved transferred access_of reads_of writes_of address_of callee_at word_of_place words_in reads_undefined touches_reserved branch_way falls fuel_at state_at visits_at weight_to
+unfolding quiet_below computed
 adding_0_0_quiet = refl
 
 adding_0_0_lasts : Lasts (adding (pos 254) (pos 255) 39) 0 0 0
-unfolding form_value outcome meaning is_admitted operation_of add_term add_terms range_add range_or range_sub range_of row_of both_of common narrowed narrowed_by_value refine refine_by_value some_pair some_range without is_kept cell_entry started with_entry narrowed_at refined form_of called restored saved transferred access_of reads_of writes_of address_of callee_at word_of_place words_in reads_undefined touches_reserved branch_way falls fuel_at state_at visits_at weight_to
+unfolding computed
 adding_0_0_lasts = record { edges = (tt, tt); end = λ e start s. omega (arith, ints); entry = λ e start s. omega (arith, ints); terms = refl }
 
 adding_0_1_quiet : quiet_below (adding (pos 254) (pos 255) 39) 0 0 1 21 ≡ true
-unfolding quiet_below form_value outcome meaning is_admitted operation_of add_term add_terms range_add range_or range_sub range_of row_of both_of common narrowed narrowed_by_value refine refine_by_value some_pair some_range without is_kept cell_entry started with_entry narrowed_at refined form_of called restored saved transferred access_of reads_of writes_of address_of callee_at word_of_place words_in reads_undefined touches_reserved branch_way falls fuel_at state_at visits_at weight_to
+unfolding quiet_below computed
 adding_0_1_quiet = refl
 
 adding_0_1_lasts : Lasts (adding (pos 254) (pos 255) 39) 0 0 1
-unfolding form_value outcome meaning is_admitted operation_of add_term add_terms range_add range_or range_sub range_of row_of both_of common narrowed narrowed_by_value refine refine_by_value some_pair some_range without is_kept cell_entry started with_entry narrowed_at refined form_of called restored saved transferred access_of reads_of writes_of address_of callee_at word_of_place words_in reads_undefined touches_reserved branch_way falls fuel_at state_at visits_at weight_to
+unfolding computed
 adding_0_1_lasts = record { edges = (tt, tt); end = λ e start s. omega (arith, ints); entry = λ e start s. omega (arith, ints); terms = refl }
 
 adding_0_2_quiet : quiet_below (adding (pos 254) (pos 255) 39) 0 0 2 21 ≡ true
-unfolding quiet_below form_value outcome meaning is_admitted operation_of add_term add_terms range_add range_or range_sub range_of row_of both_of common narrowed narrowed_by_value refine refine_by_value some_pair some_range without is_kept cell_entry started with_entry narrowed_at refined form_of called restored saved transferred access_of reads_of writes_of address_of callee_at word_of_place words_in reads_undefined touches_reserved branch_way falls fuel_at state_at visits_at weight_to
+unfolding quiet_below computed
 adding_0_2_quiet = refl
 
 adding_0_2_lasts : Lasts (adding (pos 254) (pos 255) 39) 0 0 2
-unfolding form_value outcome meaning is_admitted operation_of add_term add_terms range_add range_or range_sub range_of row_of both_of common narrowed narrowed_by_value refine refine_by_value some_pair some_range without is_kept cell_entry started with_entry narrowed_at refined form_of called restored saved transferred access_of reads_of writes_of address_of callee_at word_of_place words_in reads_undefined touches_reserved branch_way falls fuel_at state_at visits_at weight_to
+unfolding computed
 adding_0_2_lasts = record { edges = (tt, tt); end = λ e start s. omega (arith, ints); entry = λ e start s. omega (arith, ints); terms = refl }
 
 adding_0_3_quiet : quiet_below (adding (pos 254) (pos 255) 39) 0 0 3 21 ≡ true
-unfolding quiet_below form_value outcome meaning is_admitted operation_of add_term add_terms range_add range_or range_sub range_of row_of both_of common narrowed narrowed_by_value refine refine_by_value some_pair some_range without is_kept cell_entry started with_entry narrowed_at refined form_of called restored saved transferred access_of reads_of writes_of address_of callee_at word_of_place words_in reads_undefined touches_reserved branch_way falls fuel_at state_at visits_at weight_to
+unfolding quiet_below computed
 adding_0_3_quiet = refl
 
 adding_0_3_lasts : Lasts (adding (pos 254) (pos 255) 39) 0 0 3
-unfolding form_value outcome meaning is_admitted operation_of add_term add_terms range_add range_or range_sub range_of row_of both_of common narrowed narrowed_by_value refine refine_by_value some_pair some_range without is_kept cell_entry started with_entry narrowed_at refined form_of called restored saved transferred access_of reads_of writes_of address_of callee_at word_of_place words_in reads_undefined touches_reserved branch_way falls fuel_at state_at visits_at weight_to
+unfolding computed
 adding_0_3_lasts = record { edges = (tt, tt); end = λ e start s. omega (arith, ints); entry = λ e start s. omega (arith, ints); terms = refl }
 
 adding_0_4_quiet : quiet_below (adding (pos 254) (pos 255) 39) 0 0 4 21 ≡ true
-unfolding quiet_below form_value outcome meaning is_admitted operation_of add_term add_terms range_add range_or range_sub range_of row_of both_of common narrowed narrowed_by_value refine refine_by_value some_pair some_range without is_kept cell_entry started with_entry narrowed_at refined form_of called restored saved transferred access_of reads_of writes_of address_of callee_at word_of_place words_in reads_undefined touches_reserved branch_way falls fuel_at state_at visits_at weight_to
+unfolding quiet_below computed
 adding_0_4_quiet = refl
 
 adding_0_4_lasts : Lasts (adding (pos 254) (pos 255) 39) 0 0 4
-unfolding form_value outcome meaning is_admitted operation_of add_term add_terms range_add range_or range_sub range_of row_of both_of common narrowed narrowed_by_value refine refine_by_value some_pair some_range without is_kept cell_entry started with_entry narrowed_at refined form_of called restored saved transferred access_of reads_of writes_of address_of callee_at word_of_place words_in reads_undefined touches_reserved branch_way falls fuel_at state_at visits_at weight_to
+unfolding computed
 adding_0_4_lasts = record { edges = (tt, tt); end = λ e start s. omega (arith, ints); entry = λ e start s. omega (arith, ints); terms = refl }
 
 adding_0_5_quiet : quiet_below (adding (pos 254) (pos 255) 39) 0 0 5 21 ≡ true
-unfolding quiet_below form_value outcome meaning is_admitted operation_of add_term add_terms range_add range_or range_sub range_of row_of both_of common narrowed narrowed_by_value refine refine_by_value some_pair some_range without is_kept cell_entry started with_entry narrowed_at refined form_of called restored saved transferred access_of reads_of writes_of address_of callee_at word_of_place words_in reads_undefined touches_reserved branch_way falls fuel_at state_at visits_at weight_to
+unfolding quiet_below computed
 adding_0_5_quiet = refl
 
 adding_0_5_lasts : Lasts (adding (pos 254) (pos 255) 39) 0 0 5
-unfolding form_value outcome meaning is_admitted operation_of add_term add_terms range_add range_or range_sub range_of row_of both_of common narrowed narrowed_by_value refine refine_by_value some_pair some_range without is_kept cell_entry started with_entry narrowed_at refined form_of called restored saved transferred access_of reads_of writes_of address_of callee_at word_of_place words_in reads_undefined touches_reserved branch_way falls fuel_at state_at visits_at weight_to
+unfolding computed
 adding_0_5_lasts = record { edges = (tt, tt); end = λ e start s. omega (arith, ints); entry = λ e start s. omega (arith, ints); terms = refl }
 
 adding_0_6_quiet : quiet_below (adding (pos 254) (pos 255) 39) 0 0 6 21 ≡ true
-unfolding quiet_below form_value outcome meaning is_admitted operation_of add_term add_terms range_add range_or range_sub range_of row_of both_of common narrowed narrowed_by_value refine refine_by_value some_pair some_range without is_kept cell_entry started with_entry narrowed_at refined form_of called restored saved transferred access_of reads_of writes_of address_of callee_at word_of_place words_in reads_undefined touches_reserved branch_way falls fuel_at state_at visits_at weight_to
+unfolding quiet_below computed
 adding_0_6_quiet = refl
 
 adding_0_6_lasts : Lasts (adding (pos 254) (pos 255) 39) 0 0 6
-unfolding form_value outcome meaning is_admitted operation_of add_term add_terms range_add range_or range_sub range_of row_of both_of common narrowed narrowed_by_value refine refine_by_value some_pair some_range without is_kept cell_entry started with_entry narrowed_at refined form_of called restored saved transferred access_of reads_of writes_of address_of callee_at word_of_place words_in reads_undefined touches_reserved branch_way falls fuel_at state_at visits_at weight_to
+unfolding computed
 adding_0_6_lasts = record { edges = (tt, tt); end = λ e start s. omega (arith, ints); entry = λ e start s. omega (arith, ints); terms = refl }
 
 adding_1_0_quiet : quiet_below (adding (pos 254) (pos 255) 39) 1 0 0 21 ≡ true
-unfolding quiet_below form_value outcome meaning is_admitted operation_of add_term add_terms range_add range_or range_sub range_of row_of both_of common narrowed narrowed_by_value refine refine_by_value some_pair some_range without is_kept cell_entry started with_entry narrowed_at refined form_of called restored saved transferred access_of reads_of writes_of address_of callee_at word_of_place words_in reads_undefined touches_reserved branch_way falls fuel_at state_at visits_at weight_to
+unfolding quiet_below computed
 adding_1_0_quiet = refl
 
 adding_1_0_lasts : Lasts (adding (pos 254) (pos 255) 39) 1 0 0
-unfolding form_value outcome meaning is_admitted operation_of add_term add_terms range_add range_or range_sub range_of row_of both_of common narrowed narrowed_by_value refine refine_by_value some_pair some_range without is_kept cell_entry started with_entry narrowed_at refined form_of called restored saved transferred access_of reads_of writes_of address_of callee_at word_of_place words_in reads_undefined touches_reserved branch_way falls fuel_at state_at visits_at weight_to
+unfolding computed
 adding_1_0_lasts = record { edges = (tt, tt); end = λ e start s. let c0 = s 8 (range (pos 0) (pos 254) 0) refl in omega (arith, ints); entry = λ e start s. let c0 = s 8 (range (pos 0) (pos 254) 0) refl in omega (arith, ints); terms = refl }
 
 adding_1_1_quiet : quiet_below (adding (pos 254) (pos 255) 39) 1 0 1 21 ≡ true
-unfolding quiet_below form_value outcome meaning is_admitted operation_of add_term add_terms range_add range_or range_sub range_of row_of both_of common narrowed narrowed_by_value refine refine_by_value some_pair some_range without is_kept cell_entry started with_entry narrowed_at refined form_of called restored saved transferred access_of reads_of writes_of address_of callee_at word_of_place words_in reads_undefined touches_reserved branch_way falls fuel_at state_at visits_at weight_to
+unfolding quiet_below computed
 adding_1_1_quiet = refl
 
 adding_1_1_lasts : Lasts (adding (pos 254) (pos 255) 39) 1 0 1
-unfolding form_value outcome meaning is_admitted operation_of add_term add_terms range_add range_or range_sub range_of row_of both_of common narrowed narrowed_by_value refine refine_by_value some_pair some_range without is_kept cell_entry started with_entry narrowed_at refined form_of called restored saved transferred access_of reads_of writes_of address_of callee_at word_of_place words_in reads_undefined touches_reserved branch_way falls fuel_at state_at visits_at weight_to
+unfolding computed
 adding_1_1_lasts = record { edges = (tt, tt); end = λ e start s. let c0 = s 8 (range (pos 0) (pos 254) 0) refl in omega (arith, ints); entry = λ e start s. let c0 = s 8 (range (pos 0) (pos 254) 0) refl in omega (arith, ints); terms = refl }
 
 adding_none : (f b i : ℕ) → IsPlace (adding (pos 254) (pos 255) 39) f b i → (cause : Cause) → Holds (adding (pos 254) (pos 255) 39) f b i cause → ⊥
@@ -266,55 +252,55 @@ adding_is_checked = all_checked (adding (pos 254) (pos 255) 39) adding_none
 -- ---- refusals
 
 short_of_fuel_0_0_quiet : quiet_below (adding (pos 254) (pos 255) 38) 0 0 0 21 ≡ true
-unfolding quiet_below form_value outcome meaning is_admitted operation_of add_term add_terms range_add range_or range_sub range_of row_of both_of common narrowed narrowed_by_value refine refine_by_value some_pair some_range without is_kept cell_entry started with_entry narrowed_at refined form_of called restored saved transferred access_of reads_of writes_of address_of callee_at word_of_place words_in reads_undefined touches_reserved branch_way falls fuel_at state_at visits_at weight_to
+unfolding quiet_below computed
 short_of_fuel_0_0_quiet = refl
 
 short_of_fuel_0_0_lasts : Lasts (adding (pos 254) (pos 255) 38) 0 0 0
-unfolding form_value outcome meaning is_admitted operation_of add_term add_terms range_add range_or range_sub range_of row_of both_of common narrowed narrowed_by_value refine refine_by_value some_pair some_range without is_kept cell_entry started with_entry narrowed_at refined form_of called restored saved transferred access_of reads_of writes_of address_of callee_at word_of_place words_in reads_undefined touches_reserved branch_way falls fuel_at state_at visits_at weight_to
+unfolding computed
 short_of_fuel_0_0_lasts = record { edges = (tt, tt); end = λ e start s. omega (arith, ints); entry = λ e start s. omega (arith, ints); terms = refl }
 
 short_of_fuel_0_1_quiet : quiet_below (adding (pos 254) (pos 255) 38) 0 0 1 21 ≡ true
-unfolding quiet_below form_value outcome meaning is_admitted operation_of add_term add_terms range_add range_or range_sub range_of row_of both_of common narrowed narrowed_by_value refine refine_by_value some_pair some_range without is_kept cell_entry started with_entry narrowed_at refined form_of called restored saved transferred access_of reads_of writes_of address_of callee_at word_of_place words_in reads_undefined touches_reserved branch_way falls fuel_at state_at visits_at weight_to
+unfolding quiet_below computed
 short_of_fuel_0_1_quiet = refl
 
 short_of_fuel_0_1_lasts : Lasts (adding (pos 254) (pos 255) 38) 0 0 1
-unfolding form_value outcome meaning is_admitted operation_of add_term add_terms range_add range_or range_sub range_of row_of both_of common narrowed narrowed_by_value refine refine_by_value some_pair some_range without is_kept cell_entry started with_entry narrowed_at refined form_of called restored saved transferred access_of reads_of writes_of address_of callee_at word_of_place words_in reads_undefined touches_reserved branch_way falls fuel_at state_at visits_at weight_to
+unfolding computed
 short_of_fuel_0_1_lasts = record { edges = (tt, tt); end = λ e start s. omega (arith, ints); entry = λ e start s. omega (arith, ints); terms = refl }
 
 short_of_fuel_0_2_quiet : quiet_below (adding (pos 254) (pos 255) 38) 0 0 2 21 ≡ true
-unfolding quiet_below form_value outcome meaning is_admitted operation_of add_term add_terms range_add range_or range_sub range_of row_of both_of common narrowed narrowed_by_value refine refine_by_value some_pair some_range without is_kept cell_entry started with_entry narrowed_at refined form_of called restored saved transferred access_of reads_of writes_of address_of callee_at word_of_place words_in reads_undefined touches_reserved branch_way falls fuel_at state_at visits_at weight_to
+unfolding quiet_below computed
 short_of_fuel_0_2_quiet = refl
 
 short_of_fuel_0_2_lasts : Lasts (adding (pos 254) (pos 255) 38) 0 0 2
-unfolding form_value outcome meaning is_admitted operation_of add_term add_terms range_add range_or range_sub range_of row_of both_of common narrowed narrowed_by_value refine refine_by_value some_pair some_range without is_kept cell_entry started with_entry narrowed_at refined form_of called restored saved transferred access_of reads_of writes_of address_of callee_at word_of_place words_in reads_undefined touches_reserved branch_way falls fuel_at state_at visits_at weight_to
+unfolding computed
 short_of_fuel_0_2_lasts = record { edges = (tt, tt); end = λ e start s. omega (arith, ints); entry = λ e start s. omega (arith, ints); terms = refl }
 
 short_of_fuel_0_3_quiet : quiet_below (adding (pos 254) (pos 255) 38) 0 0 3 21 ≡ true
-unfolding quiet_below form_value outcome meaning is_admitted operation_of add_term add_terms range_add range_or range_sub range_of row_of both_of common narrowed narrowed_by_value refine refine_by_value some_pair some_range without is_kept cell_entry started with_entry narrowed_at refined form_of called restored saved transferred access_of reads_of writes_of address_of callee_at word_of_place words_in reads_undefined touches_reserved branch_way falls fuel_at state_at visits_at weight_to
+unfolding quiet_below computed
 short_of_fuel_0_3_quiet = refl
 
 short_of_fuel_0_3_lasts : Lasts (adding (pos 254) (pos 255) 38) 0 0 3
-unfolding form_value outcome meaning is_admitted operation_of add_term add_terms range_add range_or range_sub range_of row_of both_of common narrowed narrowed_by_value refine refine_by_value some_pair some_range without is_kept cell_entry started with_entry narrowed_at refined form_of called restored saved transferred access_of reads_of writes_of address_of callee_at word_of_place words_in reads_undefined touches_reserved branch_way falls fuel_at state_at visits_at weight_to
+unfolding computed
 short_of_fuel_0_3_lasts = record { edges = (tt, tt); end = λ e start s. omega (arith, ints); entry = λ e start s. omega (arith, ints); terms = refl }
 
 short_of_fuel_0_4_quiet : quiet_below (adding (pos 254) (pos 255) 38) 0 0 4 21 ≡ true
-unfolding quiet_below form_value outcome meaning is_admitted operation_of add_term add_terms range_add range_or range_sub range_of row_of both_of common narrowed narrowed_by_value refine refine_by_value some_pair some_range without is_kept cell_entry started with_entry narrowed_at refined form_of called restored saved transferred access_of reads_of writes_of address_of callee_at word_of_place words_in reads_undefined touches_reserved branch_way falls fuel_at state_at visits_at weight_to
+unfolding quiet_below computed
 short_of_fuel_0_4_quiet = refl
 
 short_of_fuel_0_4_lasts : Lasts (adding (pos 254) (pos 255) 38) 0 0 4
-unfolding form_value outcome meaning is_admitted operation_of add_term add_terms range_add range_or range_sub range_of row_of both_of common narrowed narrowed_by_value refine refine_by_value some_pair some_range without is_kept cell_entry started with_entry narrowed_at refined form_of called restored saved transferred access_of reads_of writes_of address_of callee_at word_of_place words_in reads_undefined touches_reserved branch_way falls fuel_at state_at visits_at weight_to
+unfolding computed
 short_of_fuel_0_4_lasts = record { edges = (tt, tt); end = λ e start s. omega (arith, ints); entry = λ e start s. omega (arith, ints); terms = refl }
 
 short_of_fuel_0_5_quiet : quiet_below (adding (pos 254) (pos 255) 38) 0 0 5 21 ≡ true
-unfolding quiet_below form_value outcome meaning is_admitted operation_of add_term add_terms range_add range_or range_sub range_of row_of both_of common narrowed narrowed_by_value refine refine_by_value some_pair some_range without is_kept cell_entry started with_entry narrowed_at refined form_of called restored saved transferred access_of reads_of writes_of address_of callee_at word_of_place words_in reads_undefined touches_reserved branch_way falls fuel_at state_at visits_at weight_to
+unfolding quiet_below computed
 short_of_fuel_0_5_quiet = refl
 
 short_of_fuel_0_5_lasts : Lasts (adding (pos 254) (pos 255) 38) 0 0 5
-unfolding form_value outcome meaning is_admitted operation_of add_term add_terms range_add range_or range_sub range_of row_of both_of common narrowed narrowed_by_value refine refine_by_value some_pair some_range without is_kept cell_entry started with_entry narrowed_at refined form_of called restored saved transferred access_of reads_of writes_of address_of callee_at word_of_place words_in reads_undefined touches_reserved branch_way falls fuel_at state_at visits_at weight_to
+unfolding computed
 short_of_fuel_0_5_lasts = record { edges = (tt, tt); end = λ e start s. omega (arith, ints); entry = λ e start s. omega (arith, ints); terms = refl }
 
 short_of_fuel_0_6_quiet : quiet_below (adding (pos 254) (pos 255) 38) 0 0 6 14 ≡ true
-unfolding quiet_below form_value outcome meaning is_admitted operation_of add_term add_terms range_add range_or range_sub range_of row_of both_of common narrowed narrowed_by_value refine refine_by_value some_pair some_range without is_kept cell_entry started with_entry narrowed_at refined form_of called restored saved transferred access_of reads_of writes_of address_of callee_at word_of_place words_in reads_undefined touches_reserved branch_way falls fuel_at state_at visits_at weight_to
+unfolding quiet_below computed
 short_of_fuel_0_6_quiet = refl
 
 short_of_fuel_before : (f b i : ℕ) → IsPlace (adding (pos 254) (pos 255) 38) f b i → address_of (adding (pos 254) (pos 255) 38) f b i < 0x40018 → (cause : Cause) → Holds (adding (pos 254) (pos 255) 38) f b i cause → ⊥
@@ -352,7 +338,7 @@ short_of_fuel_here (suc zero) (suc b) i p at cause fewer h = let q = p.block in 
 short_of_fuel_here (suc (suc f)) b i p at cause fewer h = let q = p.function in omega arith
 
 short_of_fuel_holds : Holds (adding (pos 254) (pos 255) 38) 0 0 6 OutOfFuel
-unfolding form_value outcome meaning is_admitted operation_of add_term add_terms range_add range_or range_sub range_of row_of both_of common narrowed narrowed_by_value refine refine_by_value some_pair some_range without is_kept cell_entry started with_entry narrowed_at refined form_of called restored saved transferred access_of reads_of writes_of address_of callee_at word_of_place words_in reads_undefined touches_reserved branch_way falls fuel_at state_at visits_at weight_to
+unfolding computed
 short_of_fuel_holds = inr (inl (refl, λ enough. let c : pos 39 ≤ℤ pos 38 = enough (λ _. pos 0) (λ l r e. absurd (nothing_begun l r e)) in omega (arith, ints)))
 
 pub short_of_fuel : IsFirst (adding (pos 254) (pos 255) 38) (refusal 0 0x40018 OutOfFuel)
@@ -360,31 +346,31 @@ unfolding words_in address_of
 short_of_fuel = told_first (adding (pos 254) (pos 255) 38) (refusal 0 0x40018 OutOfFuel) 0 6 (record { function = omega arith; block = omega arith; word = omega arith }) refl short_of_fuel_holds short_of_fuel_before short_of_fuel_here
 
 param_unkept_0_0_quiet : quiet_below (adding (pos 31) (pos 255) 39) 0 0 0 21 ≡ true
-unfolding quiet_below form_value outcome meaning is_admitted operation_of add_term add_terms range_add range_or range_sub range_of row_of both_of common narrowed narrowed_by_value refine refine_by_value some_pair some_range without is_kept cell_entry started with_entry narrowed_at refined form_of called restored saved transferred access_of reads_of writes_of address_of callee_at word_of_place words_in reads_undefined touches_reserved branch_way falls fuel_at state_at visits_at weight_to
+unfolding quiet_below computed
 param_unkept_0_0_quiet = refl
 
 param_unkept_0_0_lasts : Lasts (adding (pos 31) (pos 255) 39) 0 0 0
-unfolding form_value outcome meaning is_admitted operation_of add_term add_terms range_add range_or range_sub range_of row_of both_of common narrowed narrowed_by_value refine refine_by_value some_pair some_range without is_kept cell_entry started with_entry narrowed_at refined form_of called restored saved transferred access_of reads_of writes_of address_of callee_at word_of_place words_in reads_undefined touches_reserved branch_way falls fuel_at state_at visits_at weight_to
+unfolding computed
 param_unkept_0_0_lasts = record { edges = (tt, tt); end = λ e start s. omega (arith, ints); entry = λ e start s. omega (arith, ints); terms = refl }
 
 param_unkept_0_1_quiet : quiet_below (adding (pos 31) (pos 255) 39) 0 0 1 21 ≡ true
-unfolding quiet_below form_value outcome meaning is_admitted operation_of add_term add_terms range_add range_or range_sub range_of row_of both_of common narrowed narrowed_by_value refine refine_by_value some_pair some_range without is_kept cell_entry started with_entry narrowed_at refined form_of called restored saved transferred access_of reads_of writes_of address_of callee_at word_of_place words_in reads_undefined touches_reserved branch_way falls fuel_at state_at visits_at weight_to
+unfolding quiet_below computed
 param_unkept_0_1_quiet = refl
 
 param_unkept_0_1_lasts : Lasts (adding (pos 31) (pos 255) 39) 0 0 1
-unfolding form_value outcome meaning is_admitted operation_of add_term add_terms range_add range_or range_sub range_of row_of both_of common narrowed narrowed_by_value refine refine_by_value some_pair some_range without is_kept cell_entry started with_entry narrowed_at refined form_of called restored saved transferred access_of reads_of writes_of address_of callee_at word_of_place words_in reads_undefined touches_reserved branch_way falls fuel_at state_at visits_at weight_to
+unfolding computed
 param_unkept_0_1_lasts = record { edges = (tt, tt); end = λ e start s. omega (arith, ints); entry = λ e start s. omega (arith, ints); terms = refl }
 
 param_unkept_0_2_quiet : quiet_below (adding (pos 31) (pos 255) 39) 0 0 2 21 ≡ true
-unfolding quiet_below form_value outcome meaning is_admitted operation_of add_term add_terms range_add range_or range_sub range_of row_of both_of common narrowed narrowed_by_value refine refine_by_value some_pair some_range without is_kept cell_entry started with_entry narrowed_at refined form_of called restored saved transferred access_of reads_of writes_of address_of callee_at word_of_place words_in reads_undefined touches_reserved branch_way falls fuel_at state_at visits_at weight_to
+unfolding quiet_below computed
 param_unkept_0_2_quiet = refl
 
 param_unkept_0_2_lasts : Lasts (adding (pos 31) (pos 255) 39) 0 0 2
-unfolding form_value outcome meaning is_admitted operation_of add_term add_terms range_add range_or range_sub range_of row_of both_of common narrowed narrowed_by_value refine refine_by_value some_pair some_range without is_kept cell_entry started with_entry narrowed_at refined form_of called restored saved transferred access_of reads_of writes_of address_of callee_at word_of_place words_in reads_undefined touches_reserved branch_way falls fuel_at state_at visits_at weight_to
+unfolding computed
 param_unkept_0_2_lasts = record { edges = (tt, tt); end = λ e start s. omega (arith, ints); entry = λ e start s. omega (arith, ints); terms = refl }
 
 param_unkept_0_3_quiet : quiet_below (adding (pos 31) (pos 255) 39) 0 0 3 13 ≡ true
-unfolding quiet_below form_value outcome meaning is_admitted operation_of add_term add_terms range_add range_or range_sub range_of row_of both_of common narrowed narrowed_by_value refine refine_by_value some_pair some_range without is_kept cell_entry started with_entry narrowed_at refined form_of called restored saved transferred access_of reads_of writes_of address_of callee_at word_of_place words_in reads_undefined touches_reserved branch_way falls fuel_at state_at visits_at weight_to
+unfolding quiet_below computed
 param_unkept_0_3_quiet = refl
 
 param_unkept_before : (f b i : ℕ) → IsPlace (adding (pos 31) (pos 255) 39) f b i → address_of (adding (pos 31) (pos 255) 39) f b i < 0x4000C → (cause : Cause) → Holds (adding (pos 31) (pos 255) 39) f b i cause → ⊥
@@ -422,7 +408,7 @@ param_unkept_here (suc zero) (suc b) i p at cause fewer h = let q = p.block in o
 param_unkept_here (suc (suc f)) b i p at cause fewer h = let q = p.function in omega arith
 
 param_unkept_holds : Holds (adding (pos 31) (pos 255) 39) 0 0 3 UnkeptCells
-unfolding form_value outcome meaning is_admitted operation_of add_term add_terms range_add range_or range_sub range_of row_of both_of common narrowed narrowed_by_value refine refine_by_value some_pair some_range without is_kept cell_entry started with_entry narrowed_at refined form_of called restored saved transferred access_of reads_of writes_of address_of callee_at word_of_place words_in reads_undefined touches_reserved branch_way falls fuel_at state_at visits_at weight_to
+unfolding computed
 param_unkept_holds = inr (inl refl)
 
 pub param_unkept : IsFirst (adding (pos 31) (pos 255) 39) (refusal 0 0x4000C UnkeptCells)
@@ -430,75 +416,75 @@ unfolding words_in address_of
 param_unkept = told_first (adding (pos 31) (pos 255) 39) (refusal 0 0x4000C UnkeptCells) 0 3 (record { function = omega arith; block = omega arith; word = omega arith }) refl param_unkept_holds param_unkept_before param_unkept_here
 
 result_unkept_0_0_quiet : quiet_below (adding (pos 254) (pos 254) 39) 0 0 0 21 ≡ true
-unfolding quiet_below form_value outcome meaning is_admitted operation_of add_term add_terms range_add range_or range_sub range_of row_of both_of common narrowed narrowed_by_value refine refine_by_value some_pair some_range without is_kept cell_entry started with_entry narrowed_at refined form_of called restored saved transferred access_of reads_of writes_of address_of callee_at word_of_place words_in reads_undefined touches_reserved branch_way falls fuel_at state_at visits_at weight_to
+unfolding quiet_below computed
 result_unkept_0_0_quiet = refl
 
 result_unkept_0_0_lasts : Lasts (adding (pos 254) (pos 254) 39) 0 0 0
-unfolding form_value outcome meaning is_admitted operation_of add_term add_terms range_add range_or range_sub range_of row_of both_of common narrowed narrowed_by_value refine refine_by_value some_pair some_range without is_kept cell_entry started with_entry narrowed_at refined form_of called restored saved transferred access_of reads_of writes_of address_of callee_at word_of_place words_in reads_undefined touches_reserved branch_way falls fuel_at state_at visits_at weight_to
+unfolding computed
 result_unkept_0_0_lasts = record { edges = (tt, tt); end = λ e start s. omega (arith, ints); entry = λ e start s. omega (arith, ints); terms = refl }
 
 result_unkept_0_1_quiet : quiet_below (adding (pos 254) (pos 254) 39) 0 0 1 21 ≡ true
-unfolding quiet_below form_value outcome meaning is_admitted operation_of add_term add_terms range_add range_or range_sub range_of row_of both_of common narrowed narrowed_by_value refine refine_by_value some_pair some_range without is_kept cell_entry started with_entry narrowed_at refined form_of called restored saved transferred access_of reads_of writes_of address_of callee_at word_of_place words_in reads_undefined touches_reserved branch_way falls fuel_at state_at visits_at weight_to
+unfolding quiet_below computed
 result_unkept_0_1_quiet = refl
 
 result_unkept_0_1_lasts : Lasts (adding (pos 254) (pos 254) 39) 0 0 1
-unfolding form_value outcome meaning is_admitted operation_of add_term add_terms range_add range_or range_sub range_of row_of both_of common narrowed narrowed_by_value refine refine_by_value some_pair some_range without is_kept cell_entry started with_entry narrowed_at refined form_of called restored saved transferred access_of reads_of writes_of address_of callee_at word_of_place words_in reads_undefined touches_reserved branch_way falls fuel_at state_at visits_at weight_to
+unfolding computed
 result_unkept_0_1_lasts = record { edges = (tt, tt); end = λ e start s. omega (arith, ints); entry = λ e start s. omega (arith, ints); terms = refl }
 
 result_unkept_0_2_quiet : quiet_below (adding (pos 254) (pos 254) 39) 0 0 2 21 ≡ true
-unfolding quiet_below form_value outcome meaning is_admitted operation_of add_term add_terms range_add range_or range_sub range_of row_of both_of common narrowed narrowed_by_value refine refine_by_value some_pair some_range without is_kept cell_entry started with_entry narrowed_at refined form_of called restored saved transferred access_of reads_of writes_of address_of callee_at word_of_place words_in reads_undefined touches_reserved branch_way falls fuel_at state_at visits_at weight_to
+unfolding quiet_below computed
 result_unkept_0_2_quiet = refl
 
 result_unkept_0_2_lasts : Lasts (adding (pos 254) (pos 254) 39) 0 0 2
-unfolding form_value outcome meaning is_admitted operation_of add_term add_terms range_add range_or range_sub range_of row_of both_of common narrowed narrowed_by_value refine refine_by_value some_pair some_range without is_kept cell_entry started with_entry narrowed_at refined form_of called restored saved transferred access_of reads_of writes_of address_of callee_at word_of_place words_in reads_undefined touches_reserved branch_way falls fuel_at state_at visits_at weight_to
+unfolding computed
 result_unkept_0_2_lasts = record { edges = (tt, tt); end = λ e start s. omega (arith, ints); entry = λ e start s. omega (arith, ints); terms = refl }
 
 result_unkept_0_3_quiet : quiet_below (adding (pos 254) (pos 254) 39) 0 0 3 21 ≡ true
-unfolding quiet_below form_value outcome meaning is_admitted operation_of add_term add_terms range_add range_or range_sub range_of row_of both_of common narrowed narrowed_by_value refine refine_by_value some_pair some_range without is_kept cell_entry started with_entry narrowed_at refined form_of called restored saved transferred access_of reads_of writes_of address_of callee_at word_of_place words_in reads_undefined touches_reserved branch_way falls fuel_at state_at visits_at weight_to
+unfolding quiet_below computed
 result_unkept_0_3_quiet = refl
 
 result_unkept_0_3_lasts : Lasts (adding (pos 254) (pos 254) 39) 0 0 3
-unfolding form_value outcome meaning is_admitted operation_of add_term add_terms range_add range_or range_sub range_of row_of both_of common narrowed narrowed_by_value refine refine_by_value some_pair some_range without is_kept cell_entry started with_entry narrowed_at refined form_of called restored saved transferred access_of reads_of writes_of address_of callee_at word_of_place words_in reads_undefined touches_reserved branch_way falls fuel_at state_at visits_at weight_to
+unfolding computed
 result_unkept_0_3_lasts = record { edges = (tt, tt); end = λ e start s. omega (arith, ints); entry = λ e start s. omega (arith, ints); terms = refl }
 
 result_unkept_0_4_quiet : quiet_below (adding (pos 254) (pos 254) 39) 0 0 4 21 ≡ true
-unfolding quiet_below form_value outcome meaning is_admitted operation_of add_term add_terms range_add range_or range_sub range_of row_of both_of common narrowed narrowed_by_value refine refine_by_value some_pair some_range without is_kept cell_entry started with_entry narrowed_at refined form_of called restored saved transferred access_of reads_of writes_of address_of callee_at word_of_place words_in reads_undefined touches_reserved branch_way falls fuel_at state_at visits_at weight_to
+unfolding quiet_below computed
 result_unkept_0_4_quiet = refl
 
 result_unkept_0_4_lasts : Lasts (adding (pos 254) (pos 254) 39) 0 0 4
-unfolding form_value outcome meaning is_admitted operation_of add_term add_terms range_add range_or range_sub range_of row_of both_of common narrowed narrowed_by_value refine refine_by_value some_pair some_range without is_kept cell_entry started with_entry narrowed_at refined form_of called restored saved transferred access_of reads_of writes_of address_of callee_at word_of_place words_in reads_undefined touches_reserved branch_way falls fuel_at state_at visits_at weight_to
+unfolding computed
 result_unkept_0_4_lasts = record { edges = (tt, tt); end = λ e start s. omega (arith, ints); entry = λ e start s. omega (arith, ints); terms = refl }
 
 result_unkept_0_5_quiet : quiet_below (adding (pos 254) (pos 254) 39) 0 0 5 21 ≡ true
-unfolding quiet_below form_value outcome meaning is_admitted operation_of add_term add_terms range_add range_or range_sub range_of row_of both_of common narrowed narrowed_by_value refine refine_by_value some_pair some_range without is_kept cell_entry started with_entry narrowed_at refined form_of called restored saved transferred access_of reads_of writes_of address_of callee_at word_of_place words_in reads_undefined touches_reserved branch_way falls fuel_at state_at visits_at weight_to
+unfolding quiet_below computed
 result_unkept_0_5_quiet = refl
 
 result_unkept_0_5_lasts : Lasts (adding (pos 254) (pos 254) 39) 0 0 5
-unfolding form_value outcome meaning is_admitted operation_of add_term add_terms range_add range_or range_sub range_of row_of both_of common narrowed narrowed_by_value refine refine_by_value some_pair some_range without is_kept cell_entry started with_entry narrowed_at refined form_of called restored saved transferred access_of reads_of writes_of address_of callee_at word_of_place words_in reads_undefined touches_reserved branch_way falls fuel_at state_at visits_at weight_to
+unfolding computed
 result_unkept_0_5_lasts = record { edges = (tt, tt); end = λ e start s. omega (arith, ints); entry = λ e start s. omega (arith, ints); terms = refl }
 
 result_unkept_0_6_quiet : quiet_below (adding (pos 254) (pos 254) 39) 0 0 6 21 ≡ true
-unfolding quiet_below form_value outcome meaning is_admitted operation_of add_term add_terms range_add range_or range_sub range_of row_of both_of common narrowed narrowed_by_value refine refine_by_value some_pair some_range without is_kept cell_entry started with_entry narrowed_at refined form_of called restored saved transferred access_of reads_of writes_of address_of callee_at word_of_place words_in reads_undefined touches_reserved branch_way falls fuel_at state_at visits_at weight_to
+unfolding quiet_below computed
 result_unkept_0_6_quiet = refl
 
 result_unkept_0_6_lasts : Lasts (adding (pos 254) (pos 254) 39) 0 0 6
-unfolding form_value outcome meaning is_admitted operation_of add_term add_terms range_add range_or range_sub range_of row_of both_of common narrowed narrowed_by_value refine refine_by_value some_pair some_range without is_kept cell_entry started with_entry narrowed_at refined form_of called restored saved transferred access_of reads_of writes_of address_of callee_at word_of_place words_in reads_undefined touches_reserved branch_way falls fuel_at state_at visits_at weight_to
+unfolding computed
 result_unkept_0_6_lasts = record { edges = (tt, tt); end = λ e start s. omega (arith, ints); entry = λ e start s. omega (arith, ints); terms = refl }
 
 result_unkept_1_0_quiet : quiet_below (adding (pos 254) (pos 254) 39) 1 0 0 21 ≡ true
-unfolding quiet_below form_value outcome meaning is_admitted operation_of add_term add_terms range_add range_or range_sub range_of row_of both_of common narrowed narrowed_by_value refine refine_by_value some_pair some_range without is_kept cell_entry started with_entry narrowed_at refined form_of called restored saved transferred access_of reads_of writes_of address_of callee_at word_of_place words_in reads_undefined touches_reserved branch_way falls fuel_at state_at visits_at weight_to
+unfolding quiet_below computed
 result_unkept_1_0_quiet = refl
 
 result_unkept_1_0_lasts : Lasts (adding (pos 254) (pos 254) 39) 1 0 0
-unfolding form_value outcome meaning is_admitted operation_of add_term add_terms range_add range_or range_sub range_of row_of both_of common narrowed narrowed_by_value refine refine_by_value some_pair some_range without is_kept cell_entry started with_entry narrowed_at refined form_of called restored saved transferred access_of reads_of writes_of address_of callee_at word_of_place words_in reads_undefined touches_reserved branch_way falls fuel_at state_at visits_at weight_to
+unfolding computed
 result_unkept_1_0_lasts = record { edges = (tt, tt); end = λ e start s. let c0 = s 8 (range (pos 0) (pos 254) 0) refl in omega (arith, ints); entry = λ e start s. let c0 = s 8 (range (pos 0) (pos 254) 0) refl in omega (arith, ints); terms = refl }
 
 result_unkept_1_1_quiet : quiet_below (adding (pos 254) (pos 254) 39) 1 0 1 17 ≡ true
-unfolding quiet_below form_value outcome meaning is_admitted operation_of add_term add_terms range_add range_or range_sub range_of row_of both_of common narrowed narrowed_by_value refine refine_by_value some_pair some_range without is_kept cell_entry started with_entry narrowed_at refined form_of called restored saved transferred access_of reads_of writes_of address_of callee_at word_of_place words_in reads_undefined touches_reserved branch_way falls fuel_at state_at visits_at weight_to
+unfolding quiet_below computed
 result_unkept_1_1_quiet = refl
 
 result_unkept_1_1_lasts : Lasts (adding (pos 254) (pos 254) 39) 1 0 1
-unfolding form_value outcome meaning is_admitted operation_of add_term add_terms range_add range_or range_sub range_of row_of both_of common narrowed narrowed_by_value refine refine_by_value some_pair some_range without is_kept cell_entry started with_entry narrowed_at refined form_of called restored saved transferred access_of reads_of writes_of address_of callee_at word_of_place words_in reads_undefined touches_reserved branch_way falls fuel_at state_at visits_at weight_to
+unfolding computed
 result_unkept_1_1_lasts = record { edges = (tt, tt); end = λ e start s. let c0 = s 8 (range (pos 0) (pos 254) 0) refl in omega (arith, ints); entry = λ e start s. let c0 = s 8 (range (pos 0) (pos 254) 0) refl in omega (arith, ints); terms = refl }
 
 result_unkept_before : (f b i : ℕ) → IsPlace (adding (pos 254) (pos 254) 39) f b i → address_of (adding (pos 254) (pos 254) 39) f b i < 0x40020 → (cause : Cause) → Holds (adding (pos 254) (pos 254) 39) f b i cause → ⊥
@@ -536,7 +522,7 @@ result_unkept_here (suc zero) (suc b) i p at cause fewer h = let q = p.block in 
 result_unkept_here (suc (suc f)) b i p at cause fewer h = let q = p.function in omega arith
 
 result_unkept_holds : Holds (adding (pos 254) (pos 254) 39) 1 0 1 UnkeptResults
-unfolding form_value outcome meaning is_admitted operation_of add_term add_terms range_add range_or range_sub range_of row_of both_of common narrowed narrowed_by_value refine refine_by_value some_pair some_range without is_kept cell_entry started with_entry narrowed_at refined form_of called restored saved transferred access_of reads_of writes_of address_of callee_at word_of_place words_in reads_undefined touches_reserved branch_way falls fuel_at state_at visits_at weight_to
+unfolding computed
 result_unkept_holds = refl
 
 pub result_unkept : IsFirst (adding (pos 254) (pos 254) 39) (refusal 1 0x40020 UnkeptResults)
@@ -544,7 +530,7 @@ unfolding words_in address_of
 result_unkept = told_first (adding (pos 254) (pos 254) 39) (refusal 1 0x40020 UnkeptResults) 0 1 (record { function = omega arith; block = omega arith; word = omega arith }) refl result_unkept_holds result_unkept_before result_unkept_here
 
 stack_pointer_0_0_quiet : quiet_below stray_stack 0 0 0 7 ≡ true
-unfolding quiet_below form_value outcome meaning is_admitted operation_of add_term add_terms range_add range_or range_sub range_of row_of both_of common narrowed narrowed_by_value refine refine_by_value some_pair some_range without is_kept cell_entry started with_entry narrowed_at refined form_of called restored saved transferred access_of reads_of writes_of address_of callee_at word_of_place words_in reads_undefined touches_reserved branch_way falls fuel_at state_at visits_at weight_to
+unfolding quiet_below computed
 stack_pointer_0_0_quiet = refl
 
 stack_pointer_before : (f b i : ℕ) → IsPlace stray_stack f b i → address_of stray_stack f b i < 0x40000 → (cause : Cause) → Holds stray_stack f b i cause → ⊥
@@ -566,7 +552,7 @@ stack_pointer_here zero (suc b) i p at cause fewer h = let q = p.block in omega 
 stack_pointer_here (suc f) b i p at cause fewer h = let q = p.function in omega arith
 
 stack_pointer_holds : Holds stray_stack 0 0 0 ReservedRegister
-unfolding form_value outcome meaning is_admitted operation_of add_term add_terms range_add range_or range_sub range_of row_of both_of common narrowed narrowed_by_value refine refine_by_value some_pair some_range without is_kept cell_entry started with_entry narrowed_at refined form_of called restored saved transferred access_of reads_of writes_of address_of callee_at word_of_place words_in reads_undefined touches_reserved branch_way falls fuel_at state_at visits_at weight_to
+unfolding computed
 stack_pointer_holds = refl
 
 pub stack_pointer : IsFirst stray_stack (refusal 0 0x40000 ReservedRegister)
@@ -574,15 +560,15 @@ unfolding words_in address_of
 stack_pointer = told_first stray_stack (refusal 0 0x40000 ReservedRegister) 0 0 (record { function = omega arith; block = omega arith; word = omega arith }) refl stack_pointer_holds stack_pointer_before stack_pointer_here
 
 fresh_word_0_0_quiet : quiet_below (after_save 0xD003A040 0x01000000 96 no_others) 0 0 0 21 ≡ true
-unfolding quiet_below form_value outcome meaning is_admitted operation_of add_term add_terms range_add range_or range_sub range_of row_of both_of common narrowed narrowed_by_value refine refine_by_value some_pair some_range without is_kept cell_entry started with_entry narrowed_at refined form_of called restored saved transferred access_of reads_of writes_of address_of callee_at word_of_place words_in reads_undefined touches_reserved branch_way falls fuel_at state_at visits_at weight_to
+unfolding quiet_below computed
 fresh_word_0_0_quiet = refl
 
 fresh_word_0_0_lasts : Lasts (after_save 0xD003A040 0x01000000 96 no_others) 0 0 0
-unfolding form_value outcome meaning is_admitted operation_of add_term add_terms range_add range_or range_sub range_of row_of both_of common narrowed narrowed_by_value refine refine_by_value some_pair some_range without is_kept cell_entry started with_entry narrowed_at refined form_of called restored saved transferred access_of reads_of writes_of address_of callee_at word_of_place words_in reads_undefined touches_reserved branch_way falls fuel_at state_at visits_at weight_to
+unfolding computed
 fresh_word_0_0_lasts = record { edges = (tt, tt); end = λ e start s. omega (arith, ints); entry = λ e start s. omega (arith, ints); terms = refl }
 
 fresh_word_0_1_quiet : quiet_below (after_save 0xD003A040 0x01000000 96 no_others) 0 0 1 6 ≡ true
-unfolding quiet_below form_value outcome meaning is_admitted operation_of add_term add_terms range_add range_or range_sub range_of row_of both_of common narrowed narrowed_by_value refine refine_by_value some_pair some_range without is_kept cell_entry started with_entry narrowed_at refined form_of called restored saved transferred access_of reads_of writes_of address_of callee_at word_of_place words_in reads_undefined touches_reserved branch_way falls fuel_at state_at visits_at weight_to
+unfolding quiet_below computed
 fresh_word_0_1_quiet = refl
 
 fresh_word_before : (f b i : ℕ) → IsPlace (after_save 0xD003A040 0x01000000 96 no_others) f b i → address_of (after_save 0xD003A040 0x01000000 96 no_others) f b i < 0x40004 → (cause : Cause) → Holds (after_save 0xD003A040 0x01000000 96 no_others) f b i cause → ⊥
@@ -606,7 +592,7 @@ fresh_word_here zero (suc b) i p at cause fewer h = let q = p.block in omega ari
 fresh_word_here (suc f) b i p at cause fewer h = let q = p.function in omega arith
 
 fresh_word_holds : Holds (after_save 0xD003A040 0x01000000 96 no_others) 0 0 1 UndefinedRead
-unfolding form_value outcome meaning is_admitted operation_of add_term add_terms range_add range_or range_sub range_of row_of both_of common narrowed narrowed_by_value refine refine_by_value some_pair some_range without is_kept cell_entry started with_entry narrowed_at refined form_of called restored saved transferred access_of reads_of writes_of address_of callee_at word_of_place words_in reads_undefined touches_reserved branch_way falls fuel_at state_at visits_at weight_to
+unfolding computed
 fresh_word_holds = refl
 
 pub fresh_word : IsFirst (after_save 0xD003A040 0x01000000 96 no_others) (refusal 0 0x40004 UndefinedRead)
@@ -614,15 +600,15 @@ unfolding words_in address_of
 fresh_word = told_first (after_save 0xD003A040 0x01000000 96 no_others) (refusal 0 0x40004 UndefinedRead) 0 1 (record { function = omega arith; block = omega arith; word = omega arith }) refl fresh_word_holds fresh_word_before fresh_word_here
 
 call_of_itself_0_0_quiet : quiet_below (after_save 0x7FFFFFFF 0x01000000 96 no_others) 0 0 0 21 ≡ true
-unfolding quiet_below form_value outcome meaning is_admitted operation_of add_term add_terms range_add range_or range_sub range_of row_of both_of common narrowed narrowed_by_value refine refine_by_value some_pair some_range without is_kept cell_entry started with_entry narrowed_at refined form_of called restored saved transferred access_of reads_of writes_of address_of callee_at word_of_place words_in reads_undefined touches_reserved branch_way falls fuel_at state_at visits_at weight_to
+unfolding quiet_below computed
 call_of_itself_0_0_quiet = refl
 
 call_of_itself_0_0_lasts : Lasts (after_save 0x7FFFFFFF 0x01000000 96 no_others) 0 0 0
-unfolding form_value outcome meaning is_admitted operation_of add_term add_terms range_add range_or range_sub range_of row_of both_of common narrowed narrowed_by_value refine refine_by_value some_pair some_range without is_kept cell_entry started with_entry narrowed_at refined form_of called restored saved transferred access_of reads_of writes_of address_of callee_at word_of_place words_in reads_undefined touches_reserved branch_way falls fuel_at state_at visits_at weight_to
+unfolding computed
 call_of_itself_0_0_lasts = record { edges = (tt, tt); end = λ e start s. omega (arith, ints); entry = λ e start s. omega (arith, ints); terms = refl }
 
 call_of_itself_0_1_quiet : quiet_below (after_save 0x7FFFFFFF 0x01000000 96 no_others) 0 0 1 5 ≡ true
-unfolding quiet_below form_value outcome meaning is_admitted operation_of add_term add_terms range_add range_or range_sub range_of row_of both_of common narrowed narrowed_by_value refine refine_by_value some_pair some_range without is_kept cell_entry started with_entry narrowed_at refined form_of called restored saved transferred access_of reads_of writes_of address_of callee_at word_of_place words_in reads_undefined touches_reserved branch_way falls fuel_at state_at visits_at weight_to
+unfolding quiet_below computed
 call_of_itself_0_1_quiet = refl
 
 call_of_itself_before : (f b i : ℕ) → IsPlace (after_save 0x7FFFFFFF 0x01000000 96 no_others) f b i → address_of (after_save 0x7FFFFFFF 0x01000000 96 no_others) f b i < 0x40004 → (cause : Cause) → Holds (after_save 0x7FFFFFFF 0x01000000 96 no_others) f b i cause → ⊥
@@ -646,7 +632,7 @@ call_of_itself_here zero (suc b) i p at cause fewer h = let q = p.block in omega
 call_of_itself_here (suc f) b i p at cause fewer h = let q = p.function in omega arith
 
 call_of_itself_holds : Holds (after_save 0x7FFFFFFF 0x01000000 96 no_others) 0 0 1 BadCall
-unfolding form_value outcome meaning is_admitted operation_of add_term add_terms range_add range_or range_sub range_of row_of both_of common narrowed narrowed_by_value refine refine_by_value some_pair some_range without is_kept cell_entry started with_entry narrowed_at refined form_of called restored saved transferred access_of reads_of writes_of address_of callee_at word_of_place words_in reads_undefined touches_reserved branch_way falls fuel_at state_at visits_at weight_to
+unfolding computed
 call_of_itself_holds = refl
 
 pub call_of_itself : IsFirst (after_save 0x7FFFFFFF 0x01000000 96 no_others) (refusal 0 0x40004 BadCall)
@@ -654,19 +640,19 @@ unfolding words_in address_of
 call_of_itself = told_first (after_save 0x7FFFFFFF 0x01000000 96 no_others) (refusal 0 0x40004 BadCall) 0 1 (record { function = omega arith; block = omega arith; word = omega arith }) refl call_of_itself_holds call_of_itself_before call_of_itself_here
 
 entry_returns_0_0_quiet : quiet_below (after_save 0x81C7E008 0x81E80000 96 no_others) 0 0 0 21 ≡ true
-unfolding quiet_below form_value outcome meaning is_admitted operation_of add_term add_terms range_add range_or range_sub range_of row_of both_of common narrowed narrowed_by_value refine refine_by_value some_pair some_range without is_kept cell_entry started with_entry narrowed_at refined form_of called restored saved transferred access_of reads_of writes_of address_of callee_at word_of_place words_in reads_undefined touches_reserved branch_way falls fuel_at state_at visits_at weight_to
+unfolding quiet_below computed
 entry_returns_0_0_quiet = refl
 
 entry_returns_0_0_lasts : Lasts (after_save 0x81C7E008 0x81E80000 96 no_others) 0 0 0
-unfolding form_value outcome meaning is_admitted operation_of add_term add_terms range_add range_or range_sub range_of row_of both_of common narrowed narrowed_by_value refine refine_by_value some_pair some_range without is_kept cell_entry started with_entry narrowed_at refined form_of called restored saved transferred access_of reads_of writes_of address_of callee_at word_of_place words_in reads_undefined touches_reserved branch_way falls fuel_at state_at visits_at weight_to
+unfolding computed
 entry_returns_0_0_lasts = record { edges = (tt, tt); end = λ e start s. omega (arith, ints); entry = λ e start s. omega (arith, ints); terms = refl }
 
 entry_returns_0_1_quiet : quiet_below (after_save 0x81C7E008 0x81E80000 96 no_others) 0 0 1 18 ≡ true
-unfolding quiet_below form_value outcome meaning is_admitted operation_of add_term add_terms range_add range_or range_sub range_of row_of both_of common narrowed narrowed_by_value refine refine_by_value some_pair some_range without is_kept cell_entry started with_entry narrowed_at refined form_of called restored saved transferred access_of reads_of writes_of address_of callee_at word_of_place words_in reads_undefined touches_reserved branch_way falls fuel_at state_at visits_at weight_to
+unfolding quiet_below computed
 entry_returns_0_1_quiet = refl
 
 entry_returns_0_1_lasts : Lasts (after_save 0x81C7E008 0x81E80000 96 no_others) 0 0 1
-unfolding form_value outcome meaning is_admitted operation_of add_term add_terms range_add range_or range_sub range_of row_of both_of common narrowed narrowed_by_value refine refine_by_value some_pair some_range without is_kept cell_entry started with_entry narrowed_at refined form_of called restored saved transferred access_of reads_of writes_of address_of callee_at word_of_place words_in reads_undefined touches_reserved branch_way falls fuel_at state_at visits_at weight_to
+unfolding computed
 entry_returns_0_1_lasts = record { edges = (tt, tt); end = λ e start s. omega (arith, ints); entry = λ e start s. omega (arith, ints); terms = refl }
 
 entry_returns_before : (f b i : ℕ) → IsPlace (after_save 0x81C7E008 0x81E80000 96 no_others) f b i → address_of (after_save 0x81C7E008 0x81E80000 96 no_others) f b i < 0x40004 → (cause : Cause) → Holds (after_save 0x81C7E008 0x81E80000 96 no_others) f b i cause → ⊥
@@ -690,7 +676,7 @@ entry_returns_here zero (suc b) i p at cause fewer h = let q = p.block in omega 
 entry_returns_here (suc f) b i p at cause fewer h = let q = p.function in omega arith
 
 entry_returns_holds : Holds (after_save 0x81C7E008 0x81E80000 96 no_others) 0 0 1 BadEntry
-unfolding form_value outcome meaning is_admitted operation_of add_term add_terms range_add range_or range_sub range_of row_of both_of common narrowed narrowed_by_value refine refine_by_value some_pair some_range without is_kept cell_entry started with_entry narrowed_at refined form_of called restored saved transferred access_of reads_of writes_of address_of callee_at word_of_place words_in reads_undefined touches_reserved branch_way falls fuel_at state_at visits_at weight_to
+unfolding computed
 entry_returns_holds = refl
 
 pub entry_returns : IsFirst (after_save 0x81C7E008 0x81E80000 96 no_others) (refusal 0 0x40004 BadEntry)
@@ -698,19 +684,19 @@ unfolding words_in address_of
 entry_returns = told_first (after_save 0x81C7E008 0x81E80000 96 no_others) (refusal 0 0x40004 BadEntry) 0 1 (record { function = omega arith; block = omega arith; word = omega arith }) refl entry_returns_holds entry_returns_before entry_returns_here
 
 short_of_stack_0_0_quiet : quiet_below (after_save 0x40000002 0x01000000 188 one_other) 0 0 0 21 ≡ true
-unfolding quiet_below form_value outcome meaning is_admitted operation_of add_term add_terms range_add range_or range_sub range_of row_of both_of common narrowed narrowed_by_value refine refine_by_value some_pair some_range without is_kept cell_entry started with_entry narrowed_at refined form_of called restored saved transferred access_of reads_of writes_of address_of callee_at word_of_place words_in reads_undefined touches_reserved branch_way falls fuel_at state_at visits_at weight_to
+unfolding quiet_below computed
 short_of_stack_0_0_quiet = refl
 
 short_of_stack_0_0_lasts : Lasts (after_save 0x40000002 0x01000000 188 one_other) 0 0 0
-unfolding form_value outcome meaning is_admitted operation_of add_term add_terms range_add range_or range_sub range_of row_of both_of common narrowed narrowed_by_value refine refine_by_value some_pair some_range without is_kept cell_entry started with_entry narrowed_at refined form_of called restored saved transferred access_of reads_of writes_of address_of callee_at word_of_place words_in reads_undefined touches_reserved branch_way falls fuel_at state_at visits_at weight_to
+unfolding computed
 short_of_stack_0_0_lasts = record { edges = (tt, tt); end = λ e start s. omega (arith, ints); entry = λ e start s. omega (arith, ints); terms = refl }
 
 short_of_stack_0_1_quiet : quiet_below (after_save 0x40000002 0x01000000 188 one_other) 0 0 1 15 ≡ true
-unfolding quiet_below form_value outcome meaning is_admitted operation_of add_term add_terms range_add range_or range_sub range_of row_of both_of common narrowed narrowed_by_value refine refine_by_value some_pair some_range without is_kept cell_entry started with_entry narrowed_at refined form_of called restored saved transferred access_of reads_of writes_of address_of callee_at word_of_place words_in reads_undefined touches_reserved branch_way falls fuel_at state_at visits_at weight_to
+unfolding quiet_below computed
 short_of_stack_0_1_quiet = refl
 
 short_of_stack_0_1_lasts : Lasts (after_save 0x40000002 0x01000000 188 one_other) 0 0 1
-unfolding form_value outcome meaning is_admitted operation_of add_term add_terms range_add range_or range_sub range_of row_of both_of common narrowed narrowed_by_value refine refine_by_value some_pair some_range without is_kept cell_entry started with_entry narrowed_at refined form_of called restored saved transferred access_of reads_of writes_of address_of callee_at word_of_place words_in reads_undefined touches_reserved branch_way falls fuel_at state_at visits_at weight_to
+unfolding computed
 short_of_stack_0_1_lasts = record { edges = (tt, tt); end = λ e start s. omega (arith, ints); entry = λ e start s. omega (arith, ints); terms = refl }
 
 short_of_stack_before : (f b i : ℕ) → IsPlace (after_save 0x40000002 0x01000000 188 one_other) f b i → address_of (after_save 0x40000002 0x01000000 188 one_other) f b i < 0x40004 → (cause : Cause) → Holds (after_save 0x40000002 0x01000000 188 one_other) f b i cause → ⊥
@@ -738,7 +724,7 @@ short_of_stack_here (suc zero) (suc b) i p at cause fewer h = let q = p.block in
 short_of_stack_here (suc (suc f)) b i p at cause fewer h = let q = p.function in omega arith
 
 short_of_stack_holds : Holds (after_save 0x40000002 0x01000000 188 one_other) 0 0 1 OutOfStack
-unfolding form_value outcome meaning is_admitted operation_of add_term add_terms range_add range_or range_sub range_of row_of both_of common narrowed narrowed_by_value refine refine_by_value some_pair some_range without is_kept cell_entry started with_entry narrowed_at refined form_of called restored saved transferred access_of reads_of writes_of address_of callee_at word_of_place words_in reads_undefined touches_reserved branch_way falls fuel_at state_at visits_at weight_to
+unfolding computed
 short_of_stack_holds = refl
 
 pub short_of_stack : IsFirst (after_save 0x40000002 0x01000000 188 one_other) (refusal 0 0x40004 OutOfStack)

@@ -1,5 +1,5 @@
 -- Words that break no rule: all rules but that of fuel are tests, and a test computes.
-use Rattle.std.specs.Prelude.{ℕ, zero, suc, ◌≡◌, ◌<◌, ◌≤◌, ◌⊎◌, ◌==◌, ◌&&◌, ◌||◌, not, Bool, true, false, IsTrue, List, [], ◌∷◌, Option, Some, None, slice_get, bit_and, length, nat_lt}
+use Rattle.std.specs.Prelude.{ℕ, zero, suc, ◌≡◌, ◌<◌, ◌≤◌, ◌⊎◌, ◌==◌, ◌&&◌, ◌||◌, not, Bool, true, false, IsTrue, List, [], ◌∷◌, Some, slice_get, bit_and, length, nat_lt}
 use Rattle.std.specs.List.{list_all, list_any}
 use Rattle.std.proofs.Common.{arith, inl, inr, refl, subst}
 use Rattle.std.proofs.lemmas.Bool.Decides.{nat_tests}
@@ -16,7 +16,7 @@ use Rattle.sbx_rules.specs.Operations.{access_of, is_call, is_return}
 use Rattle.sbx_rules.specs.Verdicts.{Checked, IsFirst}
 use Rattle.sbx_image.specs.Order.{address_of, block_at, function_at}
 use Rattle.sbx_rules.specs.Places.{IsPlace, callee_at, op_at, service_asked, word_of_place}
-use Rattle.sbx_rules.specs.Rules.{Holds, LacksFuel, Leaves, branches_badly, ends_here, first, fuel, has_bad_shape, has_outs, is_aligned_access, is_back, is_declared, is_entry, is_later, is_past, is_placed_access, is_undefined, lacks_depth, lacks_room, leaves_to, lists_badly, may_divide_by_zero, may_overflow, misses_cells, misses_params, names_strange, now, reads_undefined, runs_with, touches_reserved, weight}
+use Rattle.sbx_rules.specs.Rules.{Holds, LacksFuel, branches_badly, ends_here, first, fuel, has_bad_shape, has_outs, is_aligned_access, is_back, is_declared, is_entry, is_later, is_past, is_placed_access, is_undefined, lacks_depth, lacks_room, leaves_to, lists_badly, may_divide_by_zero, may_overflow, misses_cells, misses_params, names_strange, now, reads_undefined, runs_with, touches_reserved, weight}
 use Rattle.sbx_rules.specs.Ways.{To, Visit, Way, fuel_at, visits_at}
 
 -- ---- tests

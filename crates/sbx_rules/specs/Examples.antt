@@ -1,5 +1,5 @@
 -- Images whose verdicts are known, worked out by hand.
-use Rattle.std.specs.Prelude.{ℕ, ◌*◌, ◌+◌, ◌≡◌, Bool, true, false, List, [], ◌∷◌, replicate, Some, ℤ, pos, negsuc}
+use Rattle.std.specs.Prelude.{ℕ, ◌≡◌, Bool, true, false, List, [], ◌∷◌, replicate, Some, ℤ, pos, negsuc}
 use Rattle.sbx_image.specs.Block.{Block}
 use Rattle.sbx_image.specs.Cell.{Cell}
 use Rattle.sbx_image.specs.Function.{Function}
